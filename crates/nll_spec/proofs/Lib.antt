@@ -1,7 +1,14 @@
 pub mod Tests
-pub mod Least
 pub mod Lookup
+pub mod Members
+pub mod Least
 pub mod GraphLaws
 pub mod AcceptedLaws
 pub mod TypeLaws
 pub mod WordLaws
+pub mod DecodeLaws
+pub mod Names
+pub mod OutputLaws
+pub mod RegionLaws
+pub mod ScopeLaws
+pub mod MeaningLaws

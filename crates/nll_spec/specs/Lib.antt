@@ -15,3 +15,4 @@ pub mod Output
 pub mod Listing
 pub mod Meaning
 pub mod Guarantee
+pub mod Cases

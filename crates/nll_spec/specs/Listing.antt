@@ -44,9 +44,9 @@ bytesFrom high (c ∷ cs) =
     elim (isSkipped c) [
       | true ↦ bytesFrom high cs
       | false ↦ elim (digit c) [
-          | none ↦ none
-          | some d ↦ elim high [ none ↦ bytesFrom (some d) cs | some h ↦ elim (bytesFrom none cs) [ none ↦ none | some bs ↦ some ((h * 16 + d) ∷ bs) ] ]
-        ]
+        | none ↦ none
+        | some d ↦ elim high [ none ↦ bytesFrom (some d) cs | some h ↦ elim (bytesFrom none cs) [ none ↦ none | some bs ↦ some ((h * 16 + d) ∷ bs) ] ]
+      ]
     ]
 
 -- The record that a text stands for; other text, and an odd digit, are read as an empty record.

@@ -97,9 +97,9 @@ unchanged n ws bs = record { number = n; words = ws; bytes = bs }
 -- an accepted job's answer, if both buffers have room for it; else refusal 10
 unfoldable pub write : EndRule → Job → List ℕ → List ℕ → Outcome
 write ends j ws bs = elim (leb (wordsNeeded j) (length ws) && leb (bytesNeeded j) (length bs)) [
-      | true ↦ record { number = 0; words = overwrite (wordsOf (answer ends j)) ws; bytes = overwrite (bytesOf (answer ends j)) bs }
-      | false ↦ unchanged 10 ws bs
-    ]
+  | true ↦ record { number = 0; words = overwrite (wordsOf (answer ends j)) ws; bytes = overwrite (bytesOf (answer ends j)) bs }
+  | false ↦ unchanged 10 ws bs
+]
 
 -- Refusals 6 to 9 of a job that was read.
 unfoldable pub judgeJob : Job → Decoded
