@@ -2,12 +2,12 @@
 -- Assumes nothing.
 use mathlib.Core.Bool.{Bool, true, false, cond, _&&_}
 use mathlib.Core.List.{List, [], _∷_}
-use Prim.Native.Nat.{ℕ, zero, suc, _*_, _+_, _<_, _≤_}
+use Prim.Native.Nat.{ℕ, zero, suc, _-_, _*_, _+_, _<_, _≤_}
 use native.Mathlib.Omega.{arith}
 use lib.ListN.{length}
 use lib.Dec.{leb, eqb}
 use Rattle.nll_spec.specs.Syntax.{Ty, Job}
-use Rattle.nll_spec.specs.Decode.{maxLength, maxPoints, maxLoans, maxNodes, Input, Reading, refused, read, Reader, done, refuse, _>>=_, byte, count, pick, oneOf, items, counted}
+use Rattle.nll_spec.specs.Decode.{maxLength, maxPoints, maxLoans, maxNodes, Part, Reading, refused, read, Reader, done, refuse, _>>=_, byte, count, pick, oneOf, items, counted}
 use Rattle.nll_spec.specs.Decode.{borrowKind, region, nodeTag, args, tagged, typeWithin, type, variance, flag, kind, param, field, structDecl, path, action, block, job}
 use Rattle.nll_spec.specs.Decode.{pointCount, borrowCount, Decoded, rejected, decoded, whole, decodeBody, decode}
 
@@ -21,7 +21,7 @@ module _ {A : Type 0} where
 
   -- every refusal of the reader is such a number
   record Small (m : Reader A) : Type 0 where
-    within : (i : Input) → Within (m i)
+    within : (bs : List ℕ) → Within (m bs)
 
   -- and so of every reader of a list
   data Smalls : List (Reader A) → Type 0 where
@@ -31,15 +31,15 @@ module _ {A : Type 0} where
 module _ {A : Type 0} where
   small-done : (a : A) → Small (done a)
   unfolding done
-  small-done a = record { within = λ i. tt }
+  small-done a = record { within = λ bs. tt }
 
   small-refuse : (n : ℕ) → (0 < n) × (n ≤ 5) → Small {A = A} (refuse n)
   unfolding refuse
-  small-refuse n h = record { within = λ i. h }
+  small-refuse n h = record { within = λ bs. h }
 
   small-bind : {B : Type 0} (m : Reader A) (f : A → Reader B) → Small m → ((a : A) → Small (f a)) → Small (_>>=_ m f)
   unfolding _>>=_
-  small-bind {B} m f h k = record { within = λ i. go (m i) (h .within i) }
+  small-bind {B} m f h k = record { within = λ bs. go (m bs) (h .within bs) }
     where
       go : (x : Reading A) → Within x → Within {A = B} (elim x as (λ y. Reading B) [ refused n ↦ refused n | read a rest ↦ f a rest ])
       go (refused n) w = w
@@ -47,11 +47,11 @@ module _ {A : Type 0} where
 
 small-byte : Small byte
 unfolding byte
-small-byte = record { within = λ i. go (i .nodesLeft) (i .bytes) }
+small-byte = record { within = go }
   where
-    go : (n : ℕ) (bs : List ℕ) → Within {A = ℕ} (elim bs as (λ x. Reading ℕ) [ [] ↦ refused 3 | b ∷ rest ↦ read b (record { bytes = rest; nodesLeft = n }) ])
-    go n [] = omega arith
-    go n (b ∷ rest) = tt
+    go : (bs : List ℕ) → Within (byte bs)
+    go [] = omega arith
+    go (b ∷ bs) = tt
 
 small-cond : {A : Type 0} (b : Bool) (m n : Reader A) → Small m → Small n → Small (cond b m n)
 small-cond true m n h k = h
@@ -93,35 +93,30 @@ small-region : Small region
 unfolding region
 small-region = search Small·rules
 
-small-nodeTag : Small nodeTag
+small-nodeTag : (left : ℕ) → Small (nodeTag left)
 unfolding nodeTag
-small-nodeTag = record { within = λ i. go (i .bytes) (i .nodesLeft) }
-  where
-    go : (bs : List ℕ) (left : ℕ) → Within (nodeTag (record { bytes = bs; nodesLeft = left }))
-    go [] left = omega arith
-    go (b ∷ bs) zero = omega arith
-    go (b ∷ bs) (suc left) = tt
+small-nodeTag left = small-bind byte _ small-byte (λ tag. small-cond (eqb left 0) (refuse 4) (done tag) (small-refuse 4 (omega arith)) (small-done tag))
 
-small-args : (inner : Reader Ty) (n : ℕ) → Small inner → Small (args inner n)
+small-args : (inner : ℕ → Reader (Part Ty)) (n left : ℕ) → ((k : ℕ) → Small (inner k)) → Small (args inner n left)
 unfolding args
-small-args inner zero h = small-done _
-small-args inner (suc n) h =
+small-args inner zero left h = small-done _
+small-args inner (suc n) left h =
     small-oneOf _
-    (more (small-bind _ _ small-region (λ r. small-bind _ _ (small-args inner n h) (λ rest. small-done _)))
-    (more (small-bind _ _ h (λ t. small-bind _ _ (small-args inner n h) (λ rest. small-done _))) none))
+    (more (small-bind _ _ small-region (λ r. small-bind _ _ (small-args inner n left h) (λ rest. small-done _)))
+    (more (small-bind _ _ (h left) (λ t. small-bind _ _ (small-args inner n (t .left) h) (λ rest. small-done _))) none))
 
-small-tagged : (inner : Reader Ty) (tag : ℕ) → Small inner → Small (tagged inner tag)
+small-tagged : (inner : ℕ → Reader (Part Ty)) (left tag : ℕ) → ((k : ℕ) → Small (inner k)) → Small (tagged inner left tag)
 unfolding tagged
-small-tagged inner tag h = search (small-pick, Small·rules, small-borrowKind, small-region, small-args) depth 9
+small-tagged inner left tag h = search (small-pick, Small·rules, small-borrowKind, small-region, small-args) depth 9
 
-small-typeWithin : (depth : ℕ) → Small (typeWithin depth)
+small-typeWithin : (depth left : ℕ) → Small (typeWithin depth left)
 unfolding typeWithin
-small-typeWithin zero = small-refuse 4 (omega arith)
-small-typeWithin (suc depth) = small-bind nodeTag _ small-nodeTag (λ tag. small-tagged (typeWithin depth) tag (small-typeWithin depth))
+small-typeWithin zero left = small-refuse 4 (omega arith)
+small-typeWithin (suc depth) left = small-bind (nodeTag left) _ (small-nodeTag left) (λ tag. small-tagged (typeWithin depth) (left - 1) tag (small-typeWithin depth))
 
 small-type : Small type
 unfolding type
-small-type = record { within = λ i. small-typeWithin (suc maxNodes) .within (record { bytes = i .bytes; nodesLeft = maxNodes }) }
+small-type = small-bind (typeWithin (suc maxNodes) maxNodes) _ (small-typeWithin (suc maxNodes) maxNodes) (λ t. small-done (t .item))
 
 -- ---- The parts of the record
 
@@ -179,22 +174,16 @@ either false x y h k = k
 whole-refuses : (r : Reading Job) → Within r → RefusedWithin 5 (whole r)
 unfolding whole
 whole-refuses (refused n) h = h
-whole-refuses (read j rest) h = go (rest .bytes)
-  where
-    go : (bs : List ℕ) → RefusedWithin 5 (whole (read j (record { bytes = bs; nodesLeft = rest .nodesLeft })))
-    go [] = either (leb (pointCount j) maxPoints && leb (borrowCount j) maxLoans) (decoded j) (rejected 5) tt (omega arith)
-    go (b ∷ bs) = omega arith
+whole-refuses (read j []) h = either (leb (pointCount j) maxPoints && leb (borrowCount j) maxLoans) (decoded j) (rejected 5) tt (omega arith)
+whole-refuses (read j (b ∷ rest)) h = omega arith
 
 body-refuses : (input : List ℕ) → RefusedWithin 5 (decodeBody input)
 unfolding decodeBody
 body-refuses [] = omega arith
 body-refuses (high ∷ []) = omega arith
 body-refuses (high ∷ low ∷ rest) =
-    either (leb (high * 256 + low) maxLength && eqb (high * 256 + low) (length rest)) (whole (job start)) (rejected 2)
-    (whole-refuses (job start) (small-job .within start)) (omega arith)
-  where
-    start : Input
-    start = record { bytes = rest; nodesLeft = 0 }
+    either (leb (high * 256 + low) maxLength && eqb (high * 256 + low) (length rest)) (whole (job rest)) (rejected 2)
+    (whole-refuses (job rest) (small-job .within rest)) (omega arith)
 
 -- What is not decoded is refused with a number from 1 to 5.
 pub decode-refuses : (input : List ℕ) → RefusedWithin 5 (decode input)

@@ -5,6 +5,8 @@ pub mod Least
 pub mod GraphLaws
 pub mod AcceptedLaws
 pub mod TypeLaws
+pub mod MonotoneLaws
+pub mod SeedLaws
 pub mod WordLaws
 pub mod DecodeLaws
 pub mod Names

@@ -25,76 +25,8 @@ use Rattle.nll_spec.proofs.AcceptedLaws.{Accepted}
 use Rattle.nll_spec.proofs.TypeLaws.{isNamed, constraints-good}
 use Rattle.nll_spec.proofs.Least.{least-closed, least-ind, sized-least, held-inside}
 use Rattle.nll_spec.proofs.GraphLaws.{next→preds, preds→next, next-in-code}
+use Rattle.nll_spec.proofs.MonotoneLaws.{Looser, looser-same, looser-every, rule-mono}
 use Rattle.nll_spec.proofs.RegionLaws.{fullTable, sets-full, seed-in, seed-inside, visit, visited-in, passed-in}
-
--- ---- Tests that only gain
-
-or-mono : (a b c d : Bool) → (T a → T c) → (T b → T d) → T (a || b) → T (c || d)
-or-mono true b c d f g h = or-left c d (f tt)
-or-mono false b c d f g h = or-right c d (g h)
-
-and-mono : (a b c d : Bool) → (T a → T c) → (T b → T d) → T (a && b) → T (c && d)
-and-mono a b c d f g h = and-intro c d (f (and-left a b h)) (g (and-right a b h))
-
-module _ {A : Type 0} where
-  any-mono : (f g : A → Bool) → ((x : A) → T (f x) → T (g x)) → (xs : List A) → T (any f xs) → T (any g xs)
-  any-mono f g h [] t = t
-  any-mono f g h (x ∷ xs) t = or-mono (f x) (any f xs) (g x) (any g xs) (h x) (any-mono f g h xs) t
-
-  anyFrom-mono : (f g : ℕ → A → Bool) → ((k : ℕ) (x : A) → T (f k x) → T (g k x)) → (i : ℕ) (xs : List A) → T (anyFrom i f xs) → T (anyFrom i g xs)
-  anyFrom-mono f g h i [] t = t
-  anyFrom-mono f g h i (x ∷ xs) t = or-mono (f i x) (anyFrom (suc i) f xs) (g i x) (anyFrom (suc i) g xs) (h i x) (anyFrom-mono f g h (suc i) xs) t
-
-cond-mono : (b x y x′ y′ : Bool) → (T x → T x′) → (T y → T y′) → T (cond b x y) → T (cond b x′ y′)
-cond-mono true x y x′ y′ f g h = f h
-cond-mono false x y x′ y′ f g h = g h
-
--- more ends pass under the second rule, where more is held
-abbrev Looser : EndRule → EndRule → Type 0
-Looser e e′ = (a b : Bool) → (T a → T b) → T (passesEnd e a) → T (passesEnd e′ b)
-
-looser-same : (e : EndRule) → Looser e e
-looser-same everyEnd a b f h = tt
-looser-same heldEnds a b f h = f h
-
-looser-every : (e : EndRule) → Looser e everyEnd
-looser-every e a b f h = tt
-
--- ---- The rule of the regions gives more where the table has more, or the end rule is looser
-
-module _ (g : Graph) (n : ℕ) (seeds : Table) (cs : List Outlives) (e e′ : EndRule) (loose : Looser e e′) where
-  rule-mono : (t u : Table) → ((r c : ℕ) → T (holds t r c) → T (holds u r c)) → (r c : ℕ) → T (regionRule e g n seeds cs t r c) → T (regionRule e′ g n seeds cs u r c)
-  rule-mono t u sub row q =
-      cond-mono (ltb row n)
-      (holds seeds row q || anyFrom 0 (λ k c. eqb (c .sup) row && adds e g n t q k c) cs)
-      (visits g n t q (row - n) (getD cs (row - n) noConstraint))
-      (holds seeds row q || anyFrom 0 (λ k c. eqb (c .sup) row && adds e′ g n u q k c) cs)
-      (visits g n u q (row - n) (getD cs (row - n) noConstraint))
-      (or-mono (holds seeds row q) (anyFrom 0 (λ k c. eqb (c .sup) row && adds e g n t q k c) cs) (holds seeds row q)
-      (anyFrom 0 (λ k c. eqb (c .sup) row && adds e′ g n u q k c) cs) (λ h. h)
-      (anyFrom-mono (λ k c. eqb (c .sup) row && adds e g n t q k c) (λ k c. eqb (c .sup) row && adds e′ g n u q k c)
-      (λ k c. and-mono (eqb (c .sup) row) (adds e g n t q k c) (eqb (c .sup) row) (adds e′ g n u q k c) (λ h. h) (adds-mono k c)) 0 cs))
-      (visits-mono (row - n) (getD cs (row - n) noConstraint))
-    where
-      adds-mono : (k : ℕ) (c : Outlives) → T (adds e g n t q k c) → T (adds e′ g n u q k c)
-      adds-mono k c =
-          or-mono (holds t (n + k) q)
-          (leb (g .code) q && passesEnd e (holds t (c .sub) q) && any (λ p. isExit g p && holds t (n + k) p) (below (g .code)))
-          (holds u (n + k) q)
-          (leb (g .code) q && passesEnd e′ (holds u (c .sub) q) && any (λ p. isExit g p && holds u (n + k) p) (below (g .code)))
-          (sub (n + k) q)
-          (and-mono (leb (g .code) q && passesEnd e (holds t (c .sub) q)) (any (λ p. isExit g p && holds t (n + k) p) (below (g .code)))
-          (leb (g .code) q && passesEnd e′ (holds u (c .sub) q)) (any (λ p. isExit g p && holds u (n + k) p) (below (g .code)))
-          (and-mono (leb (g .code) q) (passesEnd e (holds t (c .sub) q)) (leb (g .code) q) (passesEnd e′ (holds u (c .sub) q)) (λ h. h)
-          (loose (holds t (c .sub) q) (holds u (c .sub) q) (sub (c .sub) q)))
-          (any-mono (λ p. isExit g p && holds t (n + k) p) (λ p. isExit g p && holds u (n + k) p)
-          (λ p. and-mono (isExit g p) (holds t (n + k) p) (isExit g p) (holds u (n + k) p) (λ h. h) (sub (n + k) p)) (below (g .code))))
-
-      visits-mono : (k : ℕ) (c : Outlives) → T (visits g n t q k c) → T (visits g n u q k c)
-      visits-mono k c =
-          and-mono (holds t (c .sub) q) (eqb q (c .point) || any (holds t (n + k)) (predsOf g q)) (holds u (c .sub) q) (eqb q (c .point) || any (holds u (n + k)) (predsOf g q)) (sub (c .sub) q)
-          (or-mono (eqb q (c .point)) (any (holds t (n + k)) (predsOf g q)) (eqb q (c .point)) (any (holds u (n + k)) (predsOf g q)) (λ h. h)
-          (any-mono (holds t (n + k)) (holds u (n + k)) (sub (n + k)) (predsOf g q)))
 
 -- ---- Under the looser end rule the sets are larger
 

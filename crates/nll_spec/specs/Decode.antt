@@ -1,7 +1,7 @@
 -- From the bytes of a record to a job, or refusal 1 to 5.
 use mathlib.Core.Bool.{Bool, true, false, _&&_, cond}
 use mathlib.Core.List.{List, [], _∷_}
-use Prim.Native.Nat.{ℕ, zero, suc, _+_, _*_}
+use Prim.Native.Nat.{ℕ, zero, suc, _+_, _-_, _*_}
 use lib.ListN.{length, getD}
 use lib.Dec.{leb, eqb}
 use Rattle.nll_spec.specs.Lists.{gather, select}
@@ -61,32 +61,28 @@ maxLoans = 128
 
 -- ---- Reading front to back
 
--- What is left to read, and how many more nodes the type that is being read may have.
-pub record Input : Type 0 where
-  pub bytes : List ℕ
-  pub nodesLeft : ℕ
-
--- What reading gives: a refusal, or a value and what is left.
+-- What reading gives: a refusal, or a value and the bytes that are left.
 pub data Reading (A : Type 0) : Type 0 where
   refused : ℕ → Reading A
-  read : A → Input → Reading A
+  read : A → List ℕ → Reading A
 
 abbrev pub Reader : Type 0 → Type 0
-Reader A = Input → Reading A
+Reader A = List ℕ → Reading A
 
 module _ {A : Type 0} where
   unfoldable pub done : A → Reader A
-  done a i = read a i
+  done a bs = read a bs
 
   unfoldable pub refuse : ℕ → Reader A
-  refuse n i = refused n
+  refuse n bs = refused n
 
   unfoldable pub _>>=_ : {B : Type 0} → Reader A → (A → Reader B) → Reader B
-  _>>=_ m f i = elim (m i) [ refused n ↦ refused n | read a rest ↦ f a rest ]
+  _>>=_ m f bs = elim (m bs) [ refused n ↦ refused n | read a rest ↦ f a rest ]
 
 -- A byte; refusal 3 where it is missing.
 unfoldable pub byte : Reader ℕ
-byte i = elim (i .bytes) [ [] ↦ refused 3 | b ∷ bs ↦ read b (record { bytes = bs; nodesLeft = i .nodesLeft }) ]
+byte [] = refused 3
+byte (b ∷ bs) = read b bs
 
 -- A count from `low` to `high`; refusal 4 outside.
 unfoldable pub count : ℕ → ℕ → Reader ℕ
@@ -132,43 +128,51 @@ region =
     ∷ (do n ← byte; done (BoundRegion n))
     ∷ [])
 
+-- A part of a type, with how many more nodes the type may have. A reader of such a part takes how many it may have.
+pub record Part (A : Type 0) : Type 0 where
+  pub item : A
+  pub left : ℕ
+
+abbrev pub with : {A : Type 0} → A → ℕ → Part A
+with a n = record { item = a; left = n }
+
 -- A type's tag, which is one node. Refusal 4 at a node too many, whatever its tag.
-unfoldable pub nodeTag : Reader ℕ
-nodeTag i = elim (i .bytes) [ [] ↦ refused 3 | tag ∷ rest ↦ taken tag rest (i .nodesLeft) ]
-  where
-    taken : ℕ → List ℕ → ℕ → Reading ℕ
-    taken tag rest zero = refused 4
-    taken tag rest (suc n) = read tag (record { bytes = rest; nodesLeft = n })
+unfoldable pub nodeTag : ℕ → Reader ℕ
+nodeTag left = do
+  tag ← byte
+  cond (eqb left 0) (refuse 4) (done tag)
 
 -- n arguments of a struct, each a region or a type, which `inner` reads.
-unfoldable pub args : Reader Ty → ℕ → Reader Args
-args inner zero = done NoArgs
-args inner (suc n) =
+unfoldable pub args : (ℕ → Reader (Part Ty)) → ℕ → ℕ → Reader (Part Args)
+args inner zero left = done (with NoArgs left)
+args inner (suc n) left =
     oneOf
-    ((do r ← region; rest ← args inner n; done (RegionArg r rest))
-    ∷ (do t ← inner; rest ← args inner n; done (TypeArg t rest))
+    ((do r ← region; rest ← args inner n left; done (with (RegionArg r (rest .item)) (rest .left)))
+    ∷ (do t ← inner left; rest ← args inner n (t .left); done (with (TypeArg (t .item) (rest .item)) (rest .left)))
     ∷ [])
 
 -- A type whose tag is read: Unit, Ref, Struct or Bound.
-unfoldable pub tagged : Reader Ty → ℕ → Reader Ty
-tagged inner =
+unfoldable pub tagged : (ℕ → Reader (Part Ty)) → ℕ → ℕ → Reader (Part Ty)
+tagged inner left =
     pick
-    (done UnitTy
-    ∷ (do k ← borrowKind; r ← region; t ← inner; done (RefTy k r t))
-    ∷ (do s ← byte; n ← count 0 maxParams; given ← args inner n; done (StructTy s given))
-    ∷ (do b ← byte; done (BoundTy b))
+    (done (with UnitTy left)
+    ∷ (do k ← borrowKind; r ← region; t ← inner left; done (with (RefTy k r (t .item)) (t .left)))
+    ∷ (do s ← byte; n ← count 0 maxParams; given ← args inner n left; done (with (StructTy s (given .item)) (given .left)))
+    ∷ (do b ← byte; done (with (BoundTy b) left))
     ∷ [])
 
--- A type of at most `depth` nodes from its root down to any leaf.
-unfoldable pub typeWithin : ℕ → Reader Ty
-typeWithin zero = refuse 4
-typeWithin (suc depth) = do
-  tag ← nodeTag
-  tagged (typeWithin depth) tag
+-- A type of at most `left` nodes, and of fewer than `depth` from its root down to any leaf.
+unfoldable pub typeWithin : ℕ → ℕ → Reader (Part Ty)
+typeWithin zero left = refuse 4
+typeWithin (suc depth) left = do
+  tag ← nodeTag left
+  tagged (typeWithin depth) (left - 1) tag
 
 -- A type of at most 32 nodes. Its depth is no limit of its own: the 33rd node is refused before any part below it is read.
 unfoldable pub type : Reader Ty
-type i = typeWithin (suc maxNodes) (record { bytes = i .bytes; nodesLeft = maxNodes })
+type = do
+  t ← typeWithin (suc maxNodes) maxNodes
+  done (t .item)
 
 -- ---- The parts of the record
 
@@ -272,7 +276,7 @@ pub data Decoded : Type 0 where
 -- A job that was read to the end of the record, within the limits of refusal 5.
 unfoldable pub whole : Reading Job → Decoded
 whole (refused n) = rejected n
-whole (read j rest) = elim (rest .bytes) [ b ∷ bs ↦ rejected 3 | [] ↦ cond (leb (pointCount j) maxPoints && leb (borrowCount j) maxLoans) (decoded j) (rejected 5) ]
+whole (read j rest) = elim rest [ b ∷ bs ↦ rejected 3 | [] ↦ cond (leb (pointCount j) maxPoints && leb (borrowCount j) maxLoans) (decoded j) (rejected 5) ]
 
 -- What follows the version byte: a length of two bytes, and as many bytes as it says.
 unfoldable pub decodeBody : List ℕ → Decoded
@@ -280,7 +284,7 @@ decodeBody [] = rejected 2
 decodeBody (high ∷ []) = rejected 2
 decodeBody (high ∷ low ∷ rest) =
     let n = high * 256 + low in
-    cond (leb n maxLength && eqb n (length rest)) (whole (job (record { bytes = rest; nodesLeft = 0 }))) (rejected 2)
+    cond (leb n maxLength && eqb n (length rest)) (whole (job rest)) (rejected 2)
 
 unfoldable pub decode : List ℕ → Decoded
 decode [] = rejected 1

@@ -1,1 +1,110 @@
-fn main(){}
+//! Compares two engines, times the original, and records its answers. `rust/README.md` has the commands.
+
+use compare::engine::named;
+use compare::shrink::shrink;
+use compare::trial::Trial;
+use compare::{bytes_of, hex, recorded, speed};
+use generate::jobs::LARGEST;
+use std::process::exit;
+use std::time::Instant;
+
+const USAGE: &str = "usage:
+  compare FIRST SECOND [ACCEPTED DAMAGED [SEED]]   compare two engines: original, answering, model (or proved)
+  compare one FIRST SECOND HEX                     the same on one record
+  compare speed [COUNT [SEED]]                     time the original on the largest records
+  compare record FILE                              write the recorded answers
+  compare answers HEX..                            print the number, words and bytes of records, by the model";
+
+fn main() {
+    let words: Vec<String> = std::env::args().skip(1).collect();
+    let words: Vec<&str> = words.iter().map(String::as_str).collect();
+    let agree = match words[..] {
+        ["speed", ref rest @ ..] => {
+            let (count, seed) = (number(rest, 0, 20), number(rest, 1, 1));
+            let records: Vec<_> = (seed..seed + count).map(|seed| generate::accepted_of(seed, &LARGEST)).collect();
+            speed::measure(&records);
+            true
+        }
+        ["record", file] => {
+            let entries = recorded::entries();
+            let bytes = recorded::write(&entries);
+            std::fs::write(file, &bytes).unwrap_or_else(|e| panic!("{file}: {e}"));
+            println!("{} records, {} bytes", entries.len(), bytes.len());
+            true
+        }
+        ["answers", ref records @ ..] => {
+            records.iter().for_each(|record| print_answer(&bytes_of(record).unwrap_or_else(|| usage())));
+            true
+        }
+        ["one", first, second, record] => {
+            let record = bytes_of(record).unwrap_or_else(|| usage());
+            families(first, second, vec![("one", 0, Box::new(std::iter::once(record)))])
+        }
+        [first, second, ref rest @ ..] => {
+            let (accepted, damaged, seed) = (number(rest, 0, 200_000), number(rest, 1, 200_000), number(rest, 2, 1));
+            families(first, second, all_families(accepted, damaged, seed))
+        }
+        _ => usage(),
+    };
+    exit(if agree { 0 } else { 1 })
+}
+
+fn usage() -> ! {
+    eprintln!("{USAGE}");
+    exit(2)
+}
+
+fn number(words: &[&str], index: usize, default: u64) -> u64 {
+    match words.get(index) {
+        Some(word) => word.parse().unwrap_or_else(|_| usage()),
+        None => default,
+    }
+}
+
+type Family = (&'static str, u64, Box<dyn Iterator<Item = Vec<u8>>>);
+
+fn all_families(accepted: u64, damaged: u64, seed: u64) -> Vec<Family> {
+    vec![
+        ("boundary", seed, Box::new(generate::boundary::cases().into_iter().map(|case| case.record))),
+        ("short strings", seed, Box::new(generate::short::strings())),
+        ("short bodies", seed, Box::new(generate::short::bodies(8, 4))),
+        ("damaged", seed, Box::new((seed..seed + damaged).map(generate::damaged))),
+        ("accepted", seed, Box::new((seed..seed + accepted).map(generate::accepted))),
+    ]
+}
+
+/// Compares the engines on each family, and tells whether they agree on all.
+fn families(first: &str, second: &str, families: Vec<Family>) -> bool {
+    let engine = |name: &str| named(name).unwrap_or_else(|| usage());
+    let (mut first_engine, mut second_engine) = (engine(first), engine(second));
+    let mut agree = true;
+    for (family, seed, records) in families {
+        let started = Instant::now();
+        let mut trial = Trial::new(&mut *first_engine, &mut *second_engine, seed);
+        trial.try_refused = first == "original";
+        for record in records {
+            trial.record(&record);
+        }
+        let tally = trial.tally;
+        tally.print(family, started.elapsed().as_secs_f64());
+        for record in tally.disagreements.iter().take(5) {
+            let smallest = shrink(record, &mut |record| disagree(first, second, record));
+            println!("  disagree on {}", hex(&smallest));
+        }
+        agree &= tally.disagreements.is_empty();
+    }
+    agree
+}
+
+fn disagree(first: &str, second: &str, record: &[u8]) -> bool {
+    let (mut first, mut second) = (named(first).unwrap(), named(second).unwrap());
+    (0..8).any(|seed| !Trial::new(&mut *first, &mut *second, seed).record(record))
+}
+
+fn print_answer(record: &[u8]) {
+    let mut lent = compare::lent::Lent::exact(record);
+    let number = model::analyse(record, &mut lent.words, &mut lent.bytes);
+    let words: Vec<String> = lent.words.iter().map(u32::to_string).collect();
+    let bytes: Vec<String> = lent.bytes.iter().map(u8::to_string).collect();
+    println!("{number} [{}] [{}]", words.join(","), bytes.join(","));
+}

@@ -2,7 +2,7 @@
 
 use crate::paths::{typed_paths, Typed};
 use crate::rng::Rng;
-use crate::types::{self, with_other_regions, Scope};
+use crate::types::{self, with_other_regions, Regions, Scope};
 use model::decode::{MAX_BORROWS, MAX_LENGTH, MAX_NODES, MAX_POINTS};
 use model::syntax::*;
 
@@ -45,7 +45,7 @@ pub const LARGEST: Size = Size {
 
 /// A size, the smaller ones more often.
 pub fn any_size(rng: &mut Rng) -> Size {
-    match rng.weighted(&[350, 480, 165, 5]) {
+    match rng.weighted(&[200, 520, 270, 10]) {
         0 => TINY,
         1 => SMALL,
         2 => MEDIUM,
@@ -66,35 +66,37 @@ pub fn accepted(rng: &mut Rng, size: &Size) -> (Job, Vec<u8>) {
 }
 
 fn job(rng: &mut Rng, size: &Size) -> Job {
-    let regions = rng.between(size.regions.0, size.regions.1);
-    let declared = if rng.chance(55) { rng.below(size.declared.min(regions) + 1) } else { 0 };
-    let structs = { let count = rng_between(rng, size.structs); struct_decls(rng, count, regions) };
+    let all = rng_between(rng, size.regions);
+    let declared = if rng.chance(55) { rng.below(size.declared.min(all) + 1) } else { 0 };
+    let regions = Regions { all, declared };
+    let structs = struct_decls(rng, size, regions);
     let variables = variable_types(rng, size, &structs, regions);
     let outlives = outlives(rng, declared);
     let paths = typed_paths(rng, &structs, &variables);
-    let blocks = Actions::new(rng, regions, declared, variables.len(), &paths).blocks(rng, size);
-    Job { structs, regions, outlives, variables, blocks }
+    let blocks = Actions::new(rng, regions, variables.len(), &paths).blocks(rng, size);
+    Job { structs, regions: all, outlives, variables, blocks }
 }
 
 fn rng_between(rng: &mut Rng, range: (usize, usize)) -> usize {
     rng.between(range.0, range.1)
 }
 
-fn struct_decls(rng: &mut Rng, count: usize, regions: usize) -> Vec<StructDecl> {
+fn struct_decls(rng: &mut Rng, size: &Size, regions: Regions) -> Vec<StructDecl> {
+    let count = rng_between(rng, size.structs);
     let params: Vec<Vec<Param>> = (0..count).map(|_| types::params(rng)).collect();
     params
         .iter()
         .map(|own| {
-            let scope = Scope { structs: &params, regions, params: own };
+            let scope = Scope { structs: &params, regions: regions.all, params: own };
             StructDecl { params: own.clone(), fields: types::fields(rng, &scope) }
         })
         .collect()
 }
 
 /// Types of few shapes, so that many can be assigned to each other, and Refs to these shapes.
-fn variable_types(rng: &mut Rng, size: &Size, structs: &[StructDecl], regions: usize) -> Vec<Ty> {
+fn variable_types(rng: &mut Rng, size: &Size, structs: &[StructDecl], regions: Regions) -> Vec<Ty> {
     let params: Vec<Vec<Param>> = structs.iter().map(|decl| decl.params.clone()).collect();
-    let scope = Scope { structs: &params, regions, params: &[] };
+    let scope = Scope { structs: &params, regions: regions.all, params: &[] };
     let count = rng_between(rng, size.variables);
     let shapes: Vec<Ty> = (0..1 + count / 4).map(|_| types::ty(rng, &scope, size.depth)).collect();
     let mut found = vec![];
@@ -127,8 +129,7 @@ fn outlives(rng: &mut Rng, declared: usize) -> Vec<Vec<RegionName>> {
 
 /// What the actions of one job are drawn from.
 struct Actions<'a> {
-    regions: usize,
-    declared: usize,
+    regions: Regions,
     variables: usize,
     paths: &'a [Typed],
     /// By path: the paths of the same shape.
@@ -143,7 +144,7 @@ struct Actions<'a> {
 }
 
 impl<'a> Actions<'a> {
-    fn new(rng: &mut Rng, regions: usize, declared: usize, variables: usize, paths: &'a [Typed]) -> Self {
+    fn new(rng: &mut Rng, regions: Regions, variables: usize, paths: &'a [Typed]) -> Self {
         let alike = |ty: &Ty| -> Vec<usize> { (0..paths.len()).filter(|&i| paths[i].ty.same_shape(ty)).collect() };
         let borrowers = paths.iter().enumerate().filter_map(|(dest, typed)| match &typed.ty {
             Ty::Ref(_, _, referent) => Some((dest, alike(referent))).filter(|(_, sources)| !sources.is_empty()),
@@ -151,17 +152,17 @@ impl<'a> Actions<'a> {
         });
         Actions {
             regions,
-            declared,
             variables,
             paths,
             alike: paths.iter().map(|typed| alike(&typed.ty)).collect(),
             borrowers: borrowers.collect(),
             weights: *rng.pick(&[
-                [4, 12, 26, 12, 6, 22, 8, 6],
-                [2, 6, 40, 10, 2, 35, 4, 2],
-                [2, 3, 30, 12, 4, 45, 2, 1],
-                [4, 4, 20, 30, 14, 20, 8, 2],
-                [2, 30, 25, 8, 2, 16, 10, 12],
+                [4, 12, 26, 12, 6, 22, 8, 8],
+                [2, 6, 40, 10, 2, 30, 6, 6],
+                [2, 2, 30, 8, 4, 45, 2, 1],
+                [4, 4, 20, 30, 14, 20, 8, 4],
+                [2, 20, 25, 8, 2, 20, 12, 14],
+                [1, 1, 40, 2, 1, 50, 0, 0],
             ]),
             plain: *rng.pick(&[50, 80, 95]),
             borrows: 0,
@@ -170,13 +171,13 @@ impl<'a> Actions<'a> {
 
     fn blocks(&mut self, rng: &mut Rng, size: &Size) -> Vec<Block> {
         let count = rng_between(rng, size.blocks);
-        let mut points = MAX_POINTS - self.declared - count;
+        let mut points = MAX_POINTS - self.regions.declared - count;
         let mut blocks = vec![];
         for index in 0..count {
             let wanted = rng_between(rng, size.actions).min(points).min(64);
             points -= wanted;
             let mut actions: Vec<Action> = (0..wanted).map(|_| self.action(rng)).collect();
-            if !actions.is_empty() && self.declared > 0 && rng.chance(4) {
+            if !actions.is_empty() && self.regions.declared > 0 && rng.chance(4) {
                 actions[0] = self.constraint(rng);
             }
             blocks.push(Block { successors: successors(rng, index, count), actions });
@@ -222,7 +223,7 @@ impl<'a> Actions<'a> {
         let (dest, sources) = chosen;
         let source = &self.paths[*rng.pick(sources)];
         let Ty::Ref(kind, region, _) = &self.paths[*dest].ty else { unreachable!() };
-        let region = if rng.chance(40) { region.name() } else { rng.below(self.regions) };
+        let region = if rng.chance(40) { region.name() } else { self.regions.pick(rng) };
         Action::Borrow(self.paths[*dest].path.clone(), region, *kind, source.path.clone())
     }
 
@@ -236,8 +237,7 @@ impl<'a> Actions<'a> {
     }
 
     fn constraint(&self, rng: &mut Rng) -> Action {
-        let sup = if self.declared > 0 && rng.chance(50) { rng.below(self.declared) } else { rng.below(self.regions) };
-        Action::Constraint { sup, sub: rng.below(self.regions) }
+        Action::Constraint { sup: self.regions.pick(rng), sub: self.regions.pick(rng) }
     }
 }
 

@@ -98,16 +98,34 @@ pub fn borrow_kind(rng: &mut Rng) -> BorrowKind {
     *rng.pick(&[BorrowKind::Mut, BorrowKind::Shared])
 }
 
+/// The regions of a job: how many there are, and how many of them are declared.
+#[derive(Clone, Copy)]
+pub struct Regions {
+    pub all: usize,
+    pub declared: usize,
+}
+
+impl Regions {
+    /// Any of them, the declared ones somewhat more often.
+    pub fn pick(&self, rng: &mut Rng) -> RegionName {
+        if self.declared > 0 && rng.chance(25) {
+            rng.below(self.declared)
+        } else {
+            rng.below(self.all)
+        }
+    }
+}
+
 /// The same type with other regions.
-pub fn with_other_regions(rng: &mut Rng, ty: &Ty, regions: usize) -> Ty {
+pub fn with_other_regions(rng: &mut Rng, ty: &Ty, regions: Regions) -> Ty {
     match ty {
         Ty::Unit | Ty::Bound(_) => ty.clone(),
         Ty::Ref(kind, _, referent) => {
-            Ty::Ref(*kind, Region::Free(rng.below(regions)), Box::new(with_other_regions(rng, referent, regions)))
+            Ty::Ref(*kind, Region::Free(regions.pick(rng)), Box::new(with_other_regions(rng, referent, regions)))
         }
         Ty::Struct(name, args) => {
             let args = args.iter().map(|arg| match arg {
-                Arg::Region(_) => Arg::Region(Region::Free(rng.below(regions))),
+                Arg::Region(_) => Arg::Region(Region::Free(regions.pick(rng))),
                 Arg::Ty(ty) => Arg::Ty(with_other_regions(rng, ty, regions)),
             });
             Ty::Struct(*name, args.collect())

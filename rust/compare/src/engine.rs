@@ -1,0 +1,185 @@
+//! What can be compared: each engine has the signature of the call.
+
+use original::Order;
+
+/// What a call returns.
+#[derive(Clone, Debug, PartialEq, Eq)]
+pub enum Outcome {
+    Number(u8),
+    /// The engine panicked with this message.
+    Panicked(String),
+    /// The engine says nothing of such a record: the original knows no refusals.
+    NotJudged,
+}
+
+pub trait Engine {
+    fn call(&mut self, record: &[u8], words: &mut [u32], bytes: &mut [u8]) -> Outcome;
+}
+
+/// The engine of a name.
+pub fn named(name: &str) -> Option<Box<dyn Engine>> {
+    match name {
+        "model" => Some(Box::new(Model)),
+        "original" => Some(Box::new(Original::new())),
+        "answering" => Some(Box::new(Answering::new())),
+        #[cfg(feature = "proved")]
+        "proved" => Some(Box::new(Proved)),
+        _ => None,
+    }
+}
+
+/// The model of document 01.
+pub struct Model;
+
+impl Engine for Model {
+    fn call(&mut self, record: &[u8], words: &mut [u32], bytes: &mut [u8]) -> Outcome {
+        Outcome::Number(model::analyse(record, words, bytes))
+    }
+}
+
+/// Orders of the blocks, one after the other.
+struct Orders {
+    next: u64,
+}
+
+impl Orders {
+    fn next(&mut self) -> Order {
+        self.next += 1;
+        match self.next % 4 {
+            0 => Order::PostOrder,
+            1 => Order::ReversePostOrder,
+            2 => Order::ByIndex,
+            _ => Order::Shuffled(self.next),
+        }
+    }
+}
+
+/// The original, unchanged. Each call visits the blocks in another order.
+pub struct Original {
+    orders: Orders,
+}
+
+impl Original {
+    pub fn new() -> Self {
+        Original { orders: Orders { next: 0 } }
+    }
+}
+
+impl Default for Original {
+    fn default() -> Self {
+        Original::new()
+    }
+}
+
+/// The original without its assert at action 0.
+pub struct Answering {
+    orders: Orders,
+}
+
+impl Answering {
+    pub fn new() -> Self {
+        Answering { orders: Orders { next: 0 } }
+    }
+}
+
+impl Default for Answering {
+    fn default() -> Self {
+        Answering::new()
+    }
+}
+
+impl Engine for Original {
+    fn call(&mut self, record: &[u8], words: &mut [u32], bytes: &mut [u8]) -> Outcome {
+        if model::accept(record).is_err() {
+            return Outcome::NotJudged;
+        }
+        match original::analyse(record, self.orders.next()) {
+            Ok(answer) => {
+                let verdicts: Vec<u8> = answer.verdicts.iter().flat_map(|v| [v.kind, v.operand]).collect();
+                write(&answer.regions, &verdicts, &answer.grown, words, bytes)
+            }
+            Err(original::Failure::Panicked(message)) => Outcome::Panicked(message),
+            Err(original::Failure::Unread(message)) => Outcome::Panicked(format!("unread: {message}")),
+        }
+    }
+}
+
+impl Engine for Answering {
+    fn call(&mut self, record: &[u8], words: &mut [u32], bytes: &mut [u8]) -> Outcome {
+        if model::accept(record).is_err() {
+            return Outcome::NotJudged;
+        }
+        match original_answering::analyse(record, answering_order(self.orders.next())) {
+            Ok(answer) => {
+                let verdicts: Vec<u8> = answer.verdicts.iter().flat_map(|v| [v.kind, v.operand]).collect();
+                write(&answer.regions, &verdicts, &answer.grown, words, bytes)
+            }
+            Err(original_answering::Failure::Panicked(message)) => Outcome::Panicked(message),
+            Err(original_answering::Failure::Unread(message)) => Outcome::Panicked(format!("unread: {message}")),
+        }
+    }
+}
+
+/// The same order, as the second build of the original names it.
+fn answering_order(order: Order) -> original_answering::Order {
+    match order {
+        Order::ReversePostOrder => original_answering::Order::ReversePostOrder,
+        Order::PostOrder => original_answering::Order::PostOrder,
+        Order::ByIndex => original_answering::Order::ByIndex,
+        Order::Shuffled(seed) => original_answering::Order::Shuffled(seed),
+    }
+}
+
+/// Writes what the original says as document 01 lays it out: a row of words by region, the verdicts, the grown marks.
+fn write(regions: &[Vec<bool>], verdicts: &[u8], grown: &[bool], words: &mut [u32], bytes: &mut [u8]) -> Outcome {
+    let new_words: Vec<u32> = regions.iter().flat_map(|set| set.chunks(32).map(word)).collect();
+    let new_bytes: Vec<u8> = verdicts.iter().copied().chain(grown.iter().map(|&g| u8::from(g))).collect();
+    if words.len() < new_words.len() || bytes.len() < new_bytes.len() {
+        return Outcome::Number(10);
+    }
+    words[..new_words.len()].copy_from_slice(&new_words);
+    bytes[..new_bytes.len()].copy_from_slice(&new_bytes);
+    Outcome::Number(0)
+}
+
+/// Up to 32 points, the first in the lowest bit.
+fn word(points: &[bool]) -> u32 {
+    points.iter().rev().fold(0, |word, &held| word << 1 | u32::from(held))
+}
+
+/// The proved call, from the static library `nll`.
+#[cfg(feature = "proved")]
+pub struct Proved;
+
+#[cfg(feature = "proved")]
+mod linked {
+    extern "C" {
+        /// Slices are passed as a pointer and a length.
+        pub fn nll_analyse(
+            record: *const u8,
+            record_len: usize,
+            words: *mut u32,
+            words_len: usize,
+            bytes: *mut u8,
+            bytes_len: usize,
+        ) -> u8;
+    }
+}
+
+#[cfg(feature = "proved")]
+impl Engine for Proved {
+    fn call(&mut self, record: &[u8], words: &mut [u32], bytes: &mut [u8]) -> Outcome {
+        // each pointer comes with the length of the slice that it points to
+        let number = unsafe {
+            linked::nll_analyse(
+                record.as_ptr(),
+                record.len(),
+                words.as_mut_ptr(),
+                words.len(),
+                bytes.as_mut_ptr(),
+                bytes.len(),
+            )
+        };
+        Outcome::Number(number)
+    }
+}
