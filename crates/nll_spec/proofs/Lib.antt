@@ -14,3 +14,7 @@ pub mod OutputLaws
 pub mod RegionLaws
 pub mod ScopeLaws
 pub mod MeaningLaws
+pub mod HolderLaws
+pub mod VerdictLaws
+pub mod MeansLaws
+pub mod GuaranteeLaws

@@ -182,7 +182,7 @@ module _ (ends : EndRule) (j : Job) (regions-named : (k : ℕ) → k < length (c
 -- ---- In an accepted job
 
 module _ (ends : EndRule) (j : Job) (ok : Accepted j) where
-  both-named : (c : Outlives) → Member c (constraintsOf j (graphOf j)) → (c .sup < j .regions) × (c .sub < j .regions)
+  pub both-named : (c : Outlives) → Member c (constraintsOf j (graphOf j)) → (c .sup < j .regions) × (c .sub < j .regions)
   both-named c m = (ltb→lt (c .sup) (j .regions) (and-left (ltb (c .sup) (j .regions)) (ltb (c .sub) (j .regions)) t), ltb→lt (c .sub) (j .regions) (and-right (ltb (c .sup) (j .regions)) (ltb (c .sub) (j .regions)) t))
     where
       t : T (isNamed j c)

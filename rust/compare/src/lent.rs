@@ -17,26 +17,33 @@ impl Lent {
         }
     }
 
-    /// Buffers for a record: mostly an exact fit or somewhat longer, at times one of them too short.
-    pub fn for_record(rng: &mut Rng, record: &[u8]) -> Lent {
-        let (words, bytes) = match model::accept(record) {
-            Ok(job) => model::output::needs(&job),
-            Err(_) => (3, 5),
-        };
-        let (words, bytes) = match rng.below(40) {
-            0 => (words.saturating_sub(1), bytes),
-            1 => (words, bytes.saturating_sub(1)),
-            2 => (words.saturating_sub(1), bytes.saturating_sub(1)),
-            3 => (0, bytes + 1),
-            4..=19 => (words, bytes),
-            _ => (words + rng.below(4), bytes + rng.below(6)),
+    /// Buffers that are long enough: an exact fit or somewhat longer.
+    pub fn long_enough(rng: &mut Rng, record: &[u8]) -> Lent {
+        let (words, bytes) = needs(record);
+        let (more_words, more_bytes) = if rng.chance(40) { (0, 0) } else { (rng.below(4), rng.below(6)) };
+        Lent::filled(rng, words + more_words, bytes + more_bytes)
+    }
+
+    /// Buffers of which at least one is too short for an accepted record, most by one.
+    pub fn too_short(rng: &mut Rng, record: &[u8]) -> Lent {
+        let (words, bytes) = needs(record);
+        let (words, bytes) = match rng.below(4) {
+            0 if words > 0 => (words - 1, bytes + 1),
+            1 if words > 0 => (words - 1, bytes - 1),
+            2 => (words + 1, 0),
+            _ => (words + 1, bytes - 1),
         };
         Lent::filled(rng, words, bytes)
     }
 
     /// Buffers that are long enough, all zero.
     pub fn exact(record: &[u8]) -> Lent {
-        let (words, bytes) = model::accept(record).map_or((0, 0), |job| model::output::needs(&job));
+        let (words, bytes) = if model::accept(record).is_ok() { needs(record) } else { (0, 0) };
         Lent { words: vec![0; words], bytes: vec![0; bytes] }
     }
+}
+
+/// What an accepted record needs, and some words and bytes for a refused one.
+fn needs(record: &[u8]) -> (usize, usize) {
+    model::accept(record).map_or((3, 5), |job| model::output::needs(&job))
 }

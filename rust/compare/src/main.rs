@@ -4,7 +4,8 @@ use compare::engine::named;
 use compare::shrink::shrink;
 use compare::trial::Trial;
 use compare::{bytes_of, hex, recorded, speed};
-use generate::jobs::LARGEST;
+use generate::jobs::{dense, LARGEST};
+use generate::rng::Rng;
 use std::process::exit;
 use std::time::Instant;
 
@@ -12,8 +13,10 @@ const USAGE: &str = "usage:
   compare FIRST SECOND [ACCEPTED DAMAGED [SEED]]   compare two engines: original, answering, model (or proved)
   compare one FIRST SECOND HEX                     the same on one record
   compare speed [COUNT [SEED]]                     time the original on the largest records
+  compare speed-dense NODES..                      the same on records that are much work
   compare record FILE                              write the recorded answers
-  compare answers HEX..                            print the number, words and bytes of records, by the model";
+  compare answers                                  read records, one to a line in hexadecimal, and print what is
+                                                   recorded of each: the number, the words, the bytes";
 
 fn main() {
     let words: Vec<String> = std::env::args().skip(1).collect();
@@ -25,6 +28,12 @@ fn main() {
             speed::measure(&records);
             true
         }
+        ["speed-dense", ref nodes @ ..] => {
+            let nodes = (0..nodes.len()).map(|index| number(nodes, index, 0));
+            let records: Vec<_> = nodes.map(|nodes| dense(&mut Rng::new(1), nodes as usize)).collect();
+            speed::measure(&records);
+            true
+        }
         ["record", file] => {
             let entries = recorded::entries();
             let bytes = recorded::write(&entries);
@@ -32,8 +41,9 @@ fn main() {
             println!("{} records, {} bytes", entries.len(), bytes.len());
             true
         }
-        ["answers", ref records @ ..] => {
-            records.iter().for_each(|record| print_answer(&bytes_of(record).unwrap_or_else(|| usage())));
+        ["answers"] => {
+            let lines = std::io::stdin().lines().map(|line| line.expect("a line of text"));
+            lines.for_each(|line| print_entry(&recorded::entry(bytes_of(&line).unwrap_or_else(|| usage()))));
             true
         }
         ["one", first, second, record] => {
@@ -101,10 +111,12 @@ fn disagree(first: &str, second: &str, record: &[u8]) -> bool {
     (0..8).any(|seed| !Trial::new(&mut *first, &mut *second, seed).record(record))
 }
 
-fn print_answer(record: &[u8]) {
-    let mut lent = compare::lent::Lent::exact(record);
-    let number = model::analyse(record, &mut lent.words, &mut lent.bytes);
-    let words: Vec<String> = lent.words.iter().map(u32::to_string).collect();
-    let bytes: Vec<String> = lent.bytes.iter().map(u8::to_string).collect();
-    println!("{number} [{}] [{}]", words.join(","), bytes.join(","));
+fn print_entry(entry: &recorded::Entry) {
+    println!("{} {} {}", entry.number, listed(&entry.words), listed(&entry.bytes));
+}
+
+/// Numbers with commas between them, in brackets.
+fn listed<T: ToString>(numbers: &[T]) -> String {
+    let numbers: Vec<String> = numbers.iter().map(T::to_string).collect();
+    format!("[{}]", numbers.join(","))
 }

@@ -26,7 +26,7 @@ pub fn entries() -> Vec<Entry> {
 
 /// What the original says of an accepted record; the answering build where the original asserts at
 /// action 0; the model's number where the record is refused.
-fn entry(record: Vec<u8>) -> Entry {
+pub fn entry(record: Vec<u8>) -> Entry {
     let mut lent = Lent::exact(&record);
     let mut call = |engine: &mut dyn Engine| engine.call(&record, &mut lent.words, &mut lent.bytes);
     let number = match call(&mut Original::new()) {

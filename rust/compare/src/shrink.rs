@@ -33,7 +33,9 @@ fn smaller_jobs(job: &Job) -> Vec<Job> {
             with(&|job| job.blocks[b].actions[a] = Action::Noop);
         }
         for s in 0..block.successors.len() {
-            with(&|job| drop(job.blocks[b].successors.remove(s)));
+            with(&|job| {
+                job.blocks[b].successors.remove(s);
+            });
         }
     }
     with(&|job| drop(job.variables.pop()));

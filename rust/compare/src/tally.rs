@@ -5,7 +5,7 @@ use std::collections::BTreeMap;
 #[derive(Default)]
 pub struct Tally {
     pub records: u64,
-    /// By the number that the second engine returned.
+    /// Calls by the number that the second engine returned.
     pub numbers: BTreeMap<u8, u64>,
     pub with_fault: u64,
     /// A loan is in scope somewhere, and there is no fault.
@@ -31,14 +31,14 @@ impl Tally {
     pub fn print(&self, family: &str, seconds: f64) {
         println!("{family}: {} records, {seconds:.0} s", self.records);
         for (number, count) in &self.numbers {
-            println!("  number {number}: {count}");
+            println!("  number {number}: {count} calls");
         }
         println!("  accepted: {} with a fault, {} with loans in scope and no fault, {} without loans in scope, {} with a grown region",
             self.with_fault, self.loans_without_fault, self.without_loans, self.with_grown);
         for (kind, count) in &self.fault_kinds {
             println!("  faults of kind {kind}: {count}");
         }
-        println!("  compared: {}, by the answering build: {}, not judged: {}", self.compared, self.compared_by_answering, self.not_judged);
+        println!("  calls compared: {}, by the answering build: {}, not judged by the first engine: {}", self.compared, self.compared_by_answering, self.not_judged);
         for (message, count) in &self.panics {
             println!("  panics: {count} of {message}");
         }

@@ -23,10 +23,15 @@ impl<'e> Trial<'e> {
         Trial { first, second, answering: Answering::new(), try_refused: false, rng: Rng::new(seed), tally: Tally::default() }
     }
 
-    /// Compares the engines on a record, and tells whether they agree.
+    /// Compares the engines on a record, and tells whether they agree: with long enough buffers, and
+    /// at times with too short ones as well.
     pub fn record(&mut self, record: &[u8]) -> bool {
-        let before = Lent::for_record(&mut self.rng, record);
-        let agree = self.with(record, &before);
+        let before = Lent::long_enough(&mut self.rng, record);
+        let mut agree = self.with(record, &before);
+        if self.rng.chance(6) {
+            let before = Lent::too_short(&mut self.rng, record);
+            agree &= self.with(record, &before);
+        }
         if !agree {
             self.tally.disagreements.push(record.to_vec());
         }

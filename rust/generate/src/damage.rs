@@ -68,6 +68,9 @@ fn damage_job(rng: &mut Rng, job: &Job) -> Vec<u8> {
 }
 
 fn change_job(rng: &mut Rng, job: &mut Job) {
+    if rng.chance(1) {
+        return about_the_limits_of_5(rng, job);
+    }
     match rng.below(10) {
         0 => change_counts(rng, job),
         1 => change_field(rng, job),
@@ -84,6 +87,21 @@ fn change_counts(rng: &mut Rng, job: &mut Job) {
         1 => drop(job.variables.pop()),
         2 => drop(job.structs.pop()),
         _ => job.outlives.push(vec![]),
+    }
+}
+
+/// Nearly 1,024 points, or nearly 128 borrows.
+fn about_the_limits_of_5(rng: &mut Rng, job: &mut Job) {
+    let borrow = job.actions().find(|action| matches!(action, Action::Borrow(..))).cloned();
+    let (action, wanted) = match borrow {
+        Some(borrow) if rng.chance(50) => (borrow, rng.between(126, 130)),
+        _ => (Action::Noop, rng.between(1_022, 1_026) - job.points().min(1_000)),
+    };
+    let mut left = wanted;
+    while left > 0 && job.blocks.len() < 64 {
+        let actions = left.saturating_sub(1).min(63);
+        job.blocks.push(Block { successors: vec![0], actions: vec![action.clone(); actions] });
+        left -= actions + 1;
     }
 }
 

@@ -45,7 +45,7 @@ pub const LARGEST: Size = Size {
 
 /// A size, the smaller ones more often.
 pub fn any_size(rng: &mut Rng) -> Size {
-    match rng.weighted(&[200, 520, 270, 10]) {
+    match rng.weighted(&[180, 470, 335, 15]) {
         0 => TINY,
         1 => SMALL,
         2 => MEDIUM,
@@ -102,11 +102,19 @@ fn variable_types(rng: &mut Rng, size: &Size, structs: &[StructDecl], regions: R
     let mut found = vec![];
     while found.len() < count {
         let mut ty = rng.pick(&shapes).clone();
-        for _ in 0..rng.weighted(&[40, 50, 10]) {
+        for _ in 0..rng.weighted(&[35, 55, 10]) {
             ty = Ty::Ref(types::borrow_kind(rng), Region::Free(0), Box::new(ty));
         }
         if ty.nodes() <= MAX_NODES {
             found.push(with_other_regions(rng, &ty, regions));
+        }
+    }
+    if count > 1 && rng.chance(80) {
+        // some variable can be borrowed by another
+        let referent = with_other_regions(rng, &found[0], regions);
+        let reference = Ty::Ref(types::borrow_kind(rng), Region::Free(regions.pick(rng)), Box::new(referent));
+        if reference.nodes() <= MAX_NODES {
+            found[1] = reference;
         }
     }
     found
@@ -125,6 +133,35 @@ fn outlives(rng: &mut Rng, declared: usize) -> Vec<Vec<RegionName>> {
             outlived
         })
         .collect()
+}
+
+/// A job that is much work: 64 blocks in a loop, all full, and variables that are chains of Mut Refs
+/// with so many nodes, most of which are assigned to each other. Each assignment relates all regions both ways.
+pub fn dense(rng: &mut Rng, nodes: usize) -> Vec<u8> {
+    let (regions, variables, blocks) = (128, 64, 64);
+    let chain = |rng: &mut Rng| {
+        let reference = |ty, _| Ty::Ref(BorrowKind::Mut, Region::Free(rng.below(regions)), Box::new(ty));
+        (1..nodes).fold(Ty::Unit, reference)
+    };
+    let action = |rng: &mut Rng| {
+        let (dest, source) = (rng.below(variables), rng.below(variables));
+        match rng.below(10) {
+            0 => Action::Use(Path::variable(dest)),
+            _ => Action::Assign(Path::variable(dest), Path::variable(source)),
+        }
+    };
+    let block = |rng: &mut Rng, index: usize| Block {
+        successors: vec![(index + 1) % blocks, rng.below(blocks)],
+        actions: (0..14).map(|_| action(rng)).collect(),
+    };
+    let job = Job {
+        structs: vec![],
+        regions,
+        outlives: vec![vec![]; 16],
+        variables: (0..variables).map(|_| chain(rng)).collect(),
+        blocks: (0..blocks).map(|index| block(rng, index)).collect(),
+    };
+    model::encode::encode(&job).expect("a short record")
 }
 
 /// What the actions of one job are drawn from.
@@ -243,8 +280,11 @@ impl<'a> Actions<'a> {
 
 /// Mostly the next block, with branches, loops, leaves and blocks that nothing leads to.
 fn successors(rng: &mut Rng, index: usize, count: usize) -> Vec<BlockIndex> {
-    let wanted = rng.weighted(&[12, 55, 24, 4, 1, 1, 1, 1, 1]);
+    let last = index + 1 == count;
+    // fewer leaves among many blocks, so that most of them are walked
+    let leaf = if last { 150 } else { 1 + 40 / count };
+    let wanted = rng.weighted(&[leaf, 55, 24, 4, 1, 1, 1, 1, 1]);
     (0..wanted)
-        .map(|_| if index + 1 < count && rng.chance(60) { index + 1 } else { rng.below(count) })
+        .map(|_| if !last && rng.chance(60) { index + 1 } else { rng.below(count) })
         .collect()
 }
