@@ -1,7 +1,7 @@
 -- Demand 3: `guarantee`, for either end rule. It follows from what the written words and bytes mean: the borrow's region has the whole path, so the loan
 -- stays in scope on it until it is overwritten, and a conflict there would be a fault.
 -- Assumes nothing.
-use mathlib.Core.Path.{_≡_, refl, sym, _∙_, subst}
+use mathlib.Core.Path.{_≡_, refl, sym, subst}
 use mathlib.Core.Logic.{_⊎_, inl, inr}
 use mathlib.Core.Bool.{Bool, true, false, _&&_, _||_, not}
 use mathlib.Core.List.{List, [], _∷_}
@@ -15,7 +15,7 @@ use Rattle.nll_spec.specs.Regions.{EndRule}
 use Rattle.nll_spec.specs.Loans.{Loan, kills}
 use Rattle.nll_spec.specs.Access.{Access, accesses, conflicts, actionConflicts}
 use Rattle.nll_spec.specs.Output.{analyse}
-use Rattle.nll_spec.specs.Meaning.{Reached, Sets, LoanOf, ScopePath, first, more, Faulted, setsIn, verdictIn, Means}
+use Rattle.nll_spec.specs.Meaning.{Sets, LoanOf, ScopePath, first, more, setsIn, verdictIn, Means}
 use Rattle.nll_spec.specs.Guarantee.{isPath, untouched, Guarantee}
 use Rattle.nll_spec.proofs.Tests.{and-intro, and-left, and-right}
 use Rattle.nll_spec.proofs.Members.{any-element}

@@ -1,11 +1,12 @@
+-- Laws and theorems over the definitions. The demands' theorems: `OutputLaws.refuses` (1), `MeansLaws.answers-mean` (2), `GuaranteeLaws.guarantee` (3).
 pub mod Tests
 pub mod Lookup
 pub mod Members
 pub mod Least
+pub mod MonotoneLaws
 pub mod GraphLaws
 pub mod AcceptedLaws
 pub mod TypeLaws
-pub mod MonotoneLaws
 pub mod SeedLaws
 pub mod WordLaws
 pub mod DecodeLaws
@@ -13,8 +14,7 @@ pub mod Names
 pub mod OutputLaws
 pub mod RegionLaws
 pub mod ScopeLaws
-pub mod MeaningLaws
-pub mod HolderLaws
 pub mod VerdictLaws
 pub mod MeansLaws
+pub mod HolderLaws
 pub mod GuaranteeLaws

@@ -1,6 +1,6 @@
 -- Demand 2: what an accepting call writes means what document 01 says, `answers-mean`, for either end rule. And the facts of an accepted record, `accepted-record`.
 -- Assumes nothing.
-use mathlib.Core.Path.{_≡_, refl, sym, _∙_, subst, ap, fun-ext}
+use mathlib.Core.Path.{_≡_, refl, sym, _∙_, subst, fun-ext}
 use mathlib.Core.Logic.{_↔_}
 use mathlib.Core.Bool.{Bool, true, false, _&&_, not}
 use mathlib.Core.List.{List}
@@ -24,7 +24,7 @@ use Rattle.nll_spec.proofs.AcceptedLaws.{Accepted, accepted-job}
 use Rattle.nll_spec.proofs.SeedLaws.{seed-table, table-seed}
 use Rattle.nll_spec.proofs.Names.{setsOf}
 use Rattle.nll_spec.proofs.OutputLaws.{Written, written, sized-sets, sets-written, unused-zero, verdict-written, grown-written}
-use Rattle.nll_spec.proofs.MeaningLaws.{both-named, table-least, least-same}
+use Rattle.nll_spec.proofs.RegionLaws.{both-named, table-least, least-same}
 use Rattle.nll_spec.proofs.VerdictLaws.{judged-fault, scope-reached, verdict-judged}
 
 bit-set : (b : Bool) → bit b ≡ 1 → T b

@@ -1,99 +1,33 @@
--- The regions' sets contain their seeds and are closed under every constraint.
+-- The regions' sets: the computed table contains its seeds, meets every constraint and is the least that does, `table-least`; under `heldEnds` the sets lie
+-- within those under `everyEnd`.
 -- Assumes nothing.
-use mathlib.Core.Path.{_≡_, sym, subst}
-use mathlib.Core.Bool.{Bool, true, false, _&&_, _||_, not, cond}
-use mathlib.Core.List.{List, [], _∷_}
+use mathlib.Core.Path.{_≡_, sym, subst, refl, ap}
+use mathlib.Core.Bool.{Bool, _&&_, _||_, cond}
+use mathlib.Core.List.{List}
 use Prim.Native.Nat.{ℕ, _+_, _-_, _<_, _≤_}
 use native.Mathlib.Omega.{arith}
 use lib.ListN.{length, getD}
-use lib.Dec.{T, eqb, eqb-refl, ltb, leb, lt→ltb, ltb→lt, le→leb}
+use lib.Dec.{T, eqb, eqb-refl, ltb, leb, ltb→lt, le→leb, eqb→eq, leb→le}
 use borrow.Author.Tests.{lt-ltb, le-ltb}
-use Rattle.nll_spec.specs.Lists.{any, anyFrom, every, contains, below, belowDown}
+use Rattle.nll_spec.specs.Lists.{any, anyFrom, contains, below, Member}
 use Rattle.nll_spec.specs.Fixpoint.{Table, Rule, holds, least}
-use Rattle.nll_spec.specs.Syntax.{Job, Point, Variable, RegionName}
-use Rattle.nll_spec.specs.Types.{variableType, regionsOf}
-use Rattle.nll_spec.specs.Graph.{Graph, graphOf, actionAt, nextOf, predsOf, isWalked}
-use Rattle.nll_spec.specs.Liveness.{uses, drops, defs, liveRule, liveTable}
+use Rattle.nll_spec.specs.Syntax.{Job, Point, RegionName}
+use Rattle.nll_spec.specs.Graph.{Graph, graphOf, predsOf}
 use Rattle.nll_spec.specs.Constraints.{Outlives, constraintsOf}
-use Rattle.nll_spec.specs.Regions.{EndRule, passesEnd, outlivesTable, hasLive, seedTable, regionRule, adds, visits, noConstraint, isExit, dropRegions, solve}
+use Rattle.nll_spec.specs.Regions.{EndRule, passesEnd, seedTable, regionRule, adds, visits, noConstraint, isExit, solve, everyEnd, heldEnds}
 use Rattle.nll_spec.proofs.Names.{setsOf}
-use Rattle.nll_spec.proofs.Tests.{cond-true, cond-false, and-intro, and-left, and-right, or-left, or-right, contains-below, contains-belowDown, length-countFrom, length-belowDown, any-of}
-use Rattle.nll_spec.proofs.Lookup.{holds-tabulate, holds-take, anyFrom-at}
-use Rattle.nll_spec.proofs.Least.{least-closed, held-inside, sized-tabulate}
-use Rattle.nll_spec.proofs.GraphLaws.{code-in-points, next→preds, next-is-code}
-
--- ---- Paths
-
--- the points follow one another from p on
-abbrev pub PathFrom : Graph → Point → List Point → Type 0
-PathFrom g p [] = Unit {0}
-PathFrom g p (q ∷ qs) = T (contains (nextOf g p) q) × (q < g .code) × PathFrom g q qs
-
-path-code : (g : Graph) (p : Point) (qs : List Point) → PathFrom g p qs → T (every (λ q. ltb q (g .code)) qs)
-path-code g p [] h = tt
-path-code g p (q ∷ qs) h = and-intro (ltb q (g .code)) (every (λ (r : Point). ltb r (g .code)) qs) (lt→ltb q (g .code) (h .1)) (path-code g q qs (h .2))
-
--- ---- Liveness
-
-module _ (j : Job) where
-  live-closed : (v : Variable) (p : Point) → v < length (j .variables) → p < graphOf j .code
-      → T (liveRule uses (graphOf j) (liveTable uses j (graphOf j)) v p) → T (holds (liveTable uses j (graphOf j)) v p)
-  unfolding liveTable
-  live-closed v p hv hp h =
-      least-closed (liveRule uses (graphOf j)) (length (j .variables)) (belowDown (graphOf j .code)) v p hv (contains-belowDown (graphOf j .code) p hp) (rw length-belowDown hp) h
-
-  -- a variable is live where it is used
-  pub live-use : (v : Variable) (p : Point) → v < length (j .variables) → p < graphOf j .code → T (contains (uses (actionAt (graphOf j) p)) v)
-      → T (holds (liveTable uses j (graphOf j)) v p)
-  live-use v p hv hp h =
-      live-closed v p hv hp
-      (or-left (contains (uses (actionAt (graphOf j) p)) v)
-      (not (contains (defs (actionAt (graphOf j) p)) v) && any (holds (liveTable uses j (graphOf j)) v) (nextOf (graphOf j) p)) h)
-
-  -- and where it is not replaced and live next
-  pub live-before : (v : Variable) (p q : Point) → v < length (j .variables) → T (not (contains (defs (actionAt (graphOf j) p)) v))
-      → T (contains (nextOf (graphOf j) p) q) → T (holds (liveTable uses j (graphOf j)) v q) → T (holds (liveTable uses j (graphOf j)) v p)
-  live-before v p q hv kept h live =
-      live-closed v p hv (next-is-code j p q h)
-      (or-right (contains (uses (actionAt (graphOf j) p)) v)
-      (not (contains (defs (actionAt (graphOf j) p)) v) && any (holds (liveTable uses j (graphOf j)) v) (nextOf (graphOf j) p))
-      (and-intro (not (contains (defs (actionAt (graphOf j) p)) v)) (any (holds (liveTable uses j (graphOf j)) v) (nextOf (graphOf j) p)) kept
-      (any-of (holds (liveTable uses j (graphOf j)) v) (nextOf (graphOf j) p) q h live)))
-
-  -- ---- Seeds
-
-  -- a region in the type of a variable that is live at a walked point has the point in its seed
-  pub seed-live : (r : RegionName) (v : Variable) (p : Point) → r < j .regions → v < length (j .variables) → p < graphOf j .code → T (isWalked (graphOf j) p)
-      → T (holds (liveTable uses j (graphOf j)) v p) → T (contains (regionsOf (variableType j v)) r) → T (holds (seedTable j (graphOf j)) r p)
-  unfolding seedTable
-  seed-live r v p hr hv hp walked live has =
-      subst T (sym (holds-tabulate (j .regions) (graphOf j .points) fill r p hr (code-in-points j p hp))) (go (ltb r (length (j .outlives))))
-    where
-      declared : ℕ → ℕ → Bool
-      declared r p = isWalked (graphOf j) p || leb (graphOf j .code) p && holds (outlivesTable j) r (p - graphOf j .code)
-
-      other : ℕ → ℕ → Bool
-      other r p = isWalked (graphOf j) p && any (λ (v : Variable). hasLive j (liveTable uses j (graphOf j)) (liveTable drops j (graphOf j)) r p v) (below (length (j .variables)))
-
-      fill : ℕ → ℕ → Bool
-      fill r p = cond (ltb r (length (j .outlives))) (declared r p) (other r p)
-
-      go : (b : Bool) → T (cond b (declared r p) (other r p))
-      go true = or-left (isWalked (graphOf j) p) (leb (graphOf j .code) p && holds (outlivesTable j) r (p - graphOf j .code)) walked
-      go false = and-intro (isWalked (graphOf j) p) (any has-it (below (length (j .variables)))) walked (any-of has-it (below (length (j .variables))) v (contains-below (length (j .variables)) v hv) here)
-        where
-          has-it : Variable → Bool
-          has-it v = hasLive j (liveTable uses j (graphOf j)) (liveTable drops j (graphOf j)) r p v
-
-          here : T (has-it v)
-          here =
-              or-left (holds (liveTable uses j (graphOf j)) v p && contains (regionsOf (variableType j v)) r)
-              (holds (liveTable drops j (graphOf j)) v p && contains (dropRegions (variableType j v) (j .structs)) r)
-              (and-intro (holds (liveTable uses j (graphOf j)) v p) (contains (regionsOf (variableType j v)) r) live has)
-
-  pub seed-inside : (r q : ℕ) → T (holds (seedTable j (graphOf j)) r q) → q < graphOf j .points
-  unfolding seedTable
-  seed-inside r q h = held-inside (seedTable j (graphOf j)) r q (sized-tabulate (j .regions) (graphOf j .points) _) h .1
+use Rattle.nll_spec.proofs.Tests.{cond-true, cond-false, and-intro, and-left, and-right, or-left, or-right, contains-below, length-countFrom, any-of, below-contains, or-cases, any-found}
+use Rattle.nll_spec.proofs.Lookup.{holds-take, anyFrom-at, anyFrom-found}
+use Rattle.nll_spec.proofs.Least.{least-closed, held-inside, least-ind, sized-least}
+use Rattle.nll_spec.proofs.SeedLaws.{seed-points}
+use Rattle.nll_spec.proofs.GraphLaws.{next→preds, preds→next, next-in-code}
+use mathlib.Core.Logic.{_⊎_, inl, inr, _↔_}
+use Rattle.nll_spec.specs.WellFormed.{successorsNamed}
+use Rattle.nll_spec.specs.Meaning.{Sets, Walk, begin, go-on, Meets, LeastSolution}
+use Rattle.nll_spec.proofs.Members.{member-place, place-member, every-member}
+use Rattle.nll_spec.proofs.AcceptedLaws.{Accepted}
+use Rattle.nll_spec.proofs.TypeLaws.{isNamed, constraints-good}
+use Rattle.nll_spec.proofs.MonotoneLaws.{Looser, looser-same, looser-every, rule-mono}
 
 -- ---- The sets
 
@@ -193,36 +127,208 @@ module _ (ends : EndRule) (j : Job) where
         same : k ≡ j .regions + k - j .regions
         same = omega arith
 
-    -- A path that the inner region holds is in the walk, once its start is.
-    walk : (p : Point) (qs : List Point) → T (holds fullTable (j .regions + k) p) → PathFrom (graphOf j) p qs → T (every (holds fullTable (c .sub)) qs)
-        → T (every (holds fullTable (j .regions + k)) qs)
-    walk p [] h path inner = tt
-    walk p (q ∷ qs) h path inner =
-        let there : T (holds fullTable (j .regions + k) q)
-        = visit q (code-in-points j q (path .1)) (and-left (holds fullTable (c .sub) q) (every (holds fullTable (c .sub)) qs) inner)
-        (or-right (eqb q (c .point)) (any (holds fullTable (j .regions + k)) (predsOf (graphOf j) q))
-        (any-of (holds fullTable (j .regions + k)) (predsOf (graphOf j) q) p (next→preds j p q (path .0) (path .1)) h)) in
-        and-intro (holds fullTable (j .regions + k) q) (every (holds fullTable (j .regions + k)) qs) there
-        (walk q qs there (path .2) (and-right (holds fullTable (c .sub) q) (every (holds fullTable (c .sub)) qs) inner))
+-- ---- Under the looser end rule the sets are larger
 
-    all-in : (qs : List Point) → c .sup < j .regions → T (every (λ q. ltb q (graphOf j .code)) qs) → T (every (holds fullTable (j .regions + k)) qs) → T (every (holds fullTable (c .sup)) qs)
-    all-in [] hs code h = tt
-    all-in (q ∷ qs) hs code h =
-        and-intro (holds fullTable (c .sup) q) (every (holds fullTable (c .sup)) qs)
-        (visited-in q hs (code-in-points j q (ltb→lt q (graphOf j .code) (and-left (ltb q (graphOf j .code)) (every (λ q. ltb q (graphOf j .code)) qs) code)))
-        (and-left (holds fullTable (j .regions + k) q) (every (holds fullTable (j .regions + k)) qs) h))
-        (all-in qs hs (and-right (ltb q (graphOf j .code)) (every (λ q. ltb q (graphOf j .code)) qs) code)
-        (and-right (holds fullTable (j .regions + k) q) (every (holds fullTable (j .regions + k)) qs) h))
+module _ (j : Job) (e e′ : EndRule) (loose : Looser e e′) where
+  full-within : (r q : ℕ) → T (holds (fullTable e j) r q) → T (holds (fullTable e′ j) r q)
+  full-within =
+      least-ind (regionRule e (graphOf j) (j .regions) (seedTable j (graphOf j)) (constraintsOf j (graphOf j))) (λ r q. T (holds (fullTable e′ j) r q))
+      (j .regions + length (constraintsOf j (graphOf j))) (below (graphOf j .points))
+      (λ t inside r q hr hq h.
+      least-closed (regionRule e′ (graphOf j) (j .regions) (seedTable j (graphOf j)) (constraintsOf j (graphOf j))) (j .regions + length (constraintsOf j (graphOf j))) (below (graphOf j .points)) r q hr hq
+      (rw length-countFrom (below-contains (graphOf j .points) q hq))
+      (rule-mono (graphOf j) (j .regions) (seedTable j (graphOf j)) (constraintsOf j (graphOf j)) e e′ loose t (fullTable e′ j) inside r q h))
 
-    -- "S outlives T at p": each path from p that T holds is in S.
-    pub constraint-closed : (p : Point) (qs : List Point) → c .sup < j .regions → c .point ≡ p → p < graphOf j .code → PathFrom (graphOf j) p qs
-        → T (every (holds fullTable (c .sub)) (p ∷ qs)) → T (every (holds fullTable (c .sup)) (p ∷ qs))
-    constraint-closed p qs hs at hp path inner =
-        all-in (p ∷ qs) hs (and-intro (ltb p (graphOf j .code)) (every (λ q. ltb q (graphOf j .code)) qs) (lt→ltb p (graphOf j .code) hp) (path-code (graphOf j) p qs path))
-        (and-intro (holds fullTable (j .regions + k) p) (every (holds fullTable (j .regions + k)) qs) start
-        (walk p qs start path (and-right (holds fullTable (c .sub) p) (every (holds fullTable (c .sub)) qs) inner)))
+-- Region sets under `heldEnds` lie within those under `everyEnd`.
+pub held-within-every : (j : Job) (r : RegionName) (q : Point) → r < j .regions → T (holds (setsOf heldEnds j) r q) → T (holds (setsOf everyEnd j) r q)
+held-within-every j r q hr h =
+    subst T (sym (sets-full everyEnd j r q hr)) (full-within j heldEnds everyEnd (looser-every heldEnds) r q (subst T (sets-full heldEnds j r q hr) h))
+
+-- ---- The sets meet every constraint
+
+module _ (ends : EndRule) (j : Job) (valid : T (successorsNamed j)) where
+  full-points : (r q : ℕ) → T (holds (fullTable ends j) r q) → q < graphOf j .points
+  full-points r q h = subst (λ (n : ℕ). q < n) (length-countFrom 0 (graphOf j .points)) (held-inside (fullTable ends j) r q (sized-least _ _ (below (graphOf j .points))) h .1)
+
+  module _ (c : Outlives) (isin : (k : ℕ) × (k < length (constraintsOf j (graphOf j))) × (getD (constraintsOf j (graphOf j)) k noConstraint ≡ c)) (hs : c .sup < j .regions) (hb : c .sub < j .regions) where
+    visited : (q : Point) → Walk (graphOf j) (holds (setsOf ends j) (c .sub)) (c .point) q → T (holds (fullTable ends j) (j .regions + isin .0) q)
+    unfolding successorsNamed
+    visited q (begin h) =
+        visit ends j (isin .0) c (isin .1) (isin .2) (c .point) (full-points (c .sub) (c .point) (subst T (sets-full ends j (c .sub) (c .point) hb) h)) (subst T (sets-full ends j (c .sub) (c .point) hb) h)
+        (or-left (eqb (c .point) (c .point)) (any (holds (fullTable ends j) (j .regions + isin .0)) (predsOf (graphOf j) (c .point))) (eqb-refl (c .point)))
+    visited q (go-on {p = p} w next h) =
+        visit ends j (isin .0) c (isin .1) (isin .2) q (full-points (c .sub) q (subst T (sets-full ends j (c .sub) q hb) h)) (subst T (sets-full ends j (c .sub) q hb) h)
+        (or-right (eqb q (c .point)) (any (holds (fullTable ends j) (j .regions + isin .0)) (predsOf (graphOf j) q))
+        (any-of (holds (fullTable ends j) (j .regions + isin .0)) (predsOf (graphOf j) q) p (next→preds j p q next (next-in-code j valid p q next)) (visited p w)))
+
+    pub sets-meet : Meets ends (graphOf j) (holds (setsOf ends j)) c
+    sets-meet =
+        record {
+          points = λ q w. subst T (sym (sets-full ends j (c .sup) q hs)) (visited-in ends j (isin .0) c (isin .1) (isin .2) q hs (full-points (j .regions + isin .0) q (visited q w)) (visited q w));
+          passed = λ q e w exit he hp pass. subst T (sym (sets-full ends j (c .sup) e hs))
+              (passed-in ends j (isin .0) c (isin .1) (isin .2) q e hs he hp exit (visited q w) (subst (λ (b : Bool). T (passesEnd ends b)) (sets-full ends j (c .sub) e hb) pass));
+        }
+
+-- ---- The sets are the least that contain the seeds and meet every constraint
+
+module _ (ends : EndRule) (j : Job) (regions-named : (k : ℕ) → k < length (constraintsOf j (graphOf j)) → getD (constraintsOf j (graphOf j)) k noConstraint .sub < j .regions) where
+  module _ (u : Sets) (seeded : (r : RegionName) (q : Point) → r < j .regions → T (holds (seedTable j (graphOf j)) r q) → T (u r q))
+      (met : (k : ℕ) → k < length (constraintsOf j (graphOf j)) → Meets ends (graphOf j) u (getD (constraintsOf j (graphOf j)) k noConstraint)) where
+    abbrev constraint : ℕ → Outlives
+    constraint k = getD (constraintsOf j (graphOf j)) k noConstraint
+
+    -- a region's bit is in u, and a point of a constraint's walk is reached by one through u
+    Bounded : ℕ → ℕ → Type 0
+    Bounded row q =
+        (row < j .regions → T (u row q))
+        × ((k : ℕ) → row ≡ j .regions + k → k < length (constraintsOf j (graphOf j)) → Walk (graphOf j) (u (constraint k .sub)) (constraint k .point) q)
+
+    bounded-row : (t : Table) → ((r c : ℕ) → T (holds t r c) → Bounded r c) → (row q : ℕ) → row < j .regions → q < graphOf j .points
+        → T (holds (seedTable j (graphOf j)) row q || anyFrom 0 (λ k c. eqb (c .sup) row && adds ends (graphOf j) (j .regions) t q k c) (constraintsOf j (graphOf j)))
+        → T (u row q)
+    unfolding Bounded
+    bounded-row t inside row q hr hq h = go (or-cases (holds (seedTable j (graphOf j)) row q) (anyFrom 0 test (constraintsOf j (graphOf j))) h)
       where
-        start : T (holds fullTable (j .regions + k) p)
-        start =
-            visit p (code-in-points j p hp) (and-left (holds fullTable (c .sub) p) (every (holds fullTable (c .sub)) qs) inner)
-            (or-left (eqb p (c .point)) (any (holds fullTable (j .regions + k)) (predsOf (graphOf j) p)) (subst (λ (x : Point). T (eqb p x)) (sym at) (eqb-refl p)))
+        test : ℕ → Outlives → Bool
+        test k c = eqb (c .sup) row && adds ends (graphOf j) (j .regions) t q k c
+
+        go : T (holds (seedTable j (graphOf j)) row q) ⊎ T (anyFrom 0 test (constraintsOf j (graphOf j))) → T (u row q)
+        go (inl s) = seeded row q hr s
+        go (inr a) = by (anyFrom-found noConstraint test 0 (constraintsOf j (graphOf j)) a)
+          where
+            by : (k : ℕ) × (k < length (constraintsOf j (graphOf j))) × T (test (0 + k) (getD (constraintsOf j (graphOf j)) k noConstraint)) → T (u row q)
+            by (k, l, w) =
+                subst (λ (r : RegionName). T (u r q)) (eqb→eq (constraint k .sup) row (and-left (eqb (constraint k .sup) row) (added (0 + k)) w))
+                (from (or-cases (holds t (j .regions + k) q) (ended k) (subst (λ (i : ℕ). T (added i)) (omega arith) (and-right (eqb (constraint k .sup) row) (added (0 + k)) w))))
+              where
+                exits : ℕ → Point → Bool
+                exits i p = isExit (graphOf j) p && holds t (j .regions + i) p
+
+                ended : ℕ → Bool
+                ended i = leb (graphOf j .code) q && passesEnd ends (holds t (constraint k .sub) q) && any (exits i) (below (graphOf j .code))
+
+                added : ℕ → Bool
+                added i = holds t (j .regions + i) q || ended i
+
+                walked : (p : Point) → T (holds t (j .regions + k) p) → Walk (graphOf j) (u (constraint k .sub)) (constraint k .point) p
+                walked p v = inside (j .regions + k) p v .1 k refl l
+
+                from : T (holds t (j .regions + k) q) ⊎ T (ended k) → T (u (constraint k .sup) q)
+                from (inl v) = met k l .points q (walked q v)
+                from (inr v) =
+                    met k l .passed (exit .0) q (walked (exit .0) (and-right (isExit (graphOf j) (exit .0)) (holds t (j .regions + k) (exit .0)) (exit .2)))
+                    (and-left (isExit (graphOf j) (exit .0)) (holds t (j .regions + k) (exit .0)) (exit .2))
+                    (leb→le (graphOf j .code) q (and-left (leb (graphOf j .code) q) (passesEnd ends (holds t (constraint k .sub) q)) front)) hq
+                    (looser-same ends (holds t (constraint k .sub) q) (u (constraint k .sub) q) (λ i. inside (constraint k .sub) q i .0 (regions-named k l))
+                    (and-right (leb (graphOf j .code) q) (passesEnd ends (holds t (constraint k .sub) q)) front))
+                  where
+                    front : T (leb (graphOf j .code) q && passesEnd ends (holds t (constraint k .sub) q))
+                    front = and-left (leb (graphOf j .code) q && passesEnd ends (holds t (constraint k .sub) q)) (any (exits k) (below (graphOf j .code))) v
+
+                    exit : (p : Point) × T (contains (below (graphOf j .code)) p) × T (exits k p)
+                    exit = any-found (exits k) (below (graphOf j .code)) (and-right (leb (graphOf j .code) q && passesEnd ends (holds t (constraint k .sub) q)) (any (exits k) (below (graphOf j .code))) v)
+
+    bounded-walk : (t : Table) → ((r c : ℕ) → T (holds t r c) → Bounded r c) → (k q : ℕ) → k < length (constraintsOf j (graphOf j))
+        → T (visits (graphOf j) (j .regions) t q k (constraint k)) → Walk (graphOf j) (u (constraint k .sub)) (constraint k .point) q
+    unfolding Bounded
+    bounded-walk t inside k q l h = go (or-cases (eqb q (constraint k .point)) (any (holds t (j .regions + k)) (predsOf (graphOf j) q)) (and-right (holds t (constraint k .sub) q) _ h))
+      where
+        held : T (u (constraint k .sub) q)
+        held = inside (constraint k .sub) q (and-left (holds t (constraint k .sub) q) (eqb q (constraint k .point) || any (holds t (j .regions + k)) (predsOf (graphOf j) q)) h) .0 (regions-named k l)
+
+        go : T (eqb q (constraint k .point)) ⊎ T (any (holds t (j .regions + k)) (predsOf (graphOf j) q)) → Walk (graphOf j) (u (constraint k .sub)) (constraint k .point) q
+        go (inl e) = subst (λ (x : Point). Walk (graphOf j) (u (constraint k .sub)) (constraint k .point) x) (sym at) (begin (subst (λ (x : Point). T (u (constraint k .sub) x)) at held))
+          where
+            at : q ≡ constraint k .point
+            at = eqb→eq q (constraint k .point) e
+        go (inr a) = go-on (inside (j .regions + k) (p .0) (p .2) .1 k refl l) (preds→next j (p .0) q (p .1)) held
+          where
+            p : (x : Point) × T (contains (predsOf (graphOf j) q) x) × T (holds t (j .regions + k) x)
+            p = any-found (holds t (j .regions + k)) (predsOf (graphOf j) q) a
+
+    bounded : (r q : ℕ) → T (holds (fullTable ends j) r q) → Bounded r q
+    unfolding Bounded
+    bounded =
+        least-ind (regionRule ends (graphOf j) (j .regions) (seedTable j (graphOf j)) (constraintsOf j (graphOf j))) Bounded
+        (j .regions + length (constraintsOf j (graphOf j))) (below (graphOf j .points)) keeps
+      where
+        keeps : (t : Table) → ((r c : ℕ) → T (holds t r c) → Bounded r c) → (row q : ℕ) → row < j .regions + length (constraintsOf j (graphOf j)) → T (contains (below (graphOf j .points)) q)
+            → T (regionRule ends (graphOf j) (j .regions) (seedTable j (graphOf j)) (constraintsOf j (graphOf j)) t row q) → Bounded row q
+        keeps t inside row q hr hq h = (below-row, walk-row)
+          where
+            inner : Bool
+            inner = holds (seedTable j (graphOf j)) row q || anyFrom 0 (λ k c. eqb (c .sup) row && adds ends (graphOf j) (j .regions) t q k c) (constraintsOf j (graphOf j))
+
+            outer : Bool
+            outer = visits (graphOf j) (j .regions) t q (row - j .regions) (constraint (row - j .regions))
+
+            below-row : row < j .regions → T (u row q)
+            below-row l = bounded-row t inside row q l (below-contains (graphOf j .points) q hq) (subst (λ (b : Bool). T (cond b inner outer)) (lt-ltb row (j .regions) l) h)
+
+            walk-row : (k : ℕ) → row ≡ j .regions + k → k < length (constraintsOf j (graphOf j)) → Walk (graphOf j) (u (constraint k .sub)) (constraint k .point) q
+            walk-row k e l =
+                bounded-walk t inside k q l
+                (subst (λ (i : ℕ). T (visits (graphOf j) (j .regions) t q i (constraint i))) same
+                (subst (λ (b : Bool). T (cond b inner outer)) (le-ltb row (j .regions) (omega arith)) h))
+              where
+                same : row - j .regions ≡ k
+                same = omega arith
+
+    pub sets-least : (r : RegionName) (q : Point) → r < j .regions → T (holds (setsOf ends j) r q) → T (u r q)
+    unfolding Bounded
+    sets-least r q hr h = bounded r q (subst T (sets-full ends j r q hr) h) .0 hr
+
+-- ---- In an accepted job
+
+module _ (ends : EndRule) (j : Job) (ok : Accepted j) where
+  pub both-named : (c : Outlives) → Member c (constraintsOf j (graphOf j)) → (c .sup < j .regions) × (c .sub < j .regions)
+  both-named c m = (ltb→lt (c .sup) (j .regions) (and-left (ltb (c .sup) (j .regions)) (ltb (c .sub) (j .regions)) t), ltb→lt (c .sub) (j .regions) (and-right (ltb (c .sup) (j .regions)) (ltb (c .sub) (j .regions)) t))
+    where
+      t : T (isNamed j c)
+      t = every-member (isNamed j) (constraintsOf j (graphOf j)) (constraints-good j ok) m
+
+  -- The table's sets are the least that contain the table's seeds and meet every constraint.
+  pub table-least : LeastSolution ends (graphOf j) (j .regions) (λ r q. T (holds (seedTable j (graphOf j)) r q)) (constraintsOf j (graphOf j)) (holds (setsOf ends j))
+  table-least =
+      record {
+        solves = record {
+          seeded = λ r q hr h. subst T (sym (sets-full ends j r q hr)) (seed-in ends j r q hr (seed-points j r q h) h);
+          met = λ c m. sets-meet ends j (ok .successors-named) c (member-place noConstraint m) (both-named c m .0) (both-named c m .1);
+        };
+        smallest = λ others s.
+            sets-least ends j (λ k l. both-named (getD (constraintsOf j (graphOf j)) k noConstraint) (place-member noConstraint (constraintsOf j (graphOf j)) k l) .1) others (s .seeded)
+            (λ k l. s .met (getD (constraintsOf j (graphOf j)) k noConstraint) (place-member noConstraint (constraintsOf j (graphOf j)) k l));
+      }
+
+-- ---- Other seeds and sets that say the same
+
+module _ (ends : EndRule) (g : Graph) (n : ℕ) (cs : List Outlives) (named : (c : Outlives) → Member c cs → (c .sup < n) × (c .sub < n)) where
+  -- sets that agree on the first n regions meet the same constraints
+  meets-same : (sets others : Sets) → ((r : RegionName) → r < n → sets r ≡ others r) → (c : Outlives) → Member c cs → Meets ends g sets c → Meets ends g others c
+  meets-same sets others same c m met =
+      record {
+        points = λ q w. there (c .sup) q (named c m .0) (met .points q (back q w));
+        passed = λ q e w exit he hp pass.
+            there (c .sup) e (named c m .0) (met .passed q e (back q w) exit he hp (subst (λ (b : Bool). T (passesEnd ends b)) (sym (at (c .sub) e (named c m .1))) pass));
+      }
+    where
+      at : (r : RegionName) (q : Point) → r < n → sets r q ≡ others r q
+      at r q h = ap (λ (s : Point → Bool). s q) (same r h)
+
+      there : (r : RegionName) (q : Point) → r < n → T (sets r q) → T (others r q)
+      there r q h t = subst T (at r q h) t
+
+      back : (q : Point) → Walk g (others (c .sub)) (c .point) q → Walk g (sets (c .sub)) (c .point) q
+      back q w = subst (λ (s : Point → Bool). Walk g s (c .point) q) (sym (same (c .sub) (named c m .1))) w
+
+  pub least-same : (seed seed′ : RegionName → Point → Type 0) (sets others : Sets) → ((r : RegionName) (q : Point) → r < n → seed r q ↔ seed′ r q)
+      → ((r : RegionName) → r < n → sets r ≡ others r) → LeastSolution ends g n seed cs sets → LeastSolution ends g n seed′ cs others
+  least-same seed seed′ sets others seeds same least =
+      record {
+        solves = record {
+          seeded = λ r q hr h. subst (λ (s : Point → Bool). T (s q)) (same r hr) (least .solves .seeded r q hr (seeds r q hr .1 h));
+          met = λ c m. meets-same sets others same c m (least .solves .met c m);
+        };
+        smallest = λ u s r q hr h.
+            least .smallest u (record { seeded = λ r′ q′ hr′ h′. s .seeded r′ q′ hr′ (seeds r′ q′ hr′ .0 h′); met = s .met }) r q hr (subst (λ (x : Point → Bool). T (x q)) (sym (same r hr)) h);
+      }

@@ -1,8 +1,8 @@
 -- The computed verdict at a point is that of document 01's words: a loan of a walked borrow, in scope by a path, that conflicts. `verdict-judged`,
 -- `judged-fault`.
 -- Assumes nothing.
-use mathlib.Core.Path.{_≡_, refl, sym, _∙_, subst, ap}
-use mathlib.Core.Logic.{_⊎_, inl, inr, _↔_}
+use mathlib.Core.Path.{_≡_, refl, sym, subst}
+use mathlib.Core.Logic.{_↔_}
 use mathlib.Core.Bool.{Bool, true, false, _&&_}
 use mathlib.Core.List.{List, [], _∷_}
 use Prim.Native.Nat.{ℕ, suc, _<_}
@@ -11,8 +11,8 @@ use lib.ListN.{length}
 use lib.Dec.{T, ltb→lt}
 use Rattle.nll_spec.specs.Lists.{any, select, contains, below, Member, here, there}
 use Rattle.nll_spec.specs.Fixpoint.{Table, holds}
-use Rattle.nll_spec.specs.Syntax.{BorrowKind, RegionName, Point, Path, Job}
-use Rattle.nll_spec.specs.Syntax.{Action, Noop, Init, Borrow, Assign, Constraint, Use, Drop, StorageDead}
+use Rattle.nll_spec.specs.Syntax.{RegionName, Point, Path, Job}
+use Rattle.nll_spec.specs.Syntax.{Action, Borrow}
 use Rattle.nll_spec.specs.WellFormed.{actionNamed, pathNamed, isRegion}
 use Rattle.nll_spec.specs.Graph.{graphOf, actionAt, isWalked}
 use Rattle.nll_spec.specs.Loans.{Loan, loanAt, loansOf, loanNumber, scopeTable}

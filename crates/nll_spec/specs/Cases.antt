@@ -3,7 +3,7 @@ use mathlib.Core.Bool.{Bool, true, false, _&&_, Bool·beq}
 use mathlib.Core.List.{List, [], _∷_}
 use Prim.Native.Nat.{ℕ}
 use Prim.Native.String.{String}
-use lib.ListN.{length, replicate}
+use lib.ListN.{replicate}
 use lib.Dec.{T, eqb}
 use Rattle.nll_spec.specs.Lists.{every, below}
 use Rattle.nll_spec.specs.Syntax.{Job, Path, Point}

@@ -19,7 +19,7 @@ use Rattle.nll_spec.specs.Meaning.{Reached, verdictIn}
 
 -- ---- Holders
 
--- A set of variables: 01's term for those that hold the loan.
+-- A set of variables. Holder is 01's term for a variable that holds the loan.
 abbrev pub Holders : Type 0
 Holders = Variable → Bool
 

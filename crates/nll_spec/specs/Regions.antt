@@ -99,6 +99,6 @@ regionRule ends g regions seeds cs t row q =
 unfoldable pub solve : EndRule → Job → Graph → Table → List Outlives → Table
 solve ends j g seeds cs = take (j .regions) (least (j .regions + length cs) (below (g .points)) (regionRule ends g (j .regions) seeds cs))
 
--- A declared region that exceeds its seed is grown.
+-- Grown is 01's term for a declared region that exceeds its seed.
 unfoldable pub isGrown : Graph → Table → Table → RegionName → Bool
 isGrown g seeds sets r = any (λ p. holds sets r p && not (holds seeds r p)) (below (g .points))

@@ -1,0 +1,110 @@
+#!/usr/bin/env python3
+"""mutants.py [NAME..]: shows that the comparison finds wrong models.
+
+Each mutant is one edit of the model's source, made in a temporary copy of this folder, where `compare original model` must then find
+a disagreement. Run it in rust/. NLL_ORIGINAL names the original's folder, as in a build."""
+import os, shutil, subprocess, sys, tempfile
+
+# name: (file of model/src, text, what stands there instead)
+MUTANTS = {
+    'Mut borrow read before written': ('access.rs', 'vec![(Access::Write, dest.clone()), (Access::MutBorrow, source.clone())]', 'vec![(Access::MutBorrow, source.clone()), (Access::Write, dest.clone())]'),
+    'a move is kind 4': ('access.rs', 'MOVE: u8 = 3', 'MOVE: u8 = 4'),
+    'StorageDead by intersection': ('access.rs', 'Access::MutBorrow | Access::Move => intersects(job, path, loan),\n            Access::Write | Access::StorageDead =>', 'Access::MutBorrow | Access::Move | Access::StorageDead => intersects(job, path, loan),\n            Access::Write =>'),
+    'Drop by freezing': ('access.rs', 'Access::MutBorrow | Access::Move => intersects(job, path, loan),\n            Access::Write | Access::StorageDead =>', 'Access::MutBorrow => intersects(job, path, loan),\n            Access::Write | Access::Move | Access::StorageDead =>'),
+    'a Mut borrow\'s source by freezing': ('access.rs', 'Access::MutBorrow | Access::Move => intersects(job, path, loan),\n            Access::Write | Access::StorageDead =>', 'Access::Move => intersects(job, path, loan),\n            Access::Write | Access::MutBorrow | Access::StorageDead =>'),
+    'a write by intersection': ('access.rs', 'Access::MutBorrow | Access::Move => intersects(job, path, loan),\n            Access::Write | Access::StorageDead =>', 'Access::MutBorrow | Access::Move | Access::Write => intersects(job, path, loan),\n            Access::StorageDead =>'),
+    'reads conflict with Shared': ('access.rs', 'loan.kind == BorrowKind::Mut && ', ''),
+    'no intersection by the loan\'s prefixes': ('access.rs', 'loan.path.is_prefix_of(path) || job.supporting_prefixes(loan.path).contains(path)', 'loan.path.is_prefix_of(path)'),
+    'no intersection by the path\'s prefixes': ('access.rs', 'loan.path.is_prefix_of(path) || job.supporting_prefixes(loan.path).contains(path)', 'job.supporting_prefixes(loan.path).contains(path)'),
+    'no freezing below the loan': ('access.rs', 'loan.path.is_prefix_of(path) || job.frozen_prefixes(loan.path).contains(path)', 'job.frozen_prefixes(loan.path).contains(path)'),
+    'loans conflict out of scope': ('access.rs', 'loan.in_scope[p] && access', 'access'),
+    'Assign overwrites nothing': ('loans.rs', ' | Action::Assign(dest, _)) => dest.is_prefix_of(path)', ') => dest.is_prefix_of(path)'),
+    'Borrow overwrites nothing': ('loans.rs', 'Action::Borrow(dest, ..) | Action::Init', 'Action::Init'),
+    'overwriting a longer path': ('loans.rs', 'dest.is_prefix_of(path)', '(dest.is_prefix_of(path) || path.is_prefix_of(dest))'),
+    'a borrow\'s own action kills no loan': ('loans.rs', 'if overwrites(graph.actions[p], path) {', 'if p != borrow && overwrites(graph.actions[p], path) {'),
+    'scope ignores the region': ('loans.rs', 'if region[next] && !in_scope[next]', 'if !in_scope[next]'),
+    'unreached blocks feed loans': ('loans.rs', 'for point in graph.walked_points() {', 'for point in 0..graph.actions.len() {'),
+    'a dropped Ref is live': ('liveness.rs', 'Ty::Unit | Ty::Ref(..) | Ty::Bound(_) => vec![],', 'Ty::Ref(..) => ty.regions(),\n        Ty::Unit | Ty::Bound(_) => vec![],'),
+    'drops need nothing': ('regions.rs', 'let dropped = drop_regions(job, ty);', 'let dropped: Vec<RegionName> = vec![];\n        let _ = drop_regions;'),
+    'drops need all': ('regions.rs', 'let dropped = drop_regions(job, ty);', 'let dropped = ty.regions();\n        let _ = drop_regions;'),
+    'region arguments never dangle': ('liveness.rs', '(Arg::Region(_), true) => vec![],', '(Arg::Region(region), true) => vec![region.name()],'),
+    'dangling type arguments are not looked into': ('liveness.rs', '(Arg::Ty(ty), true) => drop_regions(job, ty),', '(Arg::Ty(_), true) => vec![],'),
+    'a definition leaves the drop': ('liveness.rs', 'after(&live.dropped, &graph.successors[p]) & !effects[p].defined', 'after(&live.dropped, &graph.successors[p])'),
+    'a use is removed by the definition': ('liveness.rs', 'after(&live.used, &graph.successors[p]) & !effects[p].defined | effects[p].used', '(after(&live.used, &graph.successors[p]) | effects[p].used) & !effects[p].defined'),
+    'a stepped Borrow defines nothing': ('liveness.rs', 'Effect { defined: only(dest.base), used: only(source.base), ..nothing }', 'Effect { defined: if dest.is_plain() { only(dest.base) } else { 0 }, used: only(source.base), ..nothing }'),
+    'a stepped Borrow uses its base': ('liveness.rs', 'Effect { defined: only(dest.base), used: only(source.base), ..nothing }', 'written(dest, only(source.base))'),
+    'a stepped destination uses nothing': ('liveness.rs', 'used: sources | only(dest.base)', 'used: sources'),
+    'Init\'s sources are not used': ('liveness.rs', 'written(dest, bases(sources))', 'written(dest, bases(sources) & 0)'),
+    'supporting prefixes are the frozen ones': ('paths.rs', 'matches!(ty, Ty::Ref(BorrowKind::Shared, _, _))', 'matches!(ty, Ty::Ref(..))'),
+    'frozen prefixes are the supporting ones': ('paths.rs', '|ty| matches!(ty, Ty::Ref(..))', '|ty| matches!(ty, Ty::Ref(BorrowKind::Shared, _, _))'),
+    'Contra is not inverted': ('constraints.rs', 'Variance::Contra => param.inverted()', 'Variance::Contra => param'),
+    'In passes the parameter\'s variance': ('constraints.rs', 'Variance::Contra => param.inverted(),\n            Variance::In => Variance::In,', 'Variance::Contra => param.inverted(),\n            Variance::In => param,'),
+    'a Mut referent keeps the variance': ('constraints.rs', 'BorrowKind::Mut => Variance::In', 'BorrowKind::Mut => self'),
+    'a Shared referent is In': ('constraints.rs', 'BorrowKind::Shared => self', 'BorrowKind::Shared => Variance::In'),
+    'a Ref\'s region is not inverted': ('constraints.rs', 'self.regions(variance.inverted(), *region_a, *region_b)', 'self.regions(variance, *region_a, *region_b)'),
+    'a region argument is inverted again': ('constraints.rs', '(Arg::Region(a), Arg::Region(b)) => self.regions(variance, *a, *b)', '(Arg::Region(a), Arg::Region(b)) => self.regions(variance.inverted(), *a, *b)'),
+    'In makes one outlive the other': ('constraints.rs', '                self.outlives(a, b);\n                self.outlives(b, a);', '                self.outlives(a, b);'),
+    'Assign under Contra': ('constraints.rs', '.types(Variance::Co, &job.path_type(source)', '.types(Variance::Contra, &job.path_type(source)'),
+    'Borrow under Co': ('constraints.rs', '.types(Variance::Contra, &job.path_type(dest)', '.types(Variance::Co, &job.path_type(dest)'),
+    'Assign at its own point': ('constraints.rs', 'Relation { job, point: next, found }.types(Variance::Co', 'Relation { job, point: p, found }.types(Variance::Co'),
+    'Constraint at the next point': ('constraints.rs', 'sub: *sub, point: p }', 'sub: *sub, point: next }'),
+    'a borrow\'s source asks nothing': ('constraints.rs', 'for sup in supporting_regions(job, source) {', 'for sup in supporting_regions(job, source).into_iter().take(0) {'),
+    'only the last Ref of a borrow\'s source': ('constraints.rs', 'for sup in supporting_regions(job, source) {', 'for sup in supporting_regions(job, source).into_iter().take(1) {'),
+    'constraints of unreached blocks': ('constraints.rs', 'for p in graph.walked_points() {', 'for p in 0..graph.actions.len() {'),
+    'outlives is not transitive': ('regions.rs', 'pending.extend(&job.outlives[next]);', 'if next == region {\n                pending.extend(&job.outlives[next]);\n            }'),
+    'a declared region holds unreached points': ('regions.rs', 'for p in graph.walked_points() {\n            sets[region][p] = true;', 'for p in 0..graph.actions.len() {\n            sets[region][p] = true;'),
+    'the inner region is copied whole': ('regions.rs', 'for p in passed(graph, &sets[constraint.sub], constraint.point) {', 'let _ = passed(graph, &sets[constraint.sub], constraint.point);\n            for p in (0..graph.points).filter(|&p| sets[constraint.sub][p]).collect::<Vec<_>>() {'),
+    'the walk leaves out its first point': ('regions.rs', 'found.push(p);\n            ends', 'if p != start {\n                found.push(p);\n            }\n            ends'),
+    'no declared ends at a leaf': ('regions.rs', 'if ends {', 'if ends && false {'),
+    'only the ends that the inner region holds': ('regions.rs', '.map(|region| graph.declared_end(region)));', '.map(|region| graph.declared_end(region)).filter(|&p| inner[p]));'),
+    'one round': ('regions.rs', 'while changed {\n        changed = false;\n        for constraint', 'if changed {\n        changed = false;\n        for constraint'),
+    'nothing is grown': ('regions.rs', 'sets[region] != seeds[region]', 'sets[region] != seeds[region] && false'),
+    'the last of equal field numbers': ('types.rs', '.fields.iter().find(', '.fields.iter().rev().find('),
+    'bound indices from the front': ('types.rs', '&of[of.len() - 1 - index]', '&of[index]'),
+    'kinds exchanged': ('decode.rs', '&[BorrowKind::Mut, BorrowKind::Shared]', '&[BorrowKind::Shared, BorrowKind::Mut]'),
+    'variances exchanged': ('decode.rs', '[Variance::Co, Variance::Contra, Variance::In]', '[Variance::Contra, Variance::Co, Variance::In]'),
+    'sup and sub exchanged': ('decode.rs', 'Constraint { sup: self.number()?, sub: self.number()? }', 'Constraint { sub: self.number()?, sup: self.number()? }'),
+    'a grown byte left as it was': ('output.rs', 'bytes[2 * answer.points + region] = u8::from(grown);', 'bytes[2 * answer.points + region] |= u8::from(grown);'),
+    'unused bits left as they were': ('output.rs', 'row.fill(0);', 'for (p, _) in set.iter().enumerate() {\n            row[p / 32] &= !(1 << (p % 32));\n        }'),
+    'a row too few words': ('output.rs', 'let words_per_region = answer.points.div_ceil(32);', 'let words_per_region = (answer.points / 32).max(1);'),
+    'an exact fit is too short': ('output.rs', 'bytes.len() < bytes_needed', 'bytes.len() <= bytes_needed'),
+}
+
+
+def build_and_compare(folder, target):
+    """Whether the comparison finds a disagreement; none if the mutant does not build."""
+    env = dict(os.environ, CARGO_TARGET_DIR=target)
+    build = subprocess.run(['cargo', 'build', '--release', '-q', '-p', 'compare'], cwd=folder, env=env, capture_output=True, text=True)
+    if build.returncode != 0:
+        print(build.stderr)
+        return None
+    return subprocess.run([f'{target}/release/compare', 'original', 'model', '6000', '3000'], capture_output=True).returncode != 0
+
+
+def main():
+    os.environ.setdefault('NLL_ORIGINAL', os.path.abspath('../../shared/docs/src'))
+    wanted = sys.argv[1:] or list(MUTANTS)
+    missed = []
+    with tempfile.TemporaryDirectory() as top:
+        folder, target = f'{top}/rust', f'{top}/target'
+        shutil.copytree('.', folder, ignore=shutil.ignore_patterns('target', 'recorded'))
+        assert build_and_compare(folder, target) is False, 'the model itself disagrees'
+        for name in wanted:
+            file, text, instead = MUTANTS[name]
+            place = f'{folder}/model/src/{file}'
+            source = open(place, encoding='utf-8').read()
+            assert text in source, f'{name}: its place is not in {file}'
+            with open(place, 'w', encoding='utf-8') as out:
+                out.write(source.replace(text, instead))
+            found = build_and_compare(folder, target)
+            print(f'{"found" if found else "MISSED"}: {name}', flush=True)
+            if not found:
+                missed.append(name)
+            with open(place, 'w', encoding='utf-8') as out:
+                out.write(source)
+    print(f'{len(wanted)} mutants, {len(missed)} missed')
+    sys.exit(1 if missed else 0)
+
+
+if __name__ == '__main__':
+    main()
