@@ -180,6 +180,36 @@ pitfalls =
     ∷ prints "01 00 1B 00 02 02 02 01 00 00 01 01 00 00 00 01 01 00 01 00 00 02 03 00 00 00 01 05 00 00" "points 5\nregion 0 0 1 2 3\nregion 1 0 1 2 3 4\ngrown 1\n"
     ∷ []
 
+-- ---- What document 01 leaves open, as decided
+
+unfoldable pub choices : List Case
+choices =
+    -- a byte is left over: 3
+    answers "01 00 08 00 00 00 00 01 00 00 00" 3 [] []
+    -- the tag of a 33rd node is missing: 3
+    ∷ answers "01 00 85 00 01 00 01 01 01 01 00 00 01 01 00 00 01 01 00 00 01 01 00 00 01 01 00 00 01 01 00 00 01 01 00 00 01 01 00 00 01 01 00 00 01 01 00 00 01 01 00 00 01 01 00 00 01 01 00 00 01 01 00 00 01 01 00 00 01 01 00 00 01 01 00 00 01 01 00 00 01 01 00 00 01 01 00 00 01 01 00 00 01 01 00 00 01 01 00 00 01 01 00 00 01 01 00 00 01 01 00 00 01 01 00 00 01 01 00 00 01 01 00 00 01 01 00 00 01 01 00 00 01 01 00 00" 3 [] []
+    -- one region is declared, of none: 6
+    ∷ answers "01 00 08 00 00 01 00 01 00 00 00" 6 [] []
+    -- a field is numbered 0: 6
+    ∷ answers "01 00 0B 01 00 00 00 01 00 01 00 00 00 00" 6 [] []
+    -- an unused struct's field names no region: 6
+    ∷ answers "01 00 0F 01 00 00 00 01 00 01 01 01 01 00 00 00 00 00" 6 [] []
+    -- an unused struct's second field of one number has a bound that fits nothing: 7
+    ∷ answers "01 00 0E 01 00 00 00 01 00 02 01 00 01 03 00 00 00" 7 [] []
+    -- a star into a struct: 8
+    ∷ answers "01 00 10 01 00 00 01 01 00 00 02 00 00 00 01 05 01 00 00" 8 [] []
+    -- a step into Unit in an unreached block: 8
+    ∷ answers "01 00 0E 00 00 00 01 02 00 00 00 00 01 05 01 00 01" 8 [] []
+    -- Init x (y) with x Unit and y a Ref: shapes are compared for Assign and Borrow alone
+    ∷ answers "01 00 13 00 01 00 02 01 00 01 01 00 00 00 00 01 01 00 00 01 00 01" 0 (1 ∷ []) (0 ∷ 0 ∷ 0 ∷ 0 ∷ [])
+    -- Drop s.1, with s a struct of '0 and &'1: both are kept, for the Drop marks its base's whole type
+    ∷ answers "01 00 22 01 02 00 01 01 02 00 00 00 00 00 01 01 01 03 00 02 00 02 00 00 00 01 01 01 00 01 00 00 01 06 01 00 01" 0 (1 ∷ 1 ∷ []) (0 ∷ 0 ∷ 0 ∷ 0 ∷ [])
+    -- q = &x as a block's last action, Use q in the next: it acts at the block's end
+    ∷ answers "01 00 1A 00 02 00 02 02 00 01 01 00 00 00 01 01 01 02 00 01 01 01 00 00 00 01 05 00 01" 0 (6 ∷ 6 ∷ []) (0 ∷ 0 ∷ 0 ∷ 0 ∷ 0 ∷ 0 ∷ 0 ∷ 0 ∷ [])
+    -- a declared region outlives itself; a block follows itself twice
+    ∷ answers "01 00 0B 00 01 01 00 01 01 00 02 00 00 00" 0 (3 ∷ []) (0 ∷ 0 ∷ 0 ∷ 0 ∷ 0 ∷ [])
+    ∷ []
+
 -- ---- Paths of demand 3: its premises are met, and the claim bites
 
 unfoldable pub paths : List PathCase
@@ -217,9 +247,9 @@ paths =
 
 -- ---- All rows hold
 
-tables-hold : T (every caseHolds cases) × T (every caseHolds pitfalls) × T (every pathHolds paths)
-unfolding cases pitfalls paths caseHolds pathHolds accesses intersects freezes conflicts actionConflicts firstFault inScopeAt verdictAt relateSource constraintsAt constraintsOf relate done refuse _>>=_ byte count pick oneOf items counted borrowKind region nodeTag args tagged typeWithin type variance flag kind param field structDecl path action block job codeCount pointCount borrowCount whole decodeBody decode least firstPoint blockNodes nodesFrom nodesOf walkedTable graphOf holdersAfter isPath usesHolder untouched ascii digit bytesFrom hexBytes digitsOf line answerLines listing defs uses drops liveTable loanAt loansOf overwritten kills scopeTable answer number rowWords wordsOf bytesOf wordsNeeded bytesNeeded write judgeJob judge analyse outlivesTable seedTable solve isGrown dropRegions argCount dropArgs fieldType stepType step typeAfter pathType neverStops begins isPrefix isSupporting isFrozen typeNodes regionsOf subst actionNamed structsNamed outlivedNamed variablesNamed successorsNamed actionsNamed named fieldsFit variablesFit typesFit stepsFit pathFits pathsOf pathsFit shapeFits shapesFit refusal typeNamed typeFits sameShape
-tables-hold = (tt, tt, tt)
+tables-hold : T (every caseHolds cases) × T (every caseHolds pitfalls) × T (every caseHolds choices) × T (every pathHolds paths)
+unfolding cases pitfalls choices paths caseHolds pathHolds accesses intersects freezes conflicts actionConflicts firstFault inScopeAt verdictAt relateSource constraintsAt constraintsOf relate done refuse _>>=_ byte count pick oneOf items counted borrowKind region nodeTag args tagged typeWithin type variance flag kind param field structDecl path action block job codeCount pointCount borrowCount whole decodeBody decode least firstPoint blockNodes nodesFrom nodesOf walkedTable graphOf holdersAfter isPath usesHolder untouched ascii digit bytesFrom hexBytes digitsOf line answerLines listing defs uses drops liveTable loanAt loansOf overwritten kills scopeTable answer number rowWords wordsOf bytesOf wordsNeeded bytesNeeded write judgeJob judge analyse outlivesTable seedTable solve isGrown dropRegions argCount dropArgs fieldType stepType step typeAfter pathType neverStops begins isPrefix isSupporting isFrozen typeNodes regionsOf subst actionNamed structsNamed outlivedNamed variablesNamed successorsNamed actionsNamed named fieldsFit variablesFit typesFit stepsFit pathFits pathsOf pathsFit shapeFits shapesFit refusal typeNamed typeFits sameShape
+tables-hold = (tt, tt, tt, tt)
 
 -- Cases 1 to 10, by computing.
 pub cases-hold : T (every caseHolds cases)
@@ -228,5 +258,8 @@ cases-hold = tables-hold .0
 pub pitfalls-avoided : T (every caseHolds pitfalls)
 pitfalls-avoided = tables-hold .1
 
+pub choices-hold : T (every caseHolds choices)
+choices-hold = tables-hold .2
+
 pub paths-hold : T (every pathHolds paths)
-paths-hold = tables-hold .2
+paths-hold = tables-hold .3

@@ -11,6 +11,7 @@ use std::time::Instant;
 
 const USAGE: &str = "usage:
   compare FIRST SECOND [ACCEPTED DAMAGED [SEED]]   compare two engines: original, answering, model (or proved)
+  compare few FIRST SECOND MOST                    the same on all jobs of so many actions from the menus
   compare one FIRST SECOND HEX                     the same on one record
   compare speed [COUNT [SEED]]                     time the original on the largest records
   compare speed-dense NODES..                      the same on records that are much work
@@ -50,6 +51,10 @@ fn main() {
             let record = bytes_of(record).unwrap_or_else(|| usage());
             families(first, second, vec![("one", 0, Box::new(std::iter::once(record)))])
         }
+        ["few", first, second, most] => {
+            let most = number(&[most], 0, 0) as usize;
+            families(first, second, vec![("few actions", 0, Box::new(generate::exhaustive::records(most)))])
+        }
         [first, second, ref rest @ ..] => {
             let (accepted, damaged, seed) = (number(rest, 0, 200_000), number(rest, 1, 200_000), number(rest, 2, 1));
             families(first, second, all_families(accepted, damaged, seed))
@@ -78,6 +83,7 @@ fn all_families(accepted: u64, damaged: u64, seed: u64) -> Vec<Family> {
         ("boundary", seed, Box::new(generate::boundary::cases().into_iter().map(|case| case.record))),
         ("short strings", seed, Box::new(generate::short::strings())),
         ("short bodies", seed, Box::new(generate::short::bodies(8, 4))),
+        ("few actions", seed, Box::new(generate::exhaustive::records(3))),
         ("damaged", seed, Box::new((seed..seed + damaged).map(generate::damaged))),
         ("accepted", seed, Box::new((seed..seed + accepted).map(generate::accepted))),
     ]

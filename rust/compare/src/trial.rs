@@ -4,6 +4,9 @@ use crate::engine::{Answering, Engine, Outcome};
 use crate::lent::Lent;
 use crate::tally::{count, Tally};
 use generate::rng::Rng;
+use model::graph::Graph;
+use model::syntax::{Action, Region, Ty};
+use original::Failure;
 
 /// The message of the original's assert at action 0, in part.
 const ASSERT_AT_ACTION_0: &str = "constraint.point.action > 0";
@@ -23,12 +26,12 @@ impl<'e> Trial<'e> {
         Trial { first, second, answering: Answering::new(), try_refused: false, rng: Rng::new(seed), tally: Tally::default() }
     }
 
-    /// Compares the engines on a record, and tells whether they agree: with long enough buffers, and
-    /// at times with too short ones as well.
+    /// Compares the engines on a record, and tells whether they agree: with long enough buffers and,
+    /// at times, an accepted one with too short buffers as well.
     pub fn record(&mut self, record: &[u8]) -> bool {
         let before = Lent::long_enough(&mut self.rng, record);
         let mut agree = self.with(record, &before);
-        if self.rng.chance(6) {
+        if self.rng.chance(6) && model::accept(record).is_ok() {
             let before = Lent::too_short(&mut self.rng, record);
             agree &= self.with(record, &before);
         }
@@ -86,20 +89,44 @@ impl<'e> Trial<'e> {
         }
     }
 
-    /// A refused record: the original must find no record where 1 to 3 is said, and one where 5 to 9
-    /// is. Whether it then panics is counted; it need not, since it looks at less.
+    /// A refused record. The original must read none where 1 to 3 is said, and one where 6 to 9 is.
+    /// Of 8 and 9 it must panic exactly if it looks at what is wrong. Of 6 and 7 it is only counted
+    /// whether it panics.
     fn refused(&mut self, record: &[u8], number: u8) -> bool {
         if matches!(number, 0 | 4 | 5 | 10) || record.len() > model::decode::MAX_LENGTH + 3 {
             return true;
         }
-        let (does, unread) = match original::analyse(record, original::Order::ReversePostOrder) {
-            Ok(_) => ("answers", false),
-            Err(original::Failure::Panicked(_)) => ("panics", false),
-            Err(original::Failure::Unread(_)) => ("reads none", true),
+        let (does, right) = match original::analyse(record, original::Order::ReversePostOrder) {
+            Ok(_) => ("answers", matches!(number, 6 | 7) || number > 7 && !looked_at(record)),
+            Err(Failure::Panicked(message)) => {
+                let elsewhere = message.contains(ASSERT_AT_ACTION_0);
+                ("panics", matches!(number, 6 | 7) || number > 7 && (elsewhere || looked_at(record)))
+            }
+            Err(Failure::Unread(_)) => ("reads none", number <= 3),
         };
         count(&mut self.tally.refused, (number, does));
-        unread == (number <= 3)
+        right
     }
+}
+
+/// Whether the original looks at what is wrong in a record that is refused by 8 or 9: it takes the
+/// types of the paths of the Assigns and Borrows of walked blocks, and of no others, and relates them.
+fn looked_at(record: &[u8]) -> bool {
+    let job = model::decode::decode(record).expect("a record that is refused by 8 or 9");
+    let graph = Graph::new(&job);
+    let wrong = |p: usize| match graph.actions[p] {
+        Some(Action::Assign(dest, source)) => match (job.step_through(dest), job.step_through(source)) {
+            (Some(dest), Some(source)) => !dest.same_shape(&source),
+            _ => true,
+        },
+        Some(Action::Borrow(dest, region, kind, source)) => match (job.step_through(dest), job.step_through(source)) {
+            (Some(dest), Some(source)) => !dest.same_shape(&Ty::Ref(*kind, Region::Free(*region), Box::new(source))),
+            _ => true,
+        },
+        _ => false,
+    };
+    let found = graph.walked_points().any(wrong);
+    found
 }
 
 fn call(engine: &mut dyn Engine, record: &[u8], before: &Lent) -> (Outcome, Lent) {

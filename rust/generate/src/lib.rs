@@ -1,7 +1,9 @@
-//! Records from a seed: accepted ones, damaged copies, those at the boundary of a refusal, and all short strings.
+//! Records from a seed: accepted ones and damaged copies. And fixed ones: the boundary of each refusal, all short strings, and all
+//! jobs of a few actions from a menu.
 
 pub mod boundary;
 pub mod damage;
+pub mod exhaustive;
 pub mod jobs;
 pub mod paths;
 pub mod rng;
