@@ -1,5 +1,5 @@
 #!/usr/bin/env python3
-"""definitions.py CRATE [ACCEPTED [DAMAGED [SEED]]]: has the checker compute the definitions of a crate on generated records.
+"""definitions.py CRATE [TINY SMALL DAMAGED SEED]: has the checker compute the definitions of a crate on generated records.
 
 CRATE is the folder of nll_spec. It is copied to a temporary folder, where a module `Trial` is added to its specs: a theorem for
 every 20 records says that `Output.analyse` gives the recorded number, words and bytes. Then `rt check` proves the copy, and must
@@ -17,10 +17,14 @@ def lines(command, text=None):
     return subprocess.run(command, input=text, capture_output=True, text=True, check=True).stdout.split('\n')[:-1]
 
 
-def records(accepted, damaged, seed):
-    tiny = lines(['target/release/generate', 'tiny', str(seed), str(accepted)])
-    hurt = [r for r in lines(['target/release/generate', 'damaged', str(seed), str(6 * damaged)]) if len(r) < 160]
-    return tiny + hurt[:damaged]
+def generated(family, seed, count, longest):
+    """So many records of a family of at most so many bytes."""
+    found = lines(['target/release/generate', family, str(seed), str(20 * count)])
+    return [record for record in found if len(record) <= 2 * longest][:count]
+
+
+def records(tiny, small, damaged, seed):
+    return generated('tiny', seed, tiny, 120) + generated('small', seed, small, 150) + generated('damaged', seed, damaged, 80)
 
 
 def answers(found):
@@ -160,7 +164,7 @@ def check(crate, rows, quiet=False):
 def main():
     if len(sys.argv) < 2:
         sys.exit(__doc__)
-    given = [int(word) for word in sys.argv[2:]] + [350, 150, 1][len(sys.argv) - 2:]
+    given = [int(word) for word in sys.argv[2:]] + [320, 30, 150, 1][len(sys.argv) - 2:]
     found = records(*given)
     rows = [row(index, record, answer) for index, (record, answer) in enumerate(zip(found, answers(found)))]
     status = check(sys.argv[1], rows)

@@ -1,8 +1,8 @@
 #!/usr/bin/env python3
-"""mutants.py [NAME..]: shows that the comparison finds wrong models.
+"""mutants.py [NAME..]: shows that wrong models are found.
 
-Each mutant is one edit of the model's source, made in a temporary copy of this folder, where `compare original model` must then find
-a disagreement. Run it in rust/. NLL_ORIGINAL names the original's folder, as in a build."""
+Each mutant is one edit of the model's source, made in a temporary copy of this folder, where `compare` must then find a
+disagreement between the original and the model, or a test of the refusals must fail. Run it in rust/. NLL_ORIGINAL names the original's folder, as in a build."""
 import os, shutil, subprocess, sys, tempfile
 
 # name: (file of model/src, text, what stands there instead)
@@ -46,7 +46,7 @@ MUTANTS = {
     'In makes one outlive the other': ('constraints.rs', '                self.outlives(a, b);\n                self.outlives(b, a);', '                self.outlives(a, b);'),
     'Assign under Contra': ('constraints.rs', '.types(Variance::Co, &job.path_type(source)', '.types(Variance::Contra, &job.path_type(source)'),
     'Borrow under Co': ('constraints.rs', '.types(Variance::Contra, &job.path_type(dest)', '.types(Variance::Co, &job.path_type(dest)'),
-    'Assign at its own point': ('constraints.rs', 'Relation { job, point: next, found }.types(Variance::Co', 'Relation { job, point: p, found }.types(Variance::Co'),
+    'Assign at its own point': ('constraints.rs', 'Relation { job, point: next, found }.types(Variance::Co,', 'Relation { job, point: p, found }.types(Variance::Co,'),
     'Constraint at the next point': ('constraints.rs', 'sub: *sub, point: p }', 'sub: *sub, point: next }'),
     'a borrow\'s source asks nothing': ('constraints.rs', 'for sup in supporting_regions(job, source) {', 'for sup in supporting_regions(job, source).into_iter().take(0) {'),
     'only the last Ref of a borrow\'s source': ('constraints.rs', 'for sup in supporting_regions(job, source) {', 'for sup in supporting_regions(job, source).into_iter().take(1) {'),
@@ -68,27 +68,66 @@ MUTANTS = {
     'unused bits left as they were': ('output.rs', 'row.fill(0);', 'for (p, _) in set.iter().enumerate() {\n            row[p / 32] &= !(1 << (p % 32));\n        }'),
     'a row too few words': ('output.rs', 'let words_per_region = answer.points.div_ceil(32);', 'let words_per_region = (answer.points / 32).max(1);'),
     'an exact fit is too short': ('output.rs', 'bytes.len() < bytes_needed', 'bytes.len() <= bytes_needed'),
+    # refusals
+    'length 16,384 is refused': ('decode.rs', 'MAX_LENGTH: usize = 16_384', 'MAX_LENGTH: usize = 16_383'),
+    'length 16,385 is taken': ('decode.rs', 'MAX_LENGTH: usize = 16_384', 'MAX_LENGTH: usize = 16_385'),
+    'bytes may follow the last block': ('decode.rs', 'if input.rest.is_empty() {', 'if input.rest.is_empty() || true {'),
+    'a missing byte is 4': ('decode.rs', 'self.rest.split_first().ok_or(3)', 'self.rest.split_first().ok_or(4)'),
+    'a 33rd node by its tag': ('decode.rs', 'if *nodes == MAX_NODES {', 'if *nodes == MAX_NODES && tag <= 3 {'),
+    'a 33rd node is taken': ('decode.rs', 'if *nodes == MAX_NODES {', 'if *nodes > MAX_NODES {'),
+    'no block is taken': ('decode.rs', 'self.count(1, most::BLOCKS)', 'self.count(0, most::BLOCKS)'),
+    '65 actions are taken': ('decode.rs', 'ACTIONS: u8 = 64', 'ACTIONS: u8 = 65'),
+    '7 steps are taken': ('decode.rs', 'STEPS: u8 = 6', 'STEPS: u8 = 7'),
+    '1,025 points are taken': ('decode.rs', 'job.points() > MAX_POINTS', 'job.points() > MAX_POINTS + 1'),
+    'declared ends are no points': ('syntax.rs', 'self.actions().count() + self.blocks.len() + self.declared()', 'self.actions().count() + self.blocks.len()'),
+    '129 borrows are taken': ('decode.rs', 'MAX_BORROWS: usize = 128', 'MAX_BORROWS: usize = 129'),
+    'more declared than regions': ('check.rs', 'job.declared() <= job.regions', 'job.declared() <= job.regions + 1'),
+    'any region is outlived': ('check.rs', 'all(|&region| region < job.declared())', 'all(|&region| region < job.regions)'),
+    'field 0 is taken': ('check.rs', 'f.number != 0 && ', ''),
+    'any successor': ('check.rs', 'all(|&block| block < job.blocks.len())', 'all(|&block| block <= job.blocks.len())'),
+    'StorageDead of any variable': ('check.rs', 'regions_named && dead_named', 'regions_named'),
+    'any argument count': ('check.rs', 'args.len() == expected.len()\n                && ', ''),
+    'any argument kind': ('check.rs', 'kind == Kind::Region && region_fits', 'region_fits'),
+    'a bound of any kind': ('check.rs', 'index < params.len() && bound(params, index).kind == kind', 'index < params.len() && (bound(params, index).kind == kind || true)'),
+    'bounds of the front': ('check.rs', 'bound(params, index).kind', 'params[index].kind'),
+    'the last step of any size': ('check.rs', 'Some(next) if next.nodes() <= MAX_NODES => ty = next', 'Some(next) if ty.nodes() <= MAX_NODES => ty = next'),
+    'Ref kinds do not count': ('types.rs', 'kind == other_kind && ', ''),
+    'struct numbers do not count': ('types.rs', 'name == other_name && args', 'args'),
+    'arguments have no shape': ('types.rs', ' && args.iter().zip(other_args).all(|(a, b)| a.same_shape(b))', ''),
+    '7 before 6': ('check.rs', 'if !numbers_name_something(job) {\n        return Err(6);\n    }\n    if !types_fit(job) {\n        return Err(7);\n    }', 'if job.structs.iter().any(|s| s.params.is_empty() && !s.fields.is_empty() && matches!(s.fields[0].ty, Ty::Bound(_))) || job.variables.iter().any(|v| matches!(v, Ty::Bound(_))) {\n        return Err(7);\n    }\n    if !numbers_name_something(job) {\n        return Err(6);\n    }\n    if !types_fit(job) {\n        return Err(7);\n    }'),
+    '10 before it is measured': ('output.rs', 'let job = match crate::accept(record) {', 'if words.is_empty() {\n        return 10;\n    }\n    let job = match crate::accept(record) {'),
 }
 
 
-def build_and_compare(folder, target):
-    """Whether the comparison finds a disagreement; none if the mutant does not build."""
-    env = dict(os.environ, CARGO_TARGET_DIR=target)
-    build = subprocess.run(['cargo', 'build', '--release', '-q', '-p', 'compare'], cwd=folder, env=env, capture_output=True, text=True)
+# What must find a mutant, the shortest first: a comparison, or the tests of the refusals.
+RUNS = [
+    ['target/release/compare', 'few', 'original', 'model', '2'],
+    ['cargo', 'test', '-q', '--release', '-p', 'generate', '--lib'],
+    ['target/release/compare', 'few', 'original', 'model', '3'],
+    ['target/release/compare', 'original', 'model', '10000', '1000'],
+]
+
+
+def build_and_run(folder):
+    """Whether some run fails; none if the mutant does not build."""
+    run = lambda command: subprocess.run(command, cwd=folder, capture_output=True, text=True)
+    build = run(['cargo', 'build', '--release', '-q', '-p', 'compare'])
     if build.returncode != 0:
         print(build.stderr)
         return None
-    return subprocess.run([f'{target}/release/compare', 'original', 'model', '6000', '3000'], capture_output=True).returncode != 0
+    return any(run(command).returncode != 0 for command in RUNS)
 
 
 def main():
     os.environ.setdefault('NLL_ORIGINAL', os.path.abspath('../../shared/docs/src'))
+    os.environ['CARGO_PROFILE_RELEASE_INCREMENTAL'] = 'true'
+    os.environ['CARGO_PROFILE_RELEASE_OPT_LEVEL'] = '1'
     wanted = sys.argv[1:] or list(MUTANTS)
     missed = []
     with tempfile.TemporaryDirectory() as top:
-        folder, target = f'{top}/rust', f'{top}/target'
-        shutil.copytree('.', folder, ignore=shutil.ignore_patterns('target', 'recorded'))
-        assert build_and_compare(folder, target) is False, 'the model itself disagrees'
+        folder = f'{top}/rust'
+        shutil.copytree('.', folder, ignore=shutil.ignore_patterns('target'))
+        assert build_and_run(folder) is False, 'a run fails on the model itself'
         for name in wanted:
             file, text, instead = MUTANTS[name]
             place = f'{folder}/model/src/{file}'
@@ -96,7 +135,7 @@ def main():
             assert text in source, f'{name}: its place is not in {file}'
             with open(place, 'w', encoding='utf-8') as out:
                 out.write(source.replace(text, instead))
-            found = build_and_compare(folder, target)
+            found = build_and_run(folder)
             print(f'{"found" if found else "MISSED"}: {name}', flush=True)
             if not found:
                 missed.append(name)

@@ -1,4 +1,4 @@
--- Decoding refuses with a number from 1 to 5: `decode-refuses`.
+-- Decoding refuses part a number from 1 to 5: `decode-refuses`.
 -- Assumes nothing.
 use mathlib.Core.Bool.{Bool, true, false, cond, _&&_}
 use mathlib.Core.List.{List, [], _∷_}
@@ -185,7 +185,7 @@ body-refuses (high ∷ low ∷ rest) =
     either (leb (high * 256 + low) maxLength && eqb (high * 256 + low) (length rest)) (whole (job rest)) (rejected 2)
     (whole-refuses (job rest) (small-job .within rest)) (omega arith)
 
--- What is not decoded is refused with a number from 1 to 5.
+-- What is not decoded is refused part a number from 1 to 5.
 pub decode-refuses : (input : List ℕ) → RefusedWithin 5 (decode input)
 unfolding decode
 decode-refuses [] = omega arith

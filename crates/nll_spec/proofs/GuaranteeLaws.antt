@@ -26,7 +26,7 @@ use Rattle.nll_spec.proofs.VerdictLaws.{scope-reached}
 use Rattle.nll_spec.proofs.HolderLaws.{borrow-region}
 use Rattle.nll_spec.proofs.MeansLaws.{accepted-record, answers-mean}
 
-module _ (ends : EndRule) (j : Job) (ok : Accepted j) (ws bs : List ℕ) (means : Means ends j ws bs) (quiet : (p : Point) → p < pointCount j → verdictIn bs p .kind ≡ 0) where
+module _ (ends : EndRule) (j : Job) (ok : Accepted j) (old-ws old-bs ws bs : List ℕ) (means : Means ends j old-ws old-bs ws bs) (quiet : (p : Point) → p < pointCount j → verdictIn bs p .kind ≡ 0) where
   abbrev sets : Sets
   sets = setsIn (pointCount j) ws
 
@@ -69,13 +69,13 @@ module _ (ends : EndRule) (j : Job) (ok : Accepted j) (ws bs : List ℕ) (means 
 
 pub guarantee : (ends : EndRule) → Guarantee ends
 guarantee ends input ws bs j clean p d r k q borrow at plain path follows used =
-    untouched-on ends j ok (analyse ends input ws bs .words) (analyse ends input ws bs .bytes) means (clean .quiet) loan (record { into = d; borrow = borrow; walked = at }) p path (inl refl) follows
+    untouched-on ends j ok ws bs (analyse ends input ws bs .words) (analyse ends input ws bs .bytes) means (clean .quiet) loan (record { into = d; borrow = borrow; walked = at }) p path (inl refl) follows
     (borrow-region ends j ok (setsIn (pointCount j) (analyse ends input ws bs .words)) (means .least-sets .solves) p d r k q borrow at plain path follows used)
   where
     ok : Accepted j
     ok = accepted-record ends input ws bs j (clean .reads) (clean .accepted)
 
-    means : Means ends j (analyse ends input ws bs .words) (analyse ends input ws bs .bytes)
+    means : Means ends j ws bs (analyse ends input ws bs .words) (analyse ends input ws bs .bytes)
     means = answers-mean ends input ws bs j (clean .reads) (clean .accepted)
 
     loan : Loan

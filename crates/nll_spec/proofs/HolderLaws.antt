@@ -11,24 +11,23 @@ use native.Mathlib.Omega.{arith}
 use native.Mathlib.Decide.{decLt}
 use lib.ListN.{length, List·getD-eq-default}
 use lib.Dec.{T, eqb, eqb→eq, ltb, ltb→lt}
-use Rattle.nll_spec.specs.Lists.{any, every, select, contains, below, Member, here}
+use Rattle.nll_spec.specs.Lists.{any, every, contains, Member, here}
 use Rattle.nll_spec.specs.Syntax.{BorrowKind, Free, BoundRegion, RegionName, Variable, Point, Path, Job}
 use Rattle.nll_spec.specs.Syntax.{Ty, UnitTy, RefTy, StructTy, BoundTy, Co, Contra}
 use Rattle.nll_spec.specs.Syntax.{Action, Noop, Init, Borrow, Assign, Constraint, Use, Drop, StorageDead}
 use Rattle.nll_spec.specs.Types.{variableType, pathType, typeAfter, isRef, regionsOf}
 use Rattle.nll_spec.specs.WellFormed.{variablesNamed, variablesFit, typeNamed, typeFits, regionFits, sameShape, shapeFits}
-use Rattle.nll_spec.specs.Graph.{Graph, graphOf, actionAt, nextOf, isWalked}
+use Rattle.nll_spec.specs.Graph.{Graph, graphOf, actionAt, nextOf}
 use Rattle.nll_spec.specs.Liveness.{isPlain, writeUse, uses, defs}
-use Rattle.nll_spec.specs.Constraints.{Outlives, relate, relateSource, constraintsAt, constraintsOf}
+use Rattle.nll_spec.specs.Constraints.{Outlives, relate, relateSource, constraintsAt}
 use Rattle.nll_spec.specs.Regions.{EndRule}
-use Rattle.nll_spec.specs.Meaning.{Reached, Live, Seed, Sets, Walk, begin, go-on, Solves}
+use Rattle.nll_spec.specs.Meaning.{Reached, Live, Seed, Sets, ConstraintOf, Walk, begin, go-on, Solves}
 use Rattle.nll_spec.specs.Guarantee.{Holders, only, put, holdersAfter, isPath, usesHolder}
-use Rattle.nll_spec.proofs.Tests.{and-intro, and-left, and-right, contains-here, contains-below, any-found}
-use Rattle.nll_spec.proofs.Lookup.{contains-select, every-at}
-use Rattle.nll_spec.proofs.Members.{member-left, member-gather}
-use Rattle.nll_spec.proofs.GraphLaws.{walked-is-code, next-of-action}
+use Rattle.nll_spec.proofs.Tests.{and-intro, and-left, and-right, contains-here, any-found}
+use Rattle.nll_spec.proofs.Lookup.{every-at}
+use Rattle.nll_spec.proofs.Members.{member-left}
+use Rattle.nll_spec.proofs.GraphLaws.{next-of-action}
 use Rattle.nll_spec.proofs.AcceptedLaws.{Accepted}
-use Rattle.nll_spec.proofs.SeedLaws.{reached-walked}
 
 -- ---- Plain paths
 
@@ -84,20 +83,13 @@ module _ (j : Job) (named : T (variablesNamed j)) (fits : T (variablesFit j)) wh
 
 -- ---- The constraints that a borrow and an assignment make
 
-module _ (j : Job) (ok : Accepted j) where
-  constraint-at : (p : Point) (a : Action) (c : Outlives) → actionAt (graphOf j) p ≡ a → Reached j p → Member c (constraintsAt j p a) → Member c (constraintsOf j (graphOf j))
-  unfolding constraintsOf
-  constraint-at p a c e at m =
-      member-gather (λ (q : Point). constraintsAt j q (actionAt (graphOf j) q)) (select (isWalked (graphOf j)) (below (graphOf j .code))) p
-      (contains-select (isWalked (graphOf j)) (below (graphOf j .code)) p (contains-below (graphOf j .code) p (walked-is-code j p walked)) walked)
-      (subst (λ (b : Action). Member c (constraintsAt j p b)) (sym e) m)
-    where
-      walked : T (isWalked (graphOf j) p)
-      walked = reached-walked j (ok .start-named) (ok .successors-named) p at
+module _ (j : Job) where
+  constraint-at : (p : Point) (a : Action) (c : Outlives) → actionAt (graphOf j) p ≡ a → Reached j p → Member c (constraintsAt j p a) → ConstraintOf j c
+  constraint-at p a c e at m = record { at = p; walked = at; made = subst (λ (b : Action). Member c (constraintsAt j p b)) (sym e) m }
 
   -- a borrow's region outlives that of the plain variable that it goes to
   borrow-constraint : (p : Point) (d : Path) (r : RegionName) (k : BorrowKind) (q : Path) (w : Variable) (x : RefVariable j w) → w ≡ d .base → actionAt (graphOf j) p ≡ Borrow d r k q → Reached j p → T (isPlain d)
-      → Member (record { sup = r; sub = x .region; point = suc p }) (constraintsOf j (graphOf j))
+      → ConstraintOf j (record { sup = r; sub = x .region; point = suc p })
   unfolding constraintsAt relate
   borrow-constraint p d r k q w x target e at plain =
       constraint-at p (Borrow d r k q) c e at
@@ -109,7 +101,7 @@ module _ (j : Job) (ok : Accepted j) where
 
   -- the region of an assigned plain variable outlives that of the plain variable that it goes to
   assign-constraint : (p : Point) (d q : Path) (w : Variable) (x : RefVariable j (q .base)) (y : RefVariable j w) → w ≡ d .base → actionAt (graphOf j) p ≡ Assign d q → Reached j p → T (isPlain d) → T (isPlain q)
-      → Member (record { sup = x .region; sub = y .region; point = suc p }) (constraintsOf j (graphOf j))
+      → ConstraintOf j (record { sup = x .region; sub = y .region; point = suc p })
   unfolding constraintsAt relate
   assign-constraint p d q w x y target e at plain-d plain-q =
       constraint-at p (Assign d q) c e at
@@ -184,9 +176,9 @@ walk-along g inside f from reach p (q ∷ qs) w path all =
     let here : Walk g inside from q = go-on w (and-left (contains (nextOf g p) q) (isPath g q qs) path) (and-left (inside q) (every inside qs) all) in
     and-intro (f q) (every f qs) (reach q here) (walk-along g inside f from reach q qs here (and-right (contains (nextOf g p) q) (isPath g q qs) path) (and-right (inside q) (every inside qs) all))
 
-module _ (ends : EndRule) (j : Job) (ok : Accepted j) (sets : Sets) (solved : Solves ends (graphOf j) (j .regions) (Seed j) (constraintsOf j (graphOf j)) sets) where
+module _ (ends : EndRule) (j : Job) (ok : Accepted j) (sets : Sets) (solved : Solves ends (graphOf j) (j .regions) (Seed j) (ConstraintOf j) sets) where
   -- "S outlives T at x": a path from x that T holds, S holds
-  outlives-along : (c : Outlives) → Member c (constraintsOf j (graphOf j)) → (x : Point) (xs : List Point) → c .point ≡ x → T (isPath (graphOf j) x xs) → T (every (sets (c .sub)) (x ∷ xs)) → T (every (sets (c .sup)) (x ∷ xs))
+  outlives-along : (c : Outlives) → ConstraintOf j c → (x : Point) (xs : List Point) → c .point ≡ x → T (isPath (graphOf j) x xs) → T (every (sets (c .sub)) (x ∷ xs)) → T (every (sets (c .sup)) (x ∷ xs))
   outlives-along c m x xs at path all =
       and-intro (sets (c .sup) x) (every (sets (c .sup)) xs) (reach x start) (walk-along (graphOf j) (sets (c .sub)) (sets (c .sup)) (c .point) reach x xs start path (and-right (sets (c .sub) x) (every (sets (c .sub)) xs) all))
     where
@@ -247,7 +239,7 @@ module _ (ends : EndRule) (j : Job) (ok : Accepted j) (sets : Sets) (solved : So
       x = ref-variable j (ok .variables-named) (ok .variables-fit) (found .0) (refs (found .0) (found .2))
 
       live : Live (graphOf j) uses (found .0) q
-      live = Live.here (found .1)
+      live = Live.now (found .1)
 
   held-before : (h : Holders) (q r : Point) (rs : List Point) → Refs h → Reached j q → T (contains (nextOf (graphOf j) q) r) → T (isPath (graphOf j) r rs) → Held (holdersAfter (actionAt (graphOf j) q) h) r rs → Held h q (r ∷ rs)
   unfolding Refs Came uses
@@ -278,7 +270,7 @@ module _ (ends : EndRule) (j : Job) (ok : Accepted j) (sets : Sets) (solved : So
           x = ref-variable j (ok .variables-named) (ok .variables-fit) (s .from .base) (refs (s .from .base) (s .held))
 
           live : Live (graphOf j) uses (s .from .base) q
-          live = Live.here (subst (λ (a : Action). T (contains (uses a) (s .from .base))) (sym (s .is-assign)) (contains-here (s .from .base) (writeUse (s .to))))
+          live = Live.now (subst (λ (a : Action). T (contains (uses a) (s .from .base))) (sym (s .is-assign)) (contains-here (s .from .base) (writeUse (s .to))))
 
           no-noop : actionAt (graphOf j) q ≡ Noop → ⊥
           no-noop e = let z : _≡_ {A = ℕ} 0 1 = cc (s .is-assign) in omega arith
@@ -286,7 +278,7 @@ module _ (ends : EndRule) (j : Job) (ok : Accepted j) (sets : Sets) (solved : So
           rest : T (every (sets (x .region)) (r ∷ rs))
           rest =
               outlives-along (record { sup = x .region; sub = m .ref .region; point = suc q })
-              (assign-constraint j ok q (s .to) (s .from) (m .holder) x (m .ref) (s .target) (s .is-assign) at (s .to-plain) (s .from-plain)) r rs (sym (next-of-action j q r no-noop next)) path (m .all)
+              (assign-constraint j q (s .to) (s .from) (m .holder) x (m .ref) (s .target) (s .is-assign) at (s .to-plain) (s .from-plain)) r rs (sym (next-of-action j q r no-noop next)) path (m .all)
 
   held-path : (h : Holders) (q : Point) (qs : List Point) → Refs h → Reached j q → T (isPath (graphOf j) q qs) → T (usesHolder (graphOf j) h (q ∷ qs)) → Held h q qs
   unfolding isPath usesHolder
@@ -303,7 +295,7 @@ module _ (ends : EndRule) (j : Job) (ok : Accepted j) (sets : Sets) (solved : So
   unfolding Refs shapeFits isPath
   borrow-region p d r k q e at plain [] path used = tt
   borrow-region p d r k q e at plain (x ∷ xs) path used =
-      outlives-along (record { sup = r; sub = m .ref .region; point = suc p }) (borrow-constraint j ok p d r k q (m .holder) (m .ref) (eqb→eq (m .holder) (d .base) (m .held)) e at plain) x xs
+      outlives-along (record { sup = r; sub = m .ref .region; point = suc p }) (borrow-constraint j p d r k q (m .holder) (m .ref) (eqb→eq (m .holder) (d .base) (m .held)) e at plain) x xs
       (sym (next-of-action j p x no-noop next)) rest (m .all)
     where
       next : T (contains (nextOf (graphOf j) p) x)

@@ -16,15 +16,15 @@ use Rattle.nll_spec.specs.Graph.{graphOf, actionAt}
 use Rattle.nll_spec.specs.Constraints.{constraintsOf}
 use Rattle.nll_spec.specs.Regions.{EndRule, seedTable, isGrown}
 use Rattle.nll_spec.specs.Access.{Access, accesses, Verdict}
-use Rattle.nll_spec.specs.Output.{bit, answer, wordsOf, bytesOf, verdictBytes, overwrite, analyse}
-use Rattle.nll_spec.specs.Meaning.{Reached, Seed, LeastSolution, Faulted, Judged, setsIn, verdictIn, Means, AnswersMean}
+use Rattle.nll_spec.specs.Output.{bit, answer, wordsOf, bytesOf, verdictBytes, wordsNeeded, bytesNeeded, overwrite, analyse}
+use Rattle.nll_spec.specs.Meaning.{Reached, Seed, ConstraintOf, LeastSolution, Faulted, Judged, setsIn, verdictIn, Kept, Means, AnswersMean}
 use Rattle.nll_spec.proofs.Tests.{and-intro, and-left, and-right, contains-below, any-of, any-found}
 use Rattle.nll_spec.proofs.Least.{held-inside}
 use Rattle.nll_spec.proofs.AcceptedLaws.{Accepted, accepted-job}
 use Rattle.nll_spec.proofs.SeedLaws.{seed-table, table-seed}
 use Rattle.nll_spec.proofs.Names.{setsOf}
-use Rattle.nll_spec.proofs.OutputLaws.{Written, written, sized-sets, sets-written, unused-zero, verdict-written, grown-written}
-use Rattle.nll_spec.proofs.RegionLaws.{both-named, table-least, least-same}
+use Rattle.nll_spec.proofs.OutputLaws.{Written, written, words-kept, bytes-kept, sized-sets, sets-written, unused-zero, verdict-written, grown-written}
+use Rattle.nll_spec.proofs.RegionLaws.{both-named, table-least, least-same, constraint-of, of-constraint}
 use Rattle.nll_spec.proofs.VerdictLaws.{judged-fault, scope-reached, verdict-judged}
 
 bit-set : (b : Bool) → bit b ≡ 1 → T b
@@ -48,10 +48,10 @@ module _ (ends : EndRule) (j : Job) (ok : Accepted j) (ws bs : List ℕ) where
   same-sets : (r : RegionName) → r < j .regions → holds (setsOf ends j) r ≡ setsIn (pointCount j) words r
   same-sets r h = fun-ext (λ p. sym (sets-written ends j ws r p h))
 
-  least-written : LeastSolution ends (graphOf j) (j .regions) (Seed j) (constraintsOf j (graphOf j)) (setsIn (pointCount j) words)
+  least-written : LeastSolution ends (graphOf j) (j .regions) (Seed j) (ConstraintOf j) (setsIn (pointCount j) words)
   least-written =
-      least-same ends (graphOf j) (j .regions) (constraintsOf j (graphOf j)) (both-named ends j ok) (λ r q. T (holds (seedTable j (graphOf j)) r q)) (Seed j) (holds (setsOf ends j)) (setsIn (pointCount j) words)
-      (λ r q h. (seed-table j r q h, table-seed j ok r q h)) same-sets (table-least ends j ok)
+      least-same ends (graphOf j) (j .regions) (λ c. Member c (constraintsOf j (graphOf j))) (ConstraintOf j) (both-named ends j ok) (λ r q. T (holds (seedTable j (graphOf j)) r q)) (Seed j) (holds (setsOf ends j)) (setsIn (pointCount j) words)
+      (λ r q h. (seed-table j r q h, table-seed j ok r q h)) (λ c. (constraint-of j c, of-constraint j ok c)) same-sets (table-least ends j ok)
 
   judged-written : (p : Point) → p < pointCount j → Judged (Faulted j (setsIn (pointCount j) words) p) 0 (accesses (actionAt (graphOf j) p)) (verdictIn bytes p)
   judged-written p h = subst (λ (v : Verdict). Judged (Faulted j (setsIn (pointCount j) words) p) 0 (accesses (actionAt (graphOf j) p)) v) (sym (verdict-written ends j bs p h)) (verdict-judged j ok (setsOf ends j) (setsIn (pointCount j) words) same-sets p)
@@ -99,9 +99,11 @@ module _ (ends : EndRule) (j : Job) (ok : Accepted j) (ws bs : List ℕ) where
             inside : T (holds (setsOf ends j) r p)
             inside = subst (λ (s : Point → Bool). T (s p)) (sym (same-sets r is-region)) t
 
-  answer-means : Means ends j words bytes
-  answer-means =
+  answer-means : Kept (wordsNeeded j) ws words → Kept (bytesNeeded j) bs bytes → Means ends j ws bs words bytes
+  answer-means words-kept bytes-kept =
       record {
+        words-kept = words-kept;
+        bytes-kept = bytes-kept;
         least-sets = least-written;
         unused = unused-zero ends j ws;
         verdicts = judged-written;
@@ -116,8 +118,11 @@ accepted-record ends input ws bs j e n = accepted-job j (written ends input ws b
 
 pub answers-mean : (ends : EndRule) → AnswersMean ends
 answers-mean ends input ws bs j e n =
-    subst (λ (x : List ℕ). Means ends j x (analyse ends input ws bs .bytes)) (sym (w .words))
-    (subst (λ (x : List ℕ). Means ends j (overwrite (wordsOf (answer ends j)) ws) x) (sym (w .bytes)) (answer-means ends j (accepted-record ends input ws bs j e n) ws bs))
+    subst (λ (x : List ℕ). Means ends j ws bs x (analyse ends input ws bs .bytes)) (sym (w .words))
+    (subst (λ (x : List ℕ). Means ends j ws bs (overwrite (wordsOf (answer ends j)) ws) x) (sym (w .bytes))
+    (answer-means ends j (accepted-record ends input ws bs j e n) ws bs
+    (subst (λ (x : List ℕ). Kept (wordsNeeded j) ws x) (w .words) (words-kept ends input ws bs j w))
+    (subst (λ (x : List ℕ). Kept (bytesNeeded j) bs x) (w .bytes) (bytes-kept ends input ws bs j w))))
   where
     w : Written ends input ws bs j
     w = written ends input ws bs j e n

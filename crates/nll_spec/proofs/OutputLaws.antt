@@ -10,7 +10,8 @@ use native.Mathlib.Omega.{arith}
 use native.Mathlib.Decide.{decLt}
 use lib.ListN.{length, getD, drop, length-append, length-drop, length-map, List·getD-append, List·getD-eq-default, List·getD-map}
 use lib.Seq.{length-take-le, getD-take, getD-drop, getD-append-add}
-use lib.Dec.{T, leb, leb→le, ltb, ltb→lt, eqb, lt→ltb}
+use lib.Dec.{leb, ltb, ltb→lt, eqb, lt→ltb}
+use borrow.Author.Tests.{leb-true, leb-false}
 use Rattle.nll_spec.specs.Lists.{gather, below}
 use Rattle.nll_spec.specs.Fixpoint.{Table, holds, least}
 use Rattle.nll_spec.specs.Syntax.{Job, Point, RegionName}
@@ -22,7 +23,7 @@ use Rattle.nll_spec.specs.Regions.{EndRule, seedTable, regionRule, solve
 use Rattle.nll_spec.specs.Loans.{loansOf}
 use Rattle.nll_spec.specs.Access.{Verdict, noFault, verdictAt}
 use Rattle.nll_spec.specs.Output.{Outcome, answer, wordBits, bit, wordCount, wordsOf, verdictBytes, bytesOf, wordsNeeded, bytesNeeded, overwrite, unchanged, write, judgeJob, judge, analyse}
-use Rattle.nll_spec.specs.Meaning.{Refuses, bitOf, setsIn, verdictIn}
+use Rattle.nll_spec.specs.Meaning.{Room, Refuses, bitOf, setsIn, verdictIn, Kept}
 use Rattle.nll_spec.proofs.Tests.{is-true, is-false, length-countFrom}
 use Rattle.nll_spec.proofs.Lookup.{getD-map-below}
 use Rattle.nll_spec.proofs.Least.{Sized, sized-least}
@@ -108,61 +109,118 @@ refusal-within j = go (named j) (typesFit j) (pathsFit j) (shapesFit j)
     go true false c d = omega arith
     go false b c d = omega arith
 
--- What a call leaves: a refusal, with a number from 1 to 10; or the answer to a job that is not refused, and for which there is room.
+-- What a call leaves: refusals 1 to 9, refusal 10 where the room is missing, or the answer to a job for which there is room.
 pub data Leaves (ends : EndRule) (input ws bs : List ℕ) : Outcome → Type 0 where
-  refusing : (n : ℕ) → 0 < n → n ≤ 10 → Leaves ends input ws bs (unchanged n ws bs)
-  accepting : (j : Job) → decode input ≡ decoded j → refusal j ≡ 0 → wordsNeeded j ≤ length ws → bytesNeeded j ≤ length bs
+  rejecting : (n : ℕ) → judge input ≡ rejected n → 0 < n → n ≤ 9 → Leaves ends input ws bs (unchanged n ws bs)
+  overfull : (j : Job) → judge input ≡ decoded j → (Room j ws bs → ⊥) → Leaves ends input ws bs (unchanged 10 ws bs)
+  accepting : (j : Job) → judge input ≡ decoded j → decode input ≡ decoded j → refusal j ≡ 0 → Room j ws bs
       → Leaves ends input ws bs (record { number = 0; words = overwrite (wordsOf (answer ends j)) ws; bytes = overwrite (bytesOf (answer ends j)) bs })
 
 module _ (ends : EndRule) (input ws bs : List ℕ) where
-  write-leaves : (j : Job) → decode input ≡ decoded j → refusal j ≡ 0 → Leaves ends input ws bs (write ends j ws bs)
+  write-leaves : (j : Job) → judge input ≡ decoded j → decode input ≡ decoded j → refusal j ≡ 0 → Leaves ends input ws bs (write ends j ws bs)
   unfolding write
-  write-leaves j e r = go (leb (wordsNeeded j) (length ws)) (leb (bytesNeeded j) (length bs)) (leb→le (wordsNeeded j) (length ws)) (leb→le (bytesNeeded j) (length bs))
+  write-leaves j q e r = go (leb (wordsNeeded j) (length ws)) (leb (bytesNeeded j) (length bs)) refl refl
     where
-      go : (a b : Bool) → (T a → wordsNeeded j ≤ length ws) → (T b → bytesNeeded j ≤ length bs) → Leaves ends input ws bs
+      go : (a b : Bool) → leb (wordsNeeded j) (length ws) ≡ a → leb (bytesNeeded j) (length bs) ≡ b → Leaves ends input ws bs
           (elim (a && b) as (λ x. Outcome) [
             | true ↦ record { number = 0; words = overwrite (wordsOf (answer ends j)) ws; bytes = overwrite (bytesOf (answer ends j)) bs }
             | false ↦ unchanged 10 ws bs
           ])
-      go true true wf bf = accepting j e r (wf tt) (bf tt)
-      go true false wf bf = refusing 10 (omega arith) (omega arith)
-      go false b wf bf = refusing 10 (omega arith) (omega arith)
+      go true true wf bf = accepting j q e r (leb-true _ _ wf, leb-true _ _ bf)
+      go true false wf bf = overfull j q (λ room. let h = leb-false (bytesNeeded j) (length bs) bf in omega (arith, h, room .1))
+      go false b wf bf = overfull j q (λ room. let h = leb-false (wordsNeeded j) (length ws) wf in omega (arith, h, room .0))
 
   judged : Decoded → Outcome
   judged d = elim d [ rejected n ↦ unchanged n ws bs | decoded j ↦ write ends j ws bs ]
 
-  job-leaves : (j : Job) → decode input ≡ decoded j → Leaves ends input ws bs (judged (judgeJob j))
+  job-leaves : (j : Job) → judge input ≡ judgeJob j → decode input ≡ decoded j → Leaves ends input ws bs (judged (judgeJob j))
   unfolding judged judgeJob
-  job-leaves j e = go (refusal j) refl
+  job-leaves j q e = go (refusal j) refl q
     where
-      go : (n : ℕ) → refusal j ≡ n → Leaves ends input ws bs (judged (elim n as (λ x. Decoded) [ zero ↦ decoded j | suc m ↦ rejected (suc m) ]))
-      go zero r = write-leaves j e r
-      go (suc m) r = refusing (suc m) (omega arith) (omega (arith, refusal-within j))
+      by : ℕ → Decoded
+      by n = elim n [ zero ↦ decoded j | suc m ↦ rejected (suc m) ]
+
+      go : (n : ℕ) → refusal j ≡ n → judge input ≡ by n → Leaves ends input ws bs (judged (by n))
+      go zero r q = write-leaves j q e r
+      go (suc m) r q = rejecting (suc m) q (omega arith) (omega (arith, refusal-within j))
 
   pub analyse-leaves : Leaves ends input ws bs (analyse ends input ws bs)
   unfolding analyse judge judged
-  analyse-leaves = go (decode input) refl (decode-refuses input)
+  analyse-leaves = go (decode input) refl (decode-refuses input) refl
     where
-      go : (d : Decoded) → decode input ≡ d → RefusedWithin 5 d → Leaves ends input ws bs (judged (elim d as (λ x. Decoded) [ rejected n ↦ rejected n | decoded j ↦ judgeJob j ]))
-      go (rejected n) e h = refusing n (h .0) (omega arith)
-      go (decoded j) e h = job-leaves j e
+      by : Decoded → Decoded
+      by d = elim d [ rejected n ↦ rejected n | decoded j ↦ judgeJob j ]
 
--- Demand 1: the number is at most 10, and other than 0 both buffers are as they were.
-pub refuses : (ends : EndRule) → Refuses ends
-refuses ends input ws bs = go (analyse ends input ws bs) (analyse-leaves ends input ws bs)
-  where
-    go : (o : Outcome) → Leaves ends input ws bs o → (o .number ≤ 10) × ((o .number ≡ 0 → ⊥) → (o .words ≡ ws) × (o .bytes ≡ bs))
-    go o (refusing n l h) = (h, λ f. (refl, refl))
-    go o (accepting j e r wf bf) = (omega arith, λ f. absurd (f refl))
+      go : (d : Decoded) → decode input ≡ d → RefusedWithin 5 d → judge input ≡ by d → Leaves ends input ws bs (judged (by d))
+      go (rejected n) e h q = rejecting n q (h .0) (omega (arith, h .1))
+      go (decoded j) e h q = job-leaves j q e
+
+  -- Demand 1.
+  pub refuses : Refuses ends input ws bs
+  refuses = go (analyse ends input ws bs) refl analyse-leaves
+    where
+      go : (o : Outcome) → analyse ends input ws bs ≡ o → Leaves ends input ws bs o → Refuses ends input ws bs
+      go o e (rejecting n q l h) =
+          record {
+            one-of-ten = omega (arith, number);
+            accepted = (λ z. absurd (omega (arith, number)), λ a. absurd (clash (a .0) (a .1)));
+            too-short = (λ z. absurd (omega (arith, number)), λ a. absurd (clash (a .0) (a .1)));
+            refused = λ m f g. (λ z. q ∙ ap rejected (sym number ∙ z), λ z. number ∙ same m z);
+            untouched = λ f. (ap (λ (x : Outcome). x .words) e, ap (λ (x : Outcome). x .bytes) e);
+          }
+        where
+          number : analyse ends input ws bs .number ≡ n
+          number = ap (λ (x : Outcome). x .number) e
+
+          clash : (j : Job) → judge input ≡ decoded j → ⊥
+          clash j f = let z : _≡_ {A = ℕ} 0 1 = cc in omega arith
+
+          same : (m : ℕ) → judge input ≡ rejected m → n ≡ m
+          same m f = cc
+      go o e (overfull j q no-room) =
+          record {
+            one-of-ten = omega (arith, number);
+            accepted = (λ z. absurd (omega (arith, number)), λ a. absurd (no-room (subst (λ (k : Job). Room k ws bs) (same (a .0) (a .1)) (a .2))));
+            too-short = (λ z. (j, q, no-room), λ a. number);
+            refused = λ m f g. (λ z. absurd (g (sym z ∙ number)), λ z. absurd (clash m z));
+            untouched = λ f. (ap (λ (x : Outcome). x .words) e, ap (λ (x : Outcome). x .bytes) e);
+          }
+        where
+          number : analyse ends input ws bs .number ≡ 10
+          number = ap (λ (x : Outcome). x .number) e
+
+          same : (k : Job) → judge input ≡ decoded k → k ≡ j
+          same k f = cc
+
+          clash : (m : ℕ) → judge input ≡ rejected m → ⊥
+          clash m f = let z : _≡_ {A = ℕ} 0 1 = cc in omega arith
+      go o e (accepting j q d r room) =
+          record {
+            one-of-ten = omega (arith, number);
+            accepted = (λ z. (j, q, room), λ a. number);
+            too-short = (λ z. absurd (omega (arith, number)), λ a. absurd (a .2 (subst (λ (k : Job). Room k ws bs) (sym (same (a .0) (a .1))) room)));
+            refused = λ m f g. (λ z. absurd (f (sym z ∙ number)), λ z. absurd (clash m z));
+            untouched = λ f. absurd (f number);
+          }
+        where
+          number : analyse ends input ws bs .number ≡ 0
+          number = ap (λ (x : Outcome). x .number) e
+
+          same : (k : Job) → judge input ≡ decoded k → k ≡ j
+          same k f = cc
+
+          clash : (m : ℕ) → judge input ≡ rejected m → ⊥
+          clash m f = let z : _≡_ {A = ℕ} 0 1 = cc in omega arith
 
 -- No call changes a buffer's length.
 pub same-lengths : (ends : EndRule) (input ws bs : List ℕ) → (length (analyse ends input ws bs .words) ≡ length ws) × (length (analyse ends input ws bs .bytes) ≡ length bs)
 same-lengths ends input ws bs = go (analyse ends input ws bs) (analyse-leaves ends input ws bs)
   where
     go : (o : Outcome) → Leaves ends input ws bs o → (length (o .words) ≡ length ws) × (length (o .bytes) ≡ length bs)
-    go o (refusing n l h) = (refl, refl)
-    go o (accepting j e r wf bf) =
-        (length-overwrite (wordsOf (answer ends j)) ws (rw length-wordsOf wf), length-overwrite (bytesOf (answer ends j)) bs (rw length-bytesOf bf))
+    go o (rejecting n q l h) = (refl, refl)
+    go o (overfull j q no-room) = (refl, refl)
+    go o (accepting j q e r room) =
+        (length-overwrite (wordsOf (answer ends j)) ws (rw length-wordsOf (room .0)), length-overwrite (bytesOf (answer ends j)) bs (rw length-bytesOf (room .1)))
 
 -- ---- What an accepting call leaves
 
@@ -170,8 +228,7 @@ pub record Written (ends : EndRule) (input ws bs : List ℕ) (j : Job) : Type 0 
   pub not-refused : refusal j ≡ 0
   pub words : analyse ends input ws bs .words ≡ overwrite (wordsOf (answer ends j)) ws
   pub bytes : analyse ends input ws bs .bytes ≡ overwrite (bytesOf (answer ends j)) bs
-  pub word-room : wordsNeeded j ≤ length ws
-  pub byte-room : bytesNeeded j ≤ length bs
+  pub room : Room j ws bs
 
 module _ (ends : EndRule) (input ws bs : List ℕ) where
   -- an accepting call's input is a job
@@ -179,8 +236,9 @@ module _ (ends : EndRule) (input ws bs : List ℕ) where
   accepts-job = go (analyse ends input ws bs) (analyse-leaves ends input ws bs)
     where
       go : (o : Outcome) → Leaves ends input ws bs o → o .number ≡ 0 → (j : Job) × (decode input ≡ decoded j)
-      go o (refusing n l h) z = absurd (omega arith)
-      go o (accepting j e r wf bf) z = (j, e)
+      go o (rejecting n q l h) z = absurd (omega arith)
+      go o (overfull j q no-room) z = absurd (omega arith)
+      go o (accepting j q e r room) z = (j, e)
 
   pub written : (j : Job) → decode input ≡ decoded j → analyse ends input ws bs .number ≡ 0 → Written ends input ws bs j
   written j e z = go (analyse ends input ws bs) refl (analyse-leaves ends input ws bs) z
@@ -189,23 +247,33 @@ module _ (ends : EndRule) (input ws bs : List ℕ) where
       same k f = cc
 
       go : (o : Outcome) → analyse ends input ws bs ≡ o → Leaves ends input ws bs o → o .number ≡ 0 → Written ends input ws bs j
-      go o q (refusing n l h) z = absurd (omega arith)
-      go o q (accepting k f r wf bf) z =
+      go o q (rejecting n p l h) z = absurd (omega arith)
+      go o q (overfull k p no-room) z = absurd (omega arith)
+      go o q (accepting k p f r room) z =
           subst (λ (x : Job). Written ends input ws bs x) (same k f)
           (record {
             not-refused = r;
             words = ap (λ (x : Outcome). x .words) q;
             bytes = ap (λ (x : Outcome). x .bytes) q;
-            word-room = wf;
-            byte-room = bf;
+            room = room;
           })
 
-  -- what the answer does not take is as it was
-  pub words-tail : (j : Job) → Written ends input ws bs j → (i : ℕ) → wordsNeeded j ≤ i → getD (analyse ends input ws bs .words) i 0 ≡ getD ws i 0
-  words-tail j w i h = ap (λ (l : List ℕ). getD l i 0) (w .words) ∙ overwrite-tail (wordsOf (answer ends j)) ws i (rw length-wordsOf h)
+  -- the buffers are as long as before, and what the answer does not take is as it was
+  pub words-kept : (j : Job) → Written ends input ws bs j → Kept (wordsNeeded j) ws (analyse ends input ws bs .words)
+  words-kept j w =
+      record {
+        room = w .room .0;
+        as-long = same-lengths ends input ws bs .0;
+        tail = λ i h. ap (λ (l : List ℕ). getD l i 0) (w .words) ∙ overwrite-tail (wordsOf (answer ends j)) ws i (rw length-wordsOf h);
+      }
 
-  pub bytes-tail : (j : Job) → Written ends input ws bs j → (i : ℕ) → bytesNeeded j ≤ i → getD (analyse ends input ws bs .bytes) i 0 ≡ getD bs i 0
-  bytes-tail j w i h = ap (λ (l : List ℕ). getD l i 0) (w .bytes) ∙ overwrite-tail (bytesOf (answer ends j)) bs i (rw length-bytesOf h)
+  pub bytes-kept : (j : Job) → Written ends input ws bs j → Kept (bytesNeeded j) bs (analyse ends input ws bs .bytes)
+  bytes-kept j w =
+      record {
+        room = w .room .1;
+        as-long = same-lengths ends input ws bs .1;
+        tail = λ i h. ap (λ (l : List ℕ). getD l i 0) (w .bytes) ∙ overwrite-tail (bytesOf (answer ends j)) bs i (rw length-bytesOf h);
+      }
 
 -- ---- What the words say
 

@@ -2,29 +2,28 @@
 -- within those under `everyEnd`.
 -- Assumes nothing.
 use mathlib.Core.Path.{_≡_, sym, subst, refl, ap}
+use mathlib.Core.Logic.{_⊎_, inl, inr, _↔_}
 use mathlib.Core.Bool.{Bool, _&&_, _||_, cond}
-use mathlib.Core.List.{List}
 use Prim.Native.Nat.{ℕ, _+_, _-_, _<_, _≤_}
 use native.Mathlib.Omega.{arith}
 use lib.ListN.{length, getD}
 use lib.Dec.{T, eqb, eqb-refl, ltb, leb, ltb→lt, le→leb, eqb→eq, leb→le}
 use borrow.Author.Tests.{lt-ltb, le-ltb}
-use Rattle.nll_spec.specs.Lists.{any, anyFrom, contains, below, Member}
+use Rattle.nll_spec.specs.Lists.{any, anyFrom, select, contains, below, Member}
 use Rattle.nll_spec.specs.Fixpoint.{Table, Rule, holds, least}
 use Rattle.nll_spec.specs.Syntax.{Job, Point, RegionName}
-use Rattle.nll_spec.specs.Graph.{Graph, graphOf, predsOf}
-use Rattle.nll_spec.specs.Constraints.{Outlives, constraintsOf}
+use Rattle.nll_spec.specs.Graph.{Graph, graphOf, actionAt, predsOf, isWalked}
+use Rattle.nll_spec.specs.Constraints.{Outlives, constraintsAt, constraintsOf}
 use Rattle.nll_spec.specs.Regions.{EndRule, passesEnd, seedTable, regionRule, adds, visits, noConstraint, isExit, solve, everyEnd, heldEnds}
+use Rattle.nll_spec.specs.WellFormed.{successorsNamed}
+use Rattle.nll_spec.specs.Meaning.{Sets, ConstraintOf, Walk, begin, go-on, Meets, LeastSolution}
 use Rattle.nll_spec.proofs.Names.{setsOf}
 use Rattle.nll_spec.proofs.Tests.{cond-true, cond-false, and-intro, and-left, and-right, or-left, or-right, contains-below, length-countFrom, any-of, below-contains, or-cases, any-found}
-use Rattle.nll_spec.proofs.Lookup.{holds-take, anyFrom-at, anyFrom-found}
+use Rattle.nll_spec.proofs.Lookup.{holds-take, anyFrom-at, anyFrom-found, contains-select, select-contains}
 use Rattle.nll_spec.proofs.Least.{least-closed, held-inside, least-ind, sized-least}
-use Rattle.nll_spec.proofs.SeedLaws.{seed-points}
-use Rattle.nll_spec.proofs.GraphLaws.{next→preds, preds→next, next-in-code}
-use mathlib.Core.Logic.{_⊎_, inl, inr, _↔_}
-use Rattle.nll_spec.specs.WellFormed.{successorsNamed}
-use Rattle.nll_spec.specs.Meaning.{Sets, Walk, begin, go-on, Meets, LeastSolution}
-use Rattle.nll_spec.proofs.Members.{member-place, place-member, every-member}
+use Rattle.nll_spec.proofs.SeedLaws.{walked-reached, reached-walked, seed-points}
+use Rattle.nll_spec.proofs.GraphLaws.{next→preds, preds→next, next-in-code, walked-is-code}
+use Rattle.nll_spec.proofs.Members.{member-place, place-member, every-member, member-gather, gather-member}
 use Rattle.nll_spec.proofs.AcceptedLaws.{Accepted}
 use Rattle.nll_spec.proofs.TypeLaws.{isNamed, constraints-good}
 use Rattle.nll_spec.proofs.MonotoneLaws.{Looser, looser-same, looser-every, rule-mono}
@@ -288,7 +287,7 @@ module _ (ends : EndRule) (j : Job) (ok : Accepted j) where
       t = every-member (isNamed j) (constraintsOf j (graphOf j)) (constraints-good j ok) m
 
   -- The table's sets are the least that contain the table's seeds and meet every constraint.
-  pub table-least : LeastSolution ends (graphOf j) (j .regions) (λ r q. T (holds (seedTable j (graphOf j)) r q)) (constraintsOf j (graphOf j)) (holds (setsOf ends j))
+  pub table-least : LeastSolution ends (graphOf j) (j .regions) (λ r q. T (holds (seedTable j (graphOf j)) r q)) (λ c. Member c (constraintsOf j (graphOf j))) (holds (setsOf ends j))
   table-least =
       record {
         solves = record {
@@ -300,11 +299,11 @@ module _ (ends : EndRule) (j : Job) (ok : Accepted j) where
             (λ k l. s .met (getD (constraintsOf j (graphOf j)) k noConstraint) (place-member noConstraint (constraintsOf j (graphOf j)) k l));
       }
 
--- ---- Other seeds and sets that say the same
+-- ---- Other seeds, constraints and sets that say the same
 
-module _ (ends : EndRule) (g : Graph) (n : ℕ) (cs : List Outlives) (named : (c : Outlives) → Member c cs → (c .sup < n) × (c .sub < n)) where
+module _ (ends : EndRule) (g : Graph) (n : ℕ) (cs cs′ : Outlives → Type 0) (named : (c : Outlives) → cs c → (c .sup < n) × (c .sub < n)) where
   -- sets that agree on the first n regions meet the same constraints
-  meets-same : (sets others : Sets) → ((r : RegionName) → r < n → sets r ≡ others r) → (c : Outlives) → Member c cs → Meets ends g sets c → Meets ends g others c
+  meets-same : (sets others : Sets) → ((r : RegionName) → r < n → sets r ≡ others r) → (c : Outlives) → cs c → Meets ends g sets c → Meets ends g others c
   meets-same sets others same c m met =
       record {
         points = λ q w. there (c .sup) q (named c m .0) (met .points q (back q w));
@@ -321,14 +320,39 @@ module _ (ends : EndRule) (g : Graph) (n : ℕ) (cs : List Outlives) (named : (c
       back : (q : Point) → Walk g (others (c .sub)) (c .point) q → Walk g (sets (c .sub)) (c .point) q
       back q w = subst (λ (s : Point → Bool). Walk g s (c .point) q) (sym (same (c .sub) (named c m .1))) w
 
-  pub least-same : (seed seed′ : RegionName → Point → Type 0) (sets others : Sets) → ((r : RegionName) (q : Point) → r < n → seed r q ↔ seed′ r q)
-      → ((r : RegionName) → r < n → sets r ≡ others r) → LeastSolution ends g n seed cs sets → LeastSolution ends g n seed′ cs others
-  least-same seed seed′ sets others seeds same least =
+  pub least-same : (seed seed′ : RegionName → Point → Type 0) (sets others : Sets) → ((r : RegionName) (q : Point) → r < n → seed r q ↔ seed′ r q) → ((c : Outlives) → cs c ↔ cs′ c)
+      → ((r : RegionName) → r < n → sets r ≡ others r) → LeastSolution ends g n seed cs sets → LeastSolution ends g n seed′ cs′ others
+  least-same seed seed′ sets others seeds constraints same least =
       record {
         solves = record {
           seeded = λ r q hr h. subst (λ (s : Point → Bool). T (s q)) (same r hr) (least .solves .seeded r q hr (seeds r q hr .1 h));
-          met = λ c m. meets-same sets others same c m (least .solves .met c m);
+          met = λ c m. meets-same sets others same c (constraints c .1 m) (least .solves .met c (constraints c .1 m));
         };
         smallest = λ u s r q hr h.
-            least .smallest u (record { seeded = λ r′ q′ hr′ h′. s .seeded r′ q′ hr′ (seeds r′ q′ hr′ .0 h′); met = s .met }) r q hr (subst (λ (x : Point → Bool). T (x q)) (sym (same r hr)) h);
+            least .smallest u (record { seeded = λ r′ q′ hr′ h′. s .seeded r′ q′ hr′ (seeds r′ q′ hr′ .0 h′); met = λ c m. s .met c (constraints c .0 m) }) r q hr
+            (subst (λ (x : Point → Bool). T (x q)) (sym (same r hr)) h);
       }
+
+-- ---- The constraints of a job are those that the actions of walked blocks make
+
+module _ (j : Job) where
+  pub constraint-of : (c : Outlives) → Member c (constraintsOf j (graphOf j)) → ConstraintOf j c
+  unfolding constraintsOf
+  constraint-of c m =
+      record {
+        at = p .0;
+        walked = walked-reached j (p .0) (select-contains (isWalked (graphOf j)) (below (graphOf j .code)) (p .0) (p .1) .1);
+        made = p .2;
+      }
+    where
+      p : (n : Point) × T (contains (select (isWalked (graphOf j)) (below (graphOf j .code))) n) × Member c (constraintsAt j n (actionAt (graphOf j) n))
+      p = gather-member (λ (n : Point). constraintsAt j n (actionAt (graphOf j) n)) (select (isWalked (graphOf j)) (below (graphOf j .code))) m
+
+  pub of-constraint : Accepted j → (c : Outlives) → ConstraintOf j c → Member c (constraintsOf j (graphOf j))
+  unfolding constraintsOf
+  of-constraint ok c m =
+      member-gather (λ (n : Point). constraintsAt j n (actionAt (graphOf j) n)) (select (isWalked (graphOf j)) (below (graphOf j .code))) (m .at)
+      (contains-select (isWalked (graphOf j)) (below (graphOf j .code)) (m .at) (contains-below (graphOf j .code) (m .at) (walked-is-code j (m .at) walked)) walked) (m .made)
+    where
+      walked : T (isWalked (graphOf j) (m .at))
+      walked = reached-walked j (ok .start-named) (ok .successors-named) (m .at) (m .walked)

@@ -17,7 +17,7 @@ use Rattle.nll_spec.specs.WellFormed.{successorsNamed, outlivedNamed}
 use Rattle.nll_spec.specs.Graph.{graphOf, actionAt, nextOf, isWalked, blockSuccessors, walkedRule, walkedTable}
 use Rattle.nll_spec.specs.Liveness.{defs, uses, drops, liveRule, liveTable}
 use Rattle.nll_spec.specs.Regions.{dropRegions, outlivesRule, outlivesTable, hasLive, seedTable}
-use Rattle.nll_spec.specs.Meaning.{Reached, start, next, Live, here, later, DeclaredOutlives, itself, through, Seed, everywhere, end, used, dropped}
+use Rattle.nll_spec.specs.Meaning.{Reached, start, next, Live, now, later, DeclaredOutlives, itself, through, Seed, everywhere, end, used, dropped}
 use Rattle.nll_spec.proofs.Tests.{or-left, or-right, or-cases, or-join, and-intro, and-left, and-right, is-true, cond-true, contains-here, contains-below, below-contains, contains-belowDown, length-countFrom, length-belowDown, any-of, any-found}
 use Rattle.nll_spec.proofs.Lookup.{holds-tabulate, map-contains, every-at, every-contains}
 use Rattle.nll_spec.proofs.Least.{Inside, least-closed, least-ind, held-inside, sized-tabulate}
@@ -98,7 +98,7 @@ module _ (needs : Action → List Variable) (j : Job) where
       keeps t inside v p hv hp h = go (or-cases (isNeeded v p) (isKept v p && isLater t v p) h)
         where
           go : T (isNeeded v p) ⊎ T (isKept v p && isLater t v p) → Live (graphOf j) needs v p
-          go (inl n) = here n
+          go (inl n) = now n
           go (inr w) =
               let (q, e, k) = any-found (holds t v) (nextOf (graphOf j) p) (and-right (isKept v p) (isLater t v p) w) in
               later (and-left (isKept v p) (isLater t v p) w) e (inside v q k)
@@ -112,7 +112,7 @@ module _ (needs : Action → List Variable) (j : Job) where
 
   -- The table holds a variable where it is live, if Noop, which stands outside the code, needs nothing.
   pub table-live : ((v : Variable) → T (contains (needs Noop) v) → ⊥) → (v : Variable) (p : Point) → v < length (j .variables) → Live (graphOf j) needs v p → T (holds (liveTable needs j (graphOf j)) v p)
-  table-live none v p hv (here n) = live-closed v p hv (action-is-code j (λ (a : Action). contains (needs a) v) p (none v) n) (inl n)
+  table-live none v p hv (now n) = live-closed v p hv (action-is-code j (λ (a : Action). contains (needs a) v) p (none v) n) (inl n)
   table-live none v p hv (later {q = q} k e l) =
       live-closed v p hv (next-is-code j p q e)
       (inr (and-intro (isKept v p) (isLater (liveTable needs j (graphOf j)) v p) k

@@ -17,7 +17,7 @@ use Rattle.nll_spec.specs.WellFormed.{actionNamed, pathNamed, isRegion}
 use Rattle.nll_spec.specs.Graph.{graphOf, actionAt, isWalked}
 use Rattle.nll_spec.specs.Loans.{Loan, loanAt, loansOf, loanNumber, scopeTable}
 use Rattle.nll_spec.specs.Access.{Access, Read, Write, MutBorrow, Move, Dead, accesses, conflicts, faultKind, Verdict, firstFault, inScopeAt, verdictAt}
-use Rattle.nll_spec.specs.Meaning.{Sets, Reached, LoanOf, ScopePath, first, more, Faulted, Judged, none, this, pass}
+use Rattle.nll_spec.specs.Meaning.{Sets, Reached, LoanOf, ScopePath, first, more, Faulted, Judged, clean, this, pass}
 use Rattle.nll_spec.proofs.Tests.{and-left, and-right, contains-below, below-contains}
 use Rattle.nll_spec.proofs.Lookup.{contains-select, select-contains}
 use Rattle.nll_spec.proofs.Members.{member-place, place-member, any-member, any-element, member-gather, gather-member, member-map, map-member}
@@ -41,7 +41,7 @@ pub judged-fault : (fault : Access → Type 0) (i : ℕ) (xs : List Access) (v :
 judged-fault fault i xs v h = (some-fault i xs v h, λ f e. kind-set i xs v h (f .0) (f .1) (f .2) e)
   where
     some-fault : (i : ℕ) (xs : List Access) (v : Verdict) → Judged fault i xs v → (v .kind ≡ 0 → ⊥) → (x : Access) × Member x xs × fault x
-    some-fault i xs v none e = absurd (e refl)
+    some-fault i xs v clean e = absurd (e refl)
     some-fault i xs v (this {x = x} f) e = (x, here, f)
     some-fault i (x ∷ xs) v (pass calm rest) e = let r = some-fault (suc i) xs v rest e in (r .0, there (r .1), r .2)
 
@@ -54,7 +54,7 @@ judged-fault fault i xs v h = (some-fault i xs v h, λ f e. kind-set i xs v h (f
 first-judged : (j : Job) (loans : List Loan) (fault : Access → Type 0) → ((x : Access) → T (any (conflicts j x) loans) → fault x) → ((x : Access) → fault x → T (any (conflicts j x) loans))
     → (i : ℕ) (xs : List Access) → Judged fault i xs (firstFault j loans i xs)
 unfolding firstFault
-first-judged j loans fault yes-if if-yes i [] = none
+first-judged j loans fault yes-if if-yes i [] = clean
 first-judged j loans fault yes-if if-yes i (x ∷ xs) = go (any (conflicts j x) loans) refl (first-judged j loans fault yes-if if-yes (suc i) xs)
   where
     go : (b : Bool) → any (conflicts j x) loans ≡ b → Judged fault (suc i) xs (firstFault j loans (suc i) xs)

@@ -1,4 +1,4 @@
--- Sets as words, for any number of words: the bit of a point is where document 01 puts it, and words and sets determine each other.
+-- Sets as words, for any fromBits of words: the bit of a point is where document 01 puts it, and words and sets determine each other.
 -- Assumes nothing.
 use mathlib.Core.Path.{_≡_, refl, sym, _∙_, ap}
 use mathlib.Core.Bool.{Bool, true, false}
@@ -10,35 +10,35 @@ use lib.ListN.{length, getD, take, drop, length-append, length-drop, length-map,
 use lib.Seq.{length-take-le, getD-take, getD-drop, getD-append-add, drop-drop, ext-getD}
 use lib.Dec.{eqb}
 use Rattle.nll_spec.specs.Lists.{gather, below}
-use Rattle.nll_spec.specs.Output.{wordBits, bit, number, rowWords}
+use Rattle.nll_spec.specs.Output.{wordBits, bit, fromBits, rowWords}
 use Rattle.nll_spec.specs.Meaning.{bitOf}
 use Rattle.nll_spec.proofs.Tests.{length-countFrom}
 use Rattle.nll_spec.proofs.Lookup.{getD-map-below}
 
--- bit i of the number with these bits
-pub number-bit : (bs : List Bool) (i : ℕ) → number bs / 2 ^ i % 2 ≡ bit (getD bs i false)
-unfolding number
+-- bit i of the fromBits with these bits
+pub number-bit : (bs : List Bool) (i : ℕ) → fromBits bs / 2 ^ i % 2 ≡ bit (getD bs i false)
+unfolding fromBits
 number-bit [] i = ap (λ (n : ℕ). n % 2) (zero-div (2 ^ i))
 number-bit (b ∷ bs) zero = rw (pow-zero, div-one) (low b)
   where
-    low : (b : Bool) → (bit b + 2 * number bs) % 2 ≡ bit b
+    low : (b : Bool) → (bit b + 2 * fromBits bs) % 2 ≡ bit b
     low true = omega arith
     low false = omega arith
 number-bit (b ∷ bs) (suc i) = ap (λ (n : ℕ). n % 2) shift ∙ number-bit bs i
   where
-    half : (b : Bool) → (bit b + 2 * number bs) / 2 ≡ number bs
+    half : (b : Bool) → (bit b + 2 * fromBits bs) / 2 ≡ fromBits bs
     half true = omega arith
     half false = omega arith
 
-    shift : (bit b + 2 * number bs) / 2 ^ suc i ≡ number bs / 2 ^ i
-    shift = rw pow-succ' (sym (div-div-eq-div-mul (bit b + 2 * number bs) 2 (2 ^ i)) ∙ ap (λ (n : ℕ). n / 2 ^ i) (half b))
+    shift : (bit b + 2 * fromBits bs) / 2 ^ suc i ≡ fromBits bs / 2 ^ i
+    shift = rw pow-succ' (sym (div-div-eq-div-mul (bit b + 2 * fromBits bs) 2 (2 ^ i)) ∙ ap (λ (n : ℕ). n / 2 ^ i) (half b))
 
-pub number-fits : (bs : List Bool) → number bs < 2 ^ length bs
-unfolding number
+pub number-fits : (bs : List Bool) → fromBits bs < 2 ^ length bs
+unfolding fromBits
 number-fits [] = rw pow-zero (omega arith)
 number-fits (b ∷ bs) = rw pow-succ' (go b (number-fits bs))
   where
-    go : (b : Bool) → number bs < 2 ^ length bs → bit b + 2 * number bs < 2 * 2 ^ length bs
+    go : (b : Bool) → fromBits bs < 2 ^ length bs → bit b + 2 * fromBits bs < 2 * 2 ^ length bs
     go true h = omega arith
     go false h = omega arith
 
@@ -47,11 +47,11 @@ unfolding rowWords
 length-words zero bs = refl
 length-words (suc n) bs = ap suc (length-words n (drop 32 bs))
 
-pub words-at : (n : ℕ) (bs : List Bool) (i : ℕ) → i < n → getD (rowWords n bs) i 0 ≡ number (take 32 (drop (32 * i) bs))
+pub words-at : (n : ℕ) (bs : List Bool) (i : ℕ) → i < n → getD (rowWords n bs) i 0 ≡ fromBits (take 32 (drop (32 * i) bs))
 unfolding rowWords
 words-at zero bs i h = absurd (not-suc-le-zero h)
 words-at (suc n) bs zero h = refl
-words-at (suc n) bs (suc i) h = words-at n (drop 32 bs) i (le-of-suc-le-suc h) ∙ ap (λ (l : List Bool). number (take 32 l)) (drop-drop (32 * i) 32 bs ∙ ap (λ (k : ℕ). drop k bs) e)
+words-at (suc n) bs (suc i) h = words-at n (drop 32 bs) i (le-of-suc-le-suc h) ∙ ap (λ (l : List Bool). fromBits (take 32 l)) (drop-drop (32 * i) 32 bs ∙ ap (λ (k : ℕ). drop k bs) e)
   where
     e : 32 + 32 * i ≡ 32 * suc i
     e = omega arith
@@ -104,8 +104,8 @@ row-bit w rows rest r p h l =
 
 -- ---- Words and sets determine each other
 
-number-take-fits : (k : ℕ) (bs : List Bool) → number (take k bs) < 2 ^ k
-unfolding number
+number-take-fits : (k : ℕ) (bs : List Bool) → fromBits (take k bs) < 2 ^ k
+unfolding fromBits
 number-take-fits zero bs = rw pow-zero (omega arith)
 number-take-fits (suc k) [] = rw pow-succ' (omega (arith, number-take-fits k []))
 number-take-fits (suc k) (true ∷ bs) = rw pow-succ' (omega (arith, number-take-fits k bs))
@@ -133,12 +133,12 @@ bit-eqb zero h = refl
 bit-eqb (suc zero) h = refl
 bit-eqb (suc (suc m)) h = absurd (omega arith)
 
--- a number is that with its bits, as many as it needs
-pub number-of-bits : (bs : List Bool) (w : ℕ) → w < 2 ^ length bs → ((i : ℕ) → i < length bs → getD bs i false ≡ eqb (w / 2 ^ i % 2) 1) → number bs ≡ w
-unfolding number
+-- a fromBits is that with its bits, as many as it needs
+pub number-of-bits : (bs : List Bool) (w : ℕ) → w < 2 ^ length bs → ((i : ℕ) → i < length bs → getD bs i false ≡ eqb (w / 2 ^ i % 2) 1) → fromBits bs ≡ w
+unfolding fromBits
 number-of-bits [] w h same = omega (arith, pow-zero 2)
 number-of-bits (b ∷ bs) w h same =
-    let high : number bs ≡ w / 2 = number-of-bits bs (w / 2) (omega (arith, fits)) (λ i l. same (suc i) (suc-le-suc l) ∙ ap (λ (x : ℕ). eqb (x % 2) 1) (shift i)) in
+    let high : fromBits bs ≡ w / 2 = number-of-bits bs (w / 2) (omega (arith, fits)) (λ i l. same (suc i) (suc-le-suc l) ∙ ap (λ (x : ℕ). eqb (x % 2) 1) (shift i)) in
     omega (arith, low, high)
   where
     low : bit b ≡ w % 2

@@ -34,11 +34,13 @@ referentVariance Shared = Co
 
 -- ---- Relating types, at a point
 
+-- the first parameter's variance; of no parameters it is never asked
 abbrev pub headVariance : List Param → Variance
 headVariance [] = In
 headVariance (d ∷ ds) = d .variance
 
 module _ (at : Point) where
+  -- the first outlives the second; neither is a bound in an accepted job
   abbrev pub requireOutlives : Region → Region → List Outlives
   requireOutlives a b = gather (λ sup. map (λ sub. record { sup = sup; sub = sub; point = at }) (regionName b)) (regionName a)
 
@@ -62,7 +64,7 @@ module _ (at : Point) where
       relateArgs (RegionArg r rest) v ds us = relateRegions (within v (headVariance ds)) r (headRegion us) ++ relateArgs rest v (tail ds) (tailArgs us)
       relateArgs (TypeArg t rest) v ds us = relate t (within v (headVariance ds)) (headType us) ++ relateArgs rest v (tail ds) (tailArgs us)
 
-    -- The region of each Ref that a supporting prefix of a borrow's source steps out of outlives the borrow's.
+    -- For each supporting prefix of a borrow's source that ends in a step out of a Ref: that Ref's region outlives the borrow's.
     unfoldable pub relateSource : Region → Ty → List FieldName → List Outlives
     relateSource r t [] = []
     relateSource r t (f ∷ fs) =

@@ -133,8 +133,8 @@ pub record Part (A : Type 0) : Type 0 where
   pub item : A
   pub left : ℕ
 
-abbrev pub with : {A : Type 0} → A → ℕ → Part A
-with a n = record { item = a; left = n }
+abbrev pub part : {A : Type 0} → A → ℕ → Part A
+part a n = record { item = a; left = n }
 
 -- A type's tag, which is one node. Refusal 4 at a node too many, whatever its tag.
 unfoldable pub nodeTag : ℕ → Reader ℕ
@@ -144,24 +144,24 @@ nodeTag left = do
 
 -- n arguments of a struct, each a region or a type, which `inner` reads.
 unfoldable pub args : (ℕ → Reader (Part Ty)) → ℕ → ℕ → Reader (Part Args)
-args inner zero left = done (with NoArgs left)
+args inner zero left = done (part NoArgs left)
 args inner (suc n) left =
     oneOf
-    ((do r ← region; rest ← args inner n left; done (with (RegionArg r (rest .item)) (rest .left)))
-    ∷ (do t ← inner left; rest ← args inner n (t .left); done (with (TypeArg (t .item) (rest .item)) (rest .left)))
+    ((do r ← region; rest ← args inner n left; done (part (RegionArg r (rest .item)) (rest .left)))
+    ∷ (do t ← inner left; rest ← args inner n (t .left); done (part (TypeArg (t .item) (rest .item)) (rest .left)))
     ∷ [])
 
 -- A type whose tag is read: Unit, Ref, Struct or Bound.
 unfoldable pub tagged : (ℕ → Reader (Part Ty)) → ℕ → ℕ → Reader (Part Ty)
 tagged inner left =
     pick
-    (done (with UnitTy left)
-    ∷ (do k ← borrowKind; r ← region; t ← inner left; done (with (RefTy k r (t .item)) (t .left)))
-    ∷ (do s ← byte; n ← count 0 maxParams; given ← args inner n left; done (with (StructTy s (given .item)) (given .left)))
-    ∷ (do b ← byte; done (with (BoundTy b) left))
+    (done (part UnitTy left)
+    ∷ (do k ← borrowKind; r ← region; t ← inner left; done (part (RefTy k r (t .item)) (t .left)))
+    ∷ (do s ← byte; n ← count 0 maxParams; given ← args inner n left; done (part (StructTy s (given .item)) (given .left)))
+    ∷ (do b ← byte; done (part (BoundTy b) left))
     ∷ [])
 
--- A type of at most `left` nodes, and of fewer than `depth` from its root down to any leaf.
+-- A type of at most `left` nodes, and of at most `depth` from its root down to any leaf. `depth` is there only so that the recursion ends.
 unfoldable pub typeWithin : ℕ → ℕ → Reader (Part Ty)
 typeWithin zero left = refuse 4
 typeWithin (suc depth) left = do

@@ -1,5 +1,5 @@
--- Demand 3: in a job without access errors, what a borrow lends stays untouched on every path to a use of a holder. Paths and holders as document 01
--- has them; both are read from the record alone.
+-- Demand 3: in a job without access errors, what a borrow lends stays untouched, until it is overwritten, on every path to a use of a holder. Paths and
+-- holders as document 01 has them; both are read from the record alone.
 use mathlib.Core.Path.{_≡_}
 use mathlib.Core.Bool.{Bool, true, false, _||_, _&&_, not, cond}
 use mathlib.Core.List.{List, [], _∷_}
@@ -31,7 +31,7 @@ only v w = eqb w v
 abbrev pub put : Variable → Bool → Holders → Holders
 put v inside h w = cond (eqb w v) inside (h w)
 
--- What an action leaves in the set. Assign from a plain u into a plain v: v is in if u was. Init, or Assign from a stepped path, into a plain v,
+-- What an action leaves in the set. Assign from a plain u into a plain v: v is in exactly if u was. Init, or Assign from a stepped path, into a plain v,
 -- and Borrow into any path with base v: v is out. All else: unchanged.
 unfoldable pub holdersAfter : Action → Holders → Holders
 holdersAfter Noop h = h
@@ -56,7 +56,7 @@ usesHolder g h [] = false
 usesHolder g h (q ∷ []) = any h (uses (actionAt g q))
 usesHolder g h (q ∷ q′ ∷ qs) = usesHolder g (holdersAfter (actionAt g q) h) (q′ ∷ qs)
 
--- No action on the path from p on conflicts with the loan, as long as none from the borrow on overwrote its path or a prefix.
+-- No action on the path after p conflicts with the loan, as long as none before it, p's own included, overwrote the loan's path or a prefix.
 unfoldable pub untouched : Job → Graph → Loan → Point → List Point → Bool
 untouched j g loan p [] = true
 untouched j g loan p (q ∷ qs) = kills j (actionAt g p) loan || not (actionConflicts j (actionAt g q) loan) && untouched j g loan q qs

@@ -9,24 +9,30 @@ use lib.ListN.{length, getD}
 use lib.Dec.{T, eqb, ltb}
 use Rattle.nll_spec.specs.Lists.{contains, Member}
 use Rattle.nll_spec.specs.Syntax.{Job, Point, RegionName, Variable, Path, Action, Borrow}
-use Rattle.nll_spec.specs.Decode.{decoded, decode, pointCount}
+use Rattle.nll_spec.specs.Decode.{rejected, decoded, decode, pointCount}
 use Rattle.nll_spec.specs.Types.{variableType, regionsOf}
 use Rattle.nll_spec.specs.Graph.{Graph, graphOf, actionAt, nextOf, firstPoint}
 use Rattle.nll_spec.specs.Liveness.{defs, uses, drops}
-use Rattle.nll_spec.specs.Constraints.{Outlives, constraintsOf}
+use Rattle.nll_spec.specs.Constraints.{Outlives, constraintsAt}
 use Rattle.nll_spec.specs.Regions.{EndRule, passesEnd, isExit, dropRegions}
 use Rattle.nll_spec.specs.Loans.{Loan, kills}
 use Rattle.nll_spec.specs.Access.{Access, accesses, conflicts, faultKind, Verdict, noFault}
-use Rattle.nll_spec.specs.Output.{wordBits, wordCount, verdictBytes, analyse}
+use Rattle.nll_spec.specs.Output.{wordBits, wordCount, verdictBytes, wordsNeeded, bytesNeeded, judge, analyse}
 
 -- ---- Demand 1
 
--- The number is 0 or one of ten refusals, and a refusal leaves both buffers as they were.
-abbrev pub Refuses : EndRule → Type 0
-Refuses ends =
-    (input ws bs : List ℕ)
-    → (analyse ends input ws bs .number ≤ 10)
-    × ((analyse ends input ws bs .number ≡ 0 → ⊥) → (analyse ends input ws bs .words ≡ ws) × (analyse ends input ws bs .bytes ≡ bs))
+-- Both buffers have room for a job's answer.
+abbrev pub Room : Job → List ℕ → List ℕ → Type 0
+Room j ws bs = (wordsNeeded j ≤ length ws) × (bytesNeeded j ≤ length bs)
+
+-- The number is 0 or one of ten refusals. It is 0 exactly for a job that 1 to 9 let pass and that there is room for, 10 exactly where the room is missing,
+-- and any other exactly where that refusal applies first. A refusal leaves both buffers as they were.
+pub record Refuses (ends : EndRule) (input ws bs : List ℕ) : Type 0 where
+  pub one-of-ten : analyse ends input ws bs .number ≤ 10
+  pub accepted : (analyse ends input ws bs .number ≡ 0) ↔ ((j : Job) × (judge input ≡ decoded j) × Room j ws bs)
+  pub too-short : (analyse ends input ws bs .number ≡ 10) ↔ ((j : Job) × (judge input ≡ decoded j) × (Room j ws bs → ⊥))
+  pub refused : (n : ℕ) → (n ≡ 0 → ⊥) → (n ≡ 10 → ⊥) → (analyse ends input ws bs .number ≡ n) ↔ (judge input ≡ rejected n)
+  pub untouched : (analyse ends input ws bs .number ≡ 0 → ⊥) → (analyse ends input ws bs .words ≡ ws) × (analyse ends input ws bs .bytes ≡ bs)
 
 -- ---- Seeds
 
@@ -42,7 +48,7 @@ pub data Reached (j : Job) : Point → Type 0 where
 -- Variable v is live on entry to a point, for `uses` or for `drops`: the action there needs its value, or does not replace it and v is live on entry to a
 -- point that follows.
 pub data Live (g : Graph) (needs : Action → List Variable) (v : Variable) : Point → Type 0 where
-  here : {p : Point} → T (contains (needs (actionAt g p)) v) → Live g needs v p
+  now : {p : Point} → T (contains (needs (actionAt g p)) v) → Live g needs v p
   later : {p q : Point} → T (not (contains (defs (actionAt g p)) v)) → Next g p q → Live g needs v q → Live g needs v p
 
 -- Declared region r outlives itself and, transitively, the regions that the record gives it.
@@ -75,13 +81,19 @@ pub record Meets (ends : EndRule) (g : Graph) (sets : Sets) (c : Outlives) : Typ
   pub points : (q : Point) → Walk g (sets (c .sub)) (c .point) q → T (sets (c .sup) q)
   pub passed : (q e : Point) → Walk g (sets (c .sub)) (c .point) q → T (isExit g q) → g .code ≤ e → e < g .points → T (passesEnd ends (sets (c .sub) e)) → T (sets (c .sup) e)
 
+-- A constraint that an action of a walked block makes.
+pub record ConstraintOf (j : Job) (c : Outlives) : Type 0 where
+  pub at : Point
+  pub walked : Reached j at
+  pub made : Member c (constraintsAt j at (actionAt (graphOf j) at))
+
 -- Sets that contain the seeds of the first n regions and meet every constraint.
-pub record Solves (ends : EndRule) (g : Graph) (n : ℕ) (seed : RegionName → Point → Type 0) (cs : List Outlives) (sets : Sets) : Type 0 where
+pub record Solves (ends : EndRule) (g : Graph) (n : ℕ) (seed : RegionName → Point → Type 0) (cs : Outlives → Type 0) (sets : Sets) : Type 0 where
   pub seeded : (r : RegionName) (q : Point) → r < n → seed r q → T (sets r q)
-  pub met : (c : Outlives) → Member c cs → Meets ends g sets c
+  pub met : (c : Outlives) → cs c → Meets ends g sets c
 
 -- The least such sets.
-pub record LeastSolution (ends : EndRule) (g : Graph) (n : ℕ) (seed : RegionName → Point → Type 0) (cs : List Outlives) (sets : Sets) : Type 0 where
+pub record LeastSolution (ends : EndRule) (g : Graph) (n : ℕ) (seed : RegionName → Point → Type 0) (cs : Outlives → Type 0) (sets : Sets) : Type 0 where
   pub solves : Solves ends g n seed cs sets
   pub smallest : (others : Sets) → Solves ends g n seed cs others → (r : RegionName) (q : Point) → r < n → T (sets r q) → T (others r q)
 
@@ -108,7 +120,7 @@ pub record Faulted (j : Job) (sets : Sets) (p : Point) (x : Access) : Type 0 whe
 
 -- The verdict on accesses, the first of which is operand i: that of the first that is faulted, or none.
 pub data Judged (fault : Access → Type 0) : ℕ → List Access → Verdict → Type 0 where
-  none : {i : ℕ} → Judged fault i [] noFault
+  clean : {i : ℕ} → Judged fault i [] noFault
   this : {i : ℕ} {x : Access} {xs : List Access} → fault x → Judged fault i (x ∷ xs) (record { kind = faultKind x; operand = i })
   pass : {i : ℕ} {x : Access} {xs : List Access} {v : Verdict} → (fault x → ⊥) → Judged fault (suc i) xs v → Judged fault i (x ∷ xs) v
 
@@ -126,10 +138,18 @@ setsIn n ws r p = ltb p n && eqb (bitOf ws (wordBits * (r * wordCount n) + p)) 1
 abbrev pub verdictIn : List ℕ → Point → Verdict
 verdictIn bs p = record { kind = getD bs (verdictBytes * p) 0; operand = getD bs (suc (verdictBytes * p)) 0 }
 
--- What is written for an accepted job.
-pub record Means (ends : EndRule) (j : Job) (ws bs : List ℕ) : Type 0 where
+-- A buffer after the call: as long as before, with room for what is written, and as before from there on.
+pub record Kept (needed : ℕ) (old new : List ℕ) : Type 0 where
+  pub room : needed ≤ length old
+  pub as-long : length new ≡ length old
+  pub tail : (i : ℕ) → needed ≤ i → getD new i 0 ≡ getD old i 0
+
+-- What is written for an accepted job: `old-ws` and `old-bs` are the buffers before, ws and bs after.
+pub record Means (ends : EndRule) (j : Job) (old-ws old-bs ws bs : List ℕ) : Type 0 where
+  pub words-kept : Kept (wordsNeeded j) old-ws ws
+  pub bytes-kept : Kept (bytesNeeded j) old-bs bs
   -- the words say the least sets
-  pub least-sets : LeastSolution ends (graphOf j) (j .regions) (Seed j) (constraintsOf j (graphOf j)) (setsIn (pointCount j) ws)
+  pub least-sets : LeastSolution ends (graphOf j) (j .regions) (Seed j) (ConstraintOf j) (setsIn (pointCount j) ws)
   -- and have no other bit
   pub unused : (r : RegionName) (p : Point) → r < j .regions → pointCount j ≤ p → p < wordBits * wordCount (pointCount j) → bitOf ws (wordBits * (r * wordCount (pointCount j)) + p) ≡ 0
   -- a point's verdict is that on its action's accesses, destination first
@@ -142,7 +162,8 @@ pub record Means (ends : EndRule) (j : Job) (ws bs : List ℕ) : Type 0 where
       → (getD bs (verdictBytes * pointCount j + r) 0 ≡ 1) ↔ ((p : Point) × T (setsIn (pointCount j) ws r p) × (Seed j r p → ⊥))
   pub marks : (r : RegionName) → r < length (j .outlives) → getD bs (verdictBytes * pointCount j + r) 0 ≤ 1
 
+-- What every accepting call writes means this.
 abbrev pub AnswersMean : EndRule → Type 0
 AnswersMean ends =
     (input ws bs : List ℕ) (j : Job) → decode input ≡ decoded j → analyse ends input ws bs .number ≡ 0
-    → Means ends j (analyse ends input ws bs .words) (analyse ends input ws bs .bytes)
+    → Means ends j ws bs (analyse ends input ws bs .words) (analyse ends input ws bs .bytes)

@@ -1,7 +1,7 @@
 -- What the call returns and leaves in the two lent buffers.
 use mathlib.Core.Bool.{Bool, true, false, _&&_}
 use mathlib.Core.List.{List, [], _∷_, _++_, map}
-use Prim.Native.Nat.{ℕ, zero, suc, _+_, _*_, _/_}
+use Prim.Native.Nat.{ℕ, zero, suc, _+_, _-_, _*_, _/_}
 use lib.ListN.{length, take, drop}
 use lib.Dec.{leb}
 use Rattle.nll_spec.specs.Lists.{gather, below}
@@ -23,6 +23,7 @@ pub record Answer : Type 0 where
   pub verdicts : List Verdict
   pub grown : List Bool
 
+-- what is computed of an accepted job
 unfoldable pub answer : EndRule → Job → Answer
 answer ends j =
     let g = graphOf j in
@@ -48,18 +49,18 @@ bit true = 1
 bit false = 0
 
 -- the number with these bits, the lowest first
-unfoldable pub number : List Bool → ℕ
-number [] = 0
-number (b ∷ bs) = bit b + 2 * number bs
+unfoldable pub fromBits : List Bool → ℕ
+fromBits [] = 0
+fromBits (b ∷ bs) = bit b + 2 * fromBits bs
 
 -- a set as n words
 unfoldable pub rowWords : ℕ → List Bool → List ℕ
 rowWords zero bs = []
-rowWords (suc n) bs = number (take wordBits bs) ∷ rowWords n (drop wordBits bs)
+rowWords (suc n) bs = fromBits (take wordBits bs) ∷ rowWords n (drop wordBits bs)
 
 -- how many words a set of n points takes
 abbrev pub wordCount : ℕ → ℕ
-wordCount n = (n + 31) / wordBits
+wordCount n = (n + (wordBits - 1)) / wordBits
 
 unfoldable pub wordsOf : Answer → List ℕ
 wordsOf a = gather (rowWords (wordCount (a .points))) (a .sets)
@@ -109,5 +110,6 @@ judgeJob j = elim (refusal j) [ zero ↦ decoded j | suc n ↦ rejected (suc n) 
 unfoldable pub judge : List ℕ → Decoded
 judge input = elim (decode input) [ rejected n ↦ rejected n | decoded j ↦ judgeJob j ]
 
+-- The whole call: a record, the words and the bytes before.
 unfoldable pub analyse : EndRule → List ℕ → List ℕ → List ℕ → Outcome
 analyse ends input ws bs = elim (judge input) [ rejected n ↦ unchanged n ws bs | decoded j ↦ write ends j ws bs ]

@@ -32,7 +32,7 @@ unfoldable mutual
   dropArgRegions (RegionArg r rest) ss ds = cond (headDangles ds) [] (regionName r) ++ dropArgRegions rest ss (tail ds)
   dropArgRegions (TypeArg t rest) ss ds = cond (headDangles ds) (dropRegions t ss) (regionsOf t) ++ dropArgRegions rest ss (tail ds)
 
--- Region r outlives e if it is e, or outlives a region by the record that outlives e.
+-- Region r outlives e if it is e, or the record lists for r a region that outlives e.
 abbrev pub outlivesRule : Job → Rule
 outlivesRule j t r e = eqb r e || any (λ m. holds t m e) (getD (j .outlives) r [])
 
@@ -40,7 +40,7 @@ outlivesRule j t r e = eqb r e || any (λ m. holds t m e) (getD (j .outlives) r 
 unfoldable pub outlivesTable : Job → Table
 outlivesTable j = least (length (j .outlives)) (below (length (j .outlives))) (outlivesRule j)
 
--- Variable v is live on entry to point p with region r in its type: used later, or dropped later.
+-- On entry to point p, variable v is used later and has region r in its type, or is dropped later and its type's drop needs r.
 abbrev pub hasLive : Job → Table → Table → RegionName → Point → Variable → Bool
 hasLive j used dropped r p v =
     holds used v p && contains (regionsOf (variableType j v)) r || holds dropped v p && contains (dropRegions (variableType j v) (j .structs)) r
@@ -59,8 +59,8 @@ seedTable j g =
 
 -- ---- Least sets
 
--- What a constraint puts into its outer region where its walk comes to a point without successors: every declared end, or those that its inner
--- region holds.
+-- What a constraint puts into its outer region where its walk comes to a point without successors: every declared end, which is document 01's rule, or those
+-- that its inner region holds, which is ticket 7's of document 02.
 pub data EndRule : Type 0 where
   everyEnd heldEnds : EndRule
 
@@ -68,6 +68,7 @@ abbrev pub passesEnd : EndRule → Bool → Bool
 passesEnd everyEnd held = true
 passesEnd heldEnds held = held
 
+-- what no row below the regions' is asked for
 abbrev pub noConstraint : Outlives
 noConstraint = record { sup = 0; sub = 0; point = 0 }
 

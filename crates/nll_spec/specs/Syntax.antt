@@ -85,7 +85,8 @@ pub record Block : Type 0 where
   pub successors : List BlockIndex
   pub actions : List Action
 
--- A whole record. `outlives` has an entry for each declared region: those that it outlives. Declared are the first of the regions.
+-- A whole record. `outlives` has an entry for each declared region: those that it outlives. Declared are the first of the regions. `start`
+-- is 0 in version 1.
 pub record Job : Type 0 where
   pub structs : List StructDecl
   pub regions : ℕ

@@ -81,11 +81,12 @@ unfoldable mutual
   argNodes (RegionArg r rest) = argNodes rest
   argNodes (TypeArg t rest) = typeNodes t + argNodes rest
 
--- the names of all regions in a type
+-- the name of a region, if it has one
 abbrev pub regionName : Region → List RegionName
 regionName (Free n) = n ∷ []
 regionName (BoundRegion b) = []
 
+-- the names of all regions in a type
 unfoldable mutual
   pub regionsOf : Ty → List RegionName
   regionsOf UnitTy = []
@@ -172,6 +173,7 @@ begins ss stop t [] gs = neverStops ss stop t gs
 begins ss stop t (f ∷ fs) [] = false
 begins ss stop t (f ∷ fs) (g ∷ gs) = let rest = begins ss stop (step ss t f) fs gs in eqb f g && rest
 
+-- q is a prefix of p, and no step that p has beyond it leaves a type that stops
 abbrev pub prefixBy : (Ty → Bool) → Job → Path → Path → Bool
 prefixBy stop j q p = let rest = begins (j .structs) stop (variableType j (q .base)) (q .steps) (p .steps) in eqb (q .base) (p .base) && rest
 

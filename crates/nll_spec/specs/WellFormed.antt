@@ -73,6 +73,7 @@ module _ (j : Job) where
   unfoldable pub actionsNamed : Bool
   actionsNamed = every actionNamed (actionsOf j)
 
+  -- refusal 6 does not apply
   unfoldable pub named : Bool
   named =
       leb (length (j .outlives)) (j .regions) && structsNamed && outlivedNamed && variablesNamed && successorsNamed && ltb (j .start) (length (j .blocks)) && actionsNamed
@@ -124,6 +125,7 @@ typesFit j = fieldsFit j && variablesFit j
 
 -- ---- 8: paths step through types of at most 32 nodes
 
+-- each step may be taken, and reaches a type of at most 32 nodes
 unfoldable pub stepsFit : List StructDecl → Ty → List FieldName → Bool
 stepsFit ss t [] = true
 stepsFit ss t (f ∷ fs) = elim (stepType ss t f) [ none ↦ false | some u ↦ leb (typeNodes u) maxNodes && stepsFit ss u fs ]

@@ -1,7 +1,5 @@
 //! What can be compared: each engine has the signature of the call.
 
-use original::Order;
-
 /// What a call returns.
 #[derive(Clone, Debug, PartialEq, Eq)]
 pub enum Outcome {
@@ -37,98 +35,59 @@ impl Engine for Model {
     }
 }
 
-/// Orders of the blocks, one after the other.
-struct Orders {
-    next: u64,
-}
-
-impl Orders {
-    fn next(&mut self) -> Order {
-        self.next += 1;
-        match self.next % 4 {
-            0 => Order::PostOrder,
-            1 => Order::ReversePostOrder,
-            2 => Order::ByIndex,
-            _ => Order::Shuffled(self.next),
+/// An engine that is a build of the original. Each call visits the blocks in another order.
+macro_rules! build_of_the_original {
+    ($(#[$doc:meta])* $name:ident, $build:ident) => {
+        $(#[$doc])*
+        #[derive(Default)]
+        pub struct $name {
+            calls: u64,
         }
-    }
-}
 
-/// The original, unchanged. Each call visits the blocks in another order.
-pub struct Original {
-    orders: Orders,
-}
-
-impl Original {
-    pub fn new() -> Self {
-        Original { orders: Orders { next: 0 } }
-    }
-}
-
-impl Default for Original {
-    fn default() -> Self {
-        Original::new()
-    }
-}
-
-/// The original without its assert at action 0.
-pub struct Answering {
-    orders: Orders,
-}
-
-impl Answering {
-    pub fn new() -> Self {
-        Answering { orders: Orders { next: 0 } }
-    }
-}
-
-impl Default for Answering {
-    fn default() -> Self {
-        Answering::new()
-    }
-}
-
-impl Engine for Original {
-    fn call(&mut self, record: &[u8], words: &mut [u32], bytes: &mut [u8]) -> Outcome {
-        if model::accept(record).is_err() {
-            return Outcome::NotJudged;
-        }
-        match original::analyse(record, self.orders.next()) {
-            Ok(answer) => {
-                let verdicts: Vec<u8> = answer.verdicts.iter().flat_map(|v| [v.kind, v.operand]).collect();
-                write(&answer.regions, &verdicts, &answer.grown, words, bytes)
+        impl $name {
+            pub fn new() -> Self {
+                Self::default()
             }
-            Err(original::Failure::Panicked(message)) => Outcome::Panicked(message),
-            Err(original::Failure::Unread(message)) => Outcome::Panicked(format!("unread: {message}")),
-        }
-    }
-}
 
-impl Engine for Answering {
-    fn call(&mut self, record: &[u8], words: &mut [u32], bytes: &mut [u8]) -> Outcome {
-        if model::accept(record).is_err() {
-            return Outcome::NotJudged;
-        }
-        match original_answering::analyse(record, answering_order(self.orders.next())) {
-            Ok(answer) => {
-                let verdicts: Vec<u8> = answer.verdicts.iter().flat_map(|v| [v.kind, v.operand]).collect();
-                write(&answer.regions, &verdicts, &answer.grown, words, bytes)
+            fn next_order(&mut self) -> $build::Order {
+                self.calls += 1;
+                match self.calls % 4 {
+                    0 => $build::Order::PostOrder,
+                    1 => $build::Order::ReversePostOrder,
+                    2 => $build::Order::ByIndex,
+                    _ => $build::Order::Shuffled(self.calls),
+                }
             }
-            Err(original_answering::Failure::Panicked(message)) => Outcome::Panicked(message),
-            Err(original_answering::Failure::Unread(message)) => Outcome::Panicked(format!("unread: {message}")),
         }
-    }
+
+        impl Engine for $name {
+            fn call(&mut self, record: &[u8], words: &mut [u32], bytes: &mut [u8]) -> Outcome {
+                if model::accept(record).is_err() {
+                    return Outcome::NotJudged;
+                }
+                match $build::analyse(record, self.next_order()) {
+                    Ok(answer) => {
+                        let verdicts: Vec<u8> = answer.verdicts.iter().flat_map(|v| [v.kind, v.operand]).collect();
+                        write(&answer.regions, &verdicts, &answer.grown, words, bytes)
+                    }
+                    Err($build::Failure::Panicked(message)) => Outcome::Panicked(message),
+                    Err($build::Failure::Unread(message)) => Outcome::Panicked(format!("unread: {message}")),
+                }
+            }
+        }
+    };
 }
 
-/// The same order, as the second build of the original names it.
-fn answering_order(order: Order) -> original_answering::Order {
-    match order {
-        Order::ReversePostOrder => original_answering::Order::ReversePostOrder,
-        Order::PostOrder => original_answering::Order::PostOrder,
-        Order::ByIndex => original_answering::Order::ByIndex,
-        Order::Shuffled(seed) => original_answering::Order::Shuffled(seed),
-    }
-}
+build_of_the_original!(
+    /// The original, unchanged.
+    Original,
+    original
+);
+build_of_the_original!(
+    /// The original without its assert at action 0.
+    Answering,
+    original_answering
+);
 
 /// Writes what the original says as document 01 lays it out: a row of words by region, the verdicts, the grown marks.
 fn write(regions: &[Vec<bool>], verdicts: &[u8], grown: &[bool], words: &mut [u32], bytes: &mut [u8]) -> Outcome {

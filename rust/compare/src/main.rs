@@ -84,9 +84,16 @@ fn all_families(accepted: u64, damaged: u64, seed: u64) -> Vec<Family> {
         ("short strings", seed, Box::new(generate::short::strings())),
         ("short bodies", seed, Box::new(generate::short::bodies(8, 4))),
         ("few actions", seed, Box::new(generate::exhaustive::records(3))),
+        ("largest", seed, Box::new(largest(seed))),
         ("damaged", seed, Box::new((seed..seed + damaged).map(generate::damaged))),
         ("accepted", seed, Box::new((seed..seed + accepted).map(generate::accepted))),
     ]
+}
+
+/// Records at the limits, and three of the kind that is much work.
+fn largest(seed: u64) -> impl Iterator<Item = Vec<u8>> {
+    let random = (seed..seed + 60).map(|seed| generate::accepted_of(seed, &LARGEST));
+    random.chain((2..5).map(|nodes| dense(&mut Rng::new(1), nodes)))
 }
 
 /// Compares the engines on each family, and tells whether they agree on all.
@@ -101,15 +108,23 @@ fn families(first: &str, second: &str, families: Vec<Family>) -> bool {
         for record in records {
             trial.record(&record);
         }
-        let tally = trial.tally;
+        let mut tally = trial.tally;
         tally.print(family, started.elapsed().as_secs_f64());
-        for record in tally.disagreements.iter().take(5) {
-            let smallest = shrink(record, &mut |record| disagree(first, second, record));
-            println!("  disagree on {}", hex(&smallest));
+        tally.disagreements.sort_by_key(Vec::len);
+        for record in tally.disagreements.iter().take(3) {
+            println!("  disagree on {}", hex(&smallest(first, second, record)));
         }
         agree &= tally.disagreements.is_empty();
     }
     agree
+}
+
+/// A smaller record on which the engines disagree. A long record is left as it is: that would take too long.
+fn smallest(first: &str, second: &str, record: &[u8]) -> Vec<u8> {
+    if record.len() > 400 {
+        return record.to_vec();
+    }
+    shrink(record, &mut |record| disagree(first, second, record))
 }
 
 fn disagree(first: &str, second: &str, record: &[u8]) -> bool {

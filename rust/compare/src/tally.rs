@@ -38,7 +38,10 @@ impl Tally {
         for (kind, count) in &self.fault_kinds {
             println!("  faults of kind {kind}: {count}");
         }
-        println!("  calls compared: {}, by the answering build: {}, not judged by the first engine: {}", self.compared, self.compared_by_answering, self.not_judged);
+        println!(
+            "  calls compared: {}, by the answering build: {}, not judged by the first engine: {}",
+            self.compared, self.compared_by_answering, self.not_judged
+        );
         for (message, count) in &self.panics {
             println!("  panics: {count} of {message}");
         }

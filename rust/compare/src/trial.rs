@@ -23,7 +23,14 @@ pub struct Trial<'e> {
 
 impl<'e> Trial<'e> {
     pub fn new(first: &'e mut dyn Engine, second: &'e mut dyn Engine, seed: u64) -> Self {
-        Trial { first, second, answering: Answering::new(), try_refused: false, rng: Rng::new(seed), tally: Tally::default() }
+        Trial {
+            first,
+            second,
+            answering: Answering::new(),
+            try_refused: false,
+            rng: Rng::new(seed),
+            tally: Tally::default(),
+        }
     }
 
     /// Compares the engines on a record, and tells whether they agree: with long enough buffers and,

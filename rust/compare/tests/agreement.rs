@@ -35,7 +35,9 @@ fn in_every_order_of_the_blocks() {
     for seed in 2_000_000..2_000_500 {
         let record = generate::accepted(seed);
         let first = original_answering::analyse(&record, original_answering::Order::ReversePostOrder).expect("an answer");
-        for order in [Order::ReversePostOrder, Order::PostOrder, Order::ByIndex, Order::Shuffled(seed), Order::Shuffled(!seed)] {
+        for order in
+            [Order::ReversePostOrder, Order::PostOrder, Order::ByIndex, Order::Shuffled(seed), Order::Shuffled(!seed)]
+        {
             match original::analyse(&record, order) {
                 Ok(other) => {
                     assert_eq!((&first.regions, &first.grown), (&other.regions, &other.grown), "seed {seed}, {order:?}");

@@ -5,6 +5,7 @@ use compare::lent::Lent;
 use compare::{bytes_of, hex};
 use model::encode::encode;
 use model::syntax::*;
+use original::{Failure, Order};
 
 /// What an answer says: the points of each region, the faults as point, kind and operand, the grown regions.
 #[derive(Debug, PartialEq)]
@@ -28,7 +29,10 @@ fn ask(engine: &mut dyn Engine, record: &[u8]) -> Said {
     let holds = |region: usize, p: usize| lent.words[region * row + p / 32] >> (p % 32) & 1 == 1;
     Said {
         regions: (0..job.regions).map(|region| (0..points).filter(|&p| holds(region, p)).collect()).collect(),
-        faults: (0..points).filter(|&p| lent.bytes[2 * p] != 0).map(|p| (p, lent.bytes[2 * p], lent.bytes[2 * p + 1])).collect(),
+        faults: (0..points)
+            .filter(|&p| lent.bytes[2 * p] != 0)
+            .map(|p| (p, lent.bytes[2 * p], lent.bytes[2 * p + 1]))
+            .collect(),
         grown: (0..job.declared()).filter(|region| lent.bytes[2 * points + region] == 1).collect(),
     }
 }
@@ -126,6 +130,15 @@ fn a_constraint_at_action_0_grows_a_declared_region() {
         Outcome::Panicked(message) => assert!(message.contains("constraint.point.action > 0"), "{message}"),
         other => panic!("{other:?}"),
     }
+}
+
+#[test]
+fn the_order_of_the_blocks_decides_whether_the_assert_is_met() {
+    let start = [Action::Constraint { sup: 0, sub: 1 }];
+    let leaf = [Action::Noop, Action::Constraint { sup: 0, sub: 0 }];
+    let record = job(2, &[&[], &[]], &[], &[(&[1], &start), (&[], &leaf)]);
+    assert!(matches!(original::analyse(&record, Order::ReversePostOrder), Err(Failure::Panicked(_))));
+    assert!(original::analyse(&record, Order::PostOrder).is_ok());
 }
 
 #[test]

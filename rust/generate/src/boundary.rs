@@ -343,7 +343,11 @@ impl Cases {
             self.job("region of a variable's Ref", number, &with_variable(rich(), shared(region, Ty::Unit)));
             let pair = Ty::Struct(0, vec![Arg::Region(free(region)), Arg::Ty(Ty::Unit)]);
             self.job("region argument", number, &with_variable(rich(), pair));
-            self.job("region in a field", number, &changed(|job| job.structs[1].fields = vec![field(1, shared(region, Ty::Unit))]));
+            self.job(
+                "region in a field",
+                number,
+                &changed(|job| job.structs[1].fields = vec![field(1, shared(region, Ty::Unit))]),
+            );
             let inner = Ty::Struct(0, vec![Arg::Region(free(0)), Arg::Ty(shared(region, Ty::Unit))]);
             self.job("region in an argument's type", number, &with_variable(rich(), inner));
             self.action("sup", number, &rich(), Action::Constraint { sup: region, sub: 0 });
@@ -353,7 +357,11 @@ impl Cases {
         }
         for (name, number) in [(1, 0), (2, 6), (255, 6)] {
             self.job("struct of a variable", number, &with_variable(rich(), Ty::Struct(name, vec![])));
-            self.job("struct of a field", number, &changed(|job| job.structs[1].fields = vec![field(1, Ty::Struct(name, vec![]))]));
+            self.job(
+                "struct of a field",
+                number,
+                &changed(|job| job.structs[1].fields = vec![field(1, Ty::Struct(name, vec![]))]),
+            );
         }
         for (variable, number) in [(3, 0), (4, 6), (255, 6)] {
             let here = || path(variable, &[]);

@@ -43,7 +43,8 @@ fn record(job: &Job, blocks: Vec<Block>) -> Vec<u8> {
 /// The actions in one block, in a block that is its own successor, and with all but the first in a
 /// loop after it.
 fn graphs(actions: &[Action]) -> Vec<Vec<Block>> {
-    let block = |successors: &[BlockIndex], actions: &[Action]| Block { successors: successors.to_vec(), actions: actions.to_vec() };
+    let block =
+        |successors: &[BlockIndex], actions: &[Action]| Block { successors: successors.to_vec(), actions: actions.to_vec() };
     let mut found = vec![vec![block(&[], actions)], vec![block(&[0], actions)]];
     if let Some((first, rest)) = actions.split_first() {
         found.push(vec![block(&[1, 2], std::slice::from_ref(first)), block(&[1, 2], rest), block(&[], &[])]);
@@ -153,7 +154,8 @@ fn fields() -> Menu {
 fn declared(outlives: Vec<Vec<RegionName>>) -> Menu {
     let last = outlives.len();
     let (a, b, c, x) = (0, 1, 2, 3);
-    let variables = vec![reference(Shared, 0, Ty::Unit), reference(Shared, 1, Ty::Unit), reference(Shared, last, Ty::Unit), Ty::Unit];
+    let variables =
+        vec![reference(Shared, 0, Ty::Unit), reference(Shared, 1, Ty::Unit), reference(Shared, last, Ty::Unit), Ty::Unit];
     Menu {
         job: Job { structs: vec![], regions: last + 1, outlives, variables, blocks: vec![] },
         actions: vec![
@@ -185,8 +187,13 @@ fn structs(variance: Variance, may_dangle: bool) -> Menu {
     let of = |region, ty| Ty::Struct(0, vec![Arg::Region(Region::Free(region)), Arg::Ty(ty)]);
     let shared = |region| reference(Shared, region, Ty::Unit);
     let (a, b, r, m, x) = (0, 1, 2, 3, 4);
-    let variables =
-        vec![of(0, shared(1)), of(2, shared(3)), reference(Shared, 4, of(0, shared(1))), reference(Mut, 4, of(2, shared(3))), Ty::Unit];
+    let variables = vec![
+        of(0, shared(1)),
+        of(2, shared(3)),
+        reference(Shared, 4, of(0, shared(1))),
+        reference(Mut, 4, of(2, shared(3))),
+        Ty::Unit,
+    ];
     Menu {
         job: Job { structs: vec![decl], regions: 6, outlives: vec![], variables, blocks: vec![] },
         actions: vec![

@@ -284,7 +284,5 @@ fn successors(rng: &mut Rng, index: usize, count: usize) -> Vec<BlockIndex> {
     // fewer leaves among many blocks, so that most of them are walked
     let leaf = if last { 150 } else { 1 + 40 / count };
     let wanted = rng.weighted(&[leaf, 55, 24, 4, 1, 1, 1, 1, 1]);
-    (0..wanted)
-        .map(|_| if !last && rng.chance(60) { index + 1 } else { rng.below(count) })
-        .collect()
+    (0..wanted).map(|_| if !last && rng.chance(60) { index + 1 } else { rng.below(count) }).collect()
 }

@@ -2,11 +2,12 @@
 //!
 //!     generate accepted SEED COUNT    accepted records of all sizes
 //!     generate tiny SEED COUNT        accepted records with few points
+//!     generate small SEED COUNT       somewhat larger ones
 //!     generate largest SEED COUNT     accepted records at the limits
 //!     generate damaged SEED COUNT     damaged copies
 //!     generate boundary               both sides of each refusal
 
-use generate::jobs::{LARGEST, TINY};
+use generate::jobs::{LARGEST, SMALL, TINY};
 
 fn main() {
     let words: Vec<String> = std::env::args().skip(1).collect();
@@ -27,6 +28,7 @@ fn family_named(name: &str) -> fn(u64) -> Vec<u8> {
     match name {
         "accepted" => generate::accepted,
         "tiny" => |seed| generate::accepted_of(seed, &TINY),
+        "small" => |seed| generate::accepted_of(seed, &SMALL),
         "largest" => |seed| generate::accepted_of(seed, &LARGEST),
         "damaged" => generate::damaged,
         _ => usage(),
@@ -39,6 +41,6 @@ fn print(record: &[u8]) {
 }
 
 fn usage() -> ! {
-    eprintln!("usage: generate accepted|tiny|largest|damaged SEED COUNT, or generate boundary");
+    eprintln!("usage: generate accepted|tiny|small|largest|damaged SEED COUNT, or generate boundary");
     std::process::exit(2)
 }

@@ -115,10 +115,7 @@ impl Input<'_> {
     }
 
     fn struct_decl(&mut self) -> Result<StructDecl, u8> {
-        Ok(StructDecl {
-            params: self.counted(most::PARAMS, Self::param)?,
-            fields: self.counted(most::FIELDS, Self::field)?,
-        })
+        Ok(StructDecl { params: self.counted(most::PARAMS, Self::param)?, fields: self.counted(most::FIELDS, Self::field)? })
     }
 
     fn param(&mut self) -> Result<Param, u8> {

@@ -29,9 +29,7 @@ impl Ty {
     pub fn subst(&self, args: &[Arg]) -> Ty {
         match self {
             Ty::Unit => Ty::Unit,
-            Ty::Ref(kind, region, referent) => {
-                Ty::Ref(*kind, region.subst(args), Box::new(referent.subst(args)))
-            }
+            Ty::Ref(kind, region, referent) => Ty::Ref(*kind, region.subst(args), Box::new(referent.subst(args))),
             Ty::Struct(name, inner) => Ty::Struct(*name, inner.iter().map(|arg| arg.subst(args)).collect()),
             Ty::Bound(index) => match bound(args, *index) {
                 Arg::Ty(ty) => ty.clone(),

@@ -136,8 +136,9 @@ fn operands(action: &repr::Action) -> Vec<(u8, String)> {
         ActionKind::Borrow(ref dest, _, BorrowKind::Mut, ref source) => {
             vec![(write, dest.to_string()), (write, source.to_string())]
         }
-        ActionKind::Borrow(ref dest, _, BorrowKind::Shared, ref source) |
-        ActionKind::Assign(ref dest, ref source) => vec![(write, dest.to_string()), (read, source.to_string())],
+        ActionKind::Borrow(ref dest, _, BorrowKind::Shared, ref source) | ActionKind::Assign(ref dest, ref source) => {
+            vec![(write, dest.to_string()), (read, source.to_string())]
+        }
         ActionKind::Use(ref path) => vec![(read, path.to_string())],
         ActionKind::Drop(ref path) => vec![(moved, path.to_string())],
         ActionKind::StorageDead(variable) => vec![(dead, variable.to_string())],

@@ -24,11 +24,7 @@ mod regionck {
 
     /// `region_check`, which keeps what was found.
     pub fn checked<'env>(env: &'env Environment<'env>) -> RegionCheck<'env> {
-        let mut ck = RegionCheck {
-            env,
-            infer: InferenceContext::new(),
-            region_map: HashMap::new(),
-        };
+        let mut ck = RegionCheck { env, infer: InferenceContext::new(), region_map: HashMap::new() };
         ck.check().expect("no assertion and no expected error is given");
         ck
     }

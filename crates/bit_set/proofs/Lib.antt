@@ -1,0 +1,5 @@
+pub mod BitLaws
+pub mod RunLaws
+pub mod SetLaws
+pub mod RowLaws
+pub mod TableLaws
