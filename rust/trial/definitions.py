@@ -1,5 +1,6 @@
 #!/usr/bin/env python3
 """definitions.py CRATE [TINY SMALL DAMAGED SEED]: has the checker compute the definitions of a crate on generated records.
+definitions.py CRATE boundary: the same on the records at the boundary of each refusal.
 
 CRATE is the folder of nll_spec. It is copied to a temporary folder, where a module `Trial` is added to its specs: a theorem for
 every 20 records says that `Output.analyse` gives the recorded number, words and bytes. Then `rt check` proves the copy, and must
@@ -7,6 +8,7 @@ refuse another with one recorded byte changed.
 The recorded answers come from `compare answers`: the original's where it judges, else the model's.
 Run it in rust/, after `cargo build --release`."""
 import glob, os, re, shutil, subprocess, sys, tempfile
+from collections import Counter
 
 BATCH = 20
 FILL = 7  # what the buffers hold before the call
@@ -25,6 +27,12 @@ def generated(family, seed, count, longest):
 
 def records(tiny, small, damaged, seed):
     return generated('tiny', seed, tiny, 120) + generated('small', seed, small, 150) + generated('damaged', seed, damaged, 80)
+
+
+def wanted(words):
+    if words == ['boundary']:
+        return [record for record in lines(['target/release/generate', 'boundary']) if len(record) <= 2 * 250]
+    return records(*[int(word) for word in words] + [320, 30, 150, 1][len(words):])
 
 
 def answers(found):
@@ -66,7 +74,7 @@ def lent(need, short, spare):
 
 
 def row(index, record, answer):
-    """One record: every twelfth accepted one gets a buffer that is too short."""
+    """One record: every sixth, if it is accepted, gets a buffer that is one too short."""
     number, words, bytes_ = answer
     short_bytes = number == 0 and index % 12 == 5
     short_words = number == 0 and index % 12 == 11 and len(words) > 0
@@ -164,12 +172,15 @@ def check(crate, rows, quiet=False):
 def main():
     if len(sys.argv) < 2:
         sys.exit(__doc__)
-    given = [int(word) for word in sys.argv[2:]] + [320, 30, 150, 1][len(sys.argv) - 2:]
-    found = records(*given)
-    rows = [row(index, record, answer) for index, (record, answer) in enumerate(zip(found, answers(found)))]
+    found = wanted(sys.argv[2:])
+    given = answers(found)
+    rows = [row(index, record, answer) for index, (record, answer) in enumerate(zip(found, given))]
+    counts = Counter(int(text.split(' ')[5]) for text in rows)
+    print('records by number: ' + ', '.join(f'{number}: {counts[number]}' for number in sorted(counts)), flush=True)
     status = check(sys.argv[1], rows)
     print(f'{len(rows)} records in {-(-len(rows) // BATCH)} theorems: {"proved" if status == 0 else "NOT PROVED"}')
-    refused = check(sys.argv[1], [spoiled(found[0])], quiet=True) == 1
+    accepted = next(record for record, answer in zip(found, given) if answer[0] == 0)
+    refused = check(sys.argv[1], [spoiled(accepted)], quiet=True) == 1
     print(f'a spoiled record: {"refused, as it must be" if refused else "NOT REFUSED"}')
     sys.exit(status if refused else 1)
 

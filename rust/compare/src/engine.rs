@@ -6,7 +6,7 @@ pub enum Outcome {
     Number(u8),
     /// The engine panicked with this message.
     Panicked(String),
-    /// The engine says nothing of such a record: the original knows no refusals.
+    /// The engine says nothing of such a record: the original knows no refusals, and the model's are taken.
     NotJudged,
 }
 

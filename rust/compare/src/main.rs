@@ -4,7 +4,7 @@ use compare::engine::named;
 use compare::shrink::shrink;
 use compare::trial::Trial;
 use compare::{bytes_of, hex, recorded, speed};
-use generate::jobs::{dense, LARGEST};
+use generate::jobs::{dense, slow, LARGEST};
 use generate::rng::Rng;
 use std::process::exit;
 use std::time::Instant;
@@ -14,7 +14,8 @@ const USAGE: &str = "usage:
   compare few FIRST SECOND MOST                    the same on all jobs of so many actions from the menus
   compare one FIRST SECOND HEX                     the same on one record
   compare speed [COUNT [SEED]]                     time the original on the largest records
-  compare speed-dense NODES..                      the same on records that are much work
+  compare speed-dense NODES..                      the same on records that are much work,
+  compare speed-slow NODES..                       and on such that take the original many rounds
   compare record FILE                              write the recorded answers
   compare answers                                  read records, one to a line in hexadecimal, and print what is
                                                    recorded of each: the number, the words, the bytes";
@@ -29,9 +30,10 @@ fn main() {
             speed::measure(&records);
             true
         }
-        ["speed-dense", ref nodes @ ..] => {
-            let nodes = (0..nodes.len()).map(|index| number(nodes, index, 0));
-            let records: Vec<_> = nodes.map(|nodes| dense(&mut Rng::new(1), nodes as usize)).collect();
+        [kind @ ("speed-dense" | "speed-slow"), ref nodes @ ..] => {
+            let record = if kind == "speed-dense" { dense } else { slow };
+            let nodes = (0..nodes.len()).map(|index| number(nodes, index, 0) as usize);
+            let records: Vec<_> = nodes.map(|nodes| record(&mut Rng::new(1), nodes)).collect();
             speed::measure(&records);
             true
         }

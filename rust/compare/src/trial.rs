@@ -56,8 +56,9 @@ impl<'e> Trial<'e> {
         match first {
             Outcome::NotJudged => {
                 self.tally.not_judged += 1;
-                let Outcome::Number(number) = second else { return true };
-                (number == 0 || after_second == *before) && (!self.try_refused || self.refused(record, number))
+                let refusal = model::accept(record).expect_err("the original judges accepted records");
+                let refused = second == Outcome::Number(refusal) && after_second == *before;
+                refused && (!self.try_refused || self.refused(record, refusal))
             }
             Outcome::Panicked(message) => {
                 let known = message.contains(ASSERT_AT_ACTION_0);
@@ -100,7 +101,7 @@ impl<'e> Trial<'e> {
     /// Of 8 and 9 it must panic exactly if it looks at what is wrong. Of 6 and 7 it is only counted
     /// whether it panics.
     fn refused(&mut self, record: &[u8], number: u8) -> bool {
-        if matches!(number, 0 | 4 | 5 | 10) || record.len() > model::decode::MAX_LENGTH + 3 {
+        if matches!(number, 4 | 5) || record.len() > model::decode::MAX_LENGTH + 3 {
             return true;
         }
         let (does, right) = match original::analyse(record, original::Order::ReversePostOrder) {

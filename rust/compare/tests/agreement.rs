@@ -77,6 +77,24 @@ fn a_lost_bit_is_a_disagreement() {
     assert!(trial.tally.disagreements.len() > 50);
 }
 
+/// An engine that refuses everything.
+struct Refuser;
+
+impl Engine for Refuser {
+    fn call(&mut self, _record: &[u8], _words: &mut [u32], _bytes: &mut [u8]) -> Outcome {
+        Outcome::Number(3)
+    }
+}
+
+#[test]
+fn a_wrong_refusal_is_a_disagreement() {
+    let (mut first, mut second) = (Original::new(), Refuser);
+    let mut trial = Trial::new(&mut first, &mut second, 1);
+    for case in generate::boundary::cases() {
+        assert_eq!(trial.record(&case.record), case.number == 3, "{}", case.name);
+    }
+}
+
 #[test]
 fn the_recorded_answers_are_the_originals() {
     let file = std::fs::read(concat!(env!("CARGO_MANIFEST_DIR"), "/../recorded/answers.bin")).expect("recorded answers");

@@ -1,8 +1,11 @@
 //! Records on both sides of the boundary of each refusal, with the number that document 01 gives.
 
-use model::decode::{most, MAX_LENGTH, MAX_NODES};
 use model::encode::{encode, with_length};
 use model::syntax::*;
+
+// the limits, as document 01 has them
+const MAX_LENGTH: usize = 16_384;
+const MAX_NODES: usize = 32;
 
 pub struct Case {
     pub name: String,
@@ -189,28 +192,28 @@ impl Cases {
     fn counts(&mut self) {
         for over in [0, 1, 100] {
             let number = if over == 0 { 0 } else { 4 };
-            let of = |most: u8| (usize::from(most) + over).min(255);
+            let of = |most: usize| (most + over).min(255);
             let empty = StructDecl { params: vec![], fields: vec![] };
-            self.job("structs", number, &Job { structs: repeated(empty.clone(), of(most::STRUCTS)), ..plain() });
-            self.job("regions", number, &Job { regions: of(most::REGIONS), ..plain() });
-            self.job("declared", number, &Job { regions: 128, outlives: repeated(vec![], of(most::DECLARED)), ..plain() });
-            self.job("variables", number, &Job { variables: repeated(Ty::Unit, of(most::VARIABLES)), ..plain() });
-            self.job("blocks", number, &Job { blocks: repeated(block(vec![]), of(most::BLOCKS)), ..plain() });
+            self.job("structs", number, &Job { structs: repeated(empty.clone(), of(16)), ..plain() });
+            self.job("regions", number, &Job { regions: of(128), ..plain() });
+            self.job("declared", number, &Job { regions: 128, outlives: repeated(vec![], of(16)), ..plain() });
+            self.job("variables", number, &Job { variables: repeated(Ty::Unit, of(64)), ..plain() });
+            self.job("blocks", number, &Job { blocks: repeated(block(vec![]), of(64)), ..plain() });
 
-            let params = repeated(param(Variance::Co, false, Kind::Type), of(most::PARAMS));
+            let params = repeated(param(Variance::Co, false, Kind::Type), of(4));
             self.job("parameters", number, &changed(|job| job.structs[1].params = params.clone()));
-            let fields = repeated(field(1, Ty::Unit), of(most::FIELDS));
+            let fields = repeated(field(1, Ty::Unit), of(8));
             self.job("fields", number, &changed(|job| job.structs[1].fields = fields));
-            self.job("outlived", number, &changed(|job| job.outlives[1] = repeated(0, of(most::OUTLIVED))));
-            self.job("successors", number, &changed(|job| job.blocks[2].successors = repeated(1, of(most::SUCCESSORS))));
-            self.job("actions", number, &changed(|job| job.blocks[2].actions = repeated(Action::Noop, of(most::ACTIONS))));
-            let sources = repeated(path(3, &[]), of(most::SOURCES));
+            self.job("outlived", number, &changed(|job| job.outlives[1] = repeated(0, of(16))));
+            self.job("successors", number, &changed(|job| job.blocks[2].successors = repeated(1, of(8))));
+            self.job("actions", number, &changed(|job| job.blocks[2].actions = repeated(Action::Noop, of(64))));
+            let sources = repeated(path(3, &[]), of(8));
             self.action("sources", number, &rich(), Action::Init(path(3, &[]), sources));
             let deep = with_variable(rich(), chain(20));
-            let steps = repeated(STAR, of(most::STEPS));
+            let steps = repeated(STAR, of(6));
             self.action("steps", number, &deep, Action::Use(path(4, &steps)));
             let wide = changed(|job| job.structs[1].params = repeated(param(Variance::In, false, Kind::Type), 4));
-            let args = repeated(Arg::Ty(Ty::Unit), of(most::PARAMS));
+            let args = repeated(Arg::Ty(Ty::Unit), of(4));
             self.job("arguments", number, &with_variable(wide, Ty::Struct(1, args)));
         }
         self.job("no block", 4, &Job { blocks: vec![], ..plain() });

@@ -138,9 +138,23 @@ fn outlives(rng: &mut Rng, declared: usize) -> Vec<Vec<RegionName>> {
 /// A job that is much work: 64 blocks in a loop, all full, and variables that are chains of Mut Refs
 /// with so many nodes, most of which are assigned to each other. Each assignment relates all regions both ways.
 pub fn dense(rng: &mut Rng, nodes: usize) -> Vec<u8> {
-    let (regions, variables, blocks) = (128, 64, 64);
+    model::encode::encode(&dense_job(rng, nodes, 128)).expect("a short record")
+}
+
+/// The same with the upper half of the regions in no type: each of these outlives the one below it, by
+/// constraints that come in the wrong order for the original, so that each round of its solver grows one.
+pub fn slow(rng: &mut Rng, nodes: usize) -> Vec<u8> {
+    let mut job = dense_job(rng, nodes, 65);
+    for (index, block) in job.blocks.iter_mut().enumerate().take(63) {
+        *block.actions.last_mut().unwrap() = Action::Constraint { sup: 127 - index, sub: 126 - index };
+    }
+    model::encode::encode(&job).expect("a short record")
+}
+
+fn dense_job(rng: &mut Rng, nodes: usize, regions_in_types: usize) -> Job {
+    let (variables, blocks) = (64, 64);
     let chain = |rng: &mut Rng| {
-        let reference = |ty, _| Ty::Ref(BorrowKind::Mut, Region::Free(rng.below(regions)), Box::new(ty));
+        let reference = |ty, _| Ty::Ref(BorrowKind::Mut, Region::Free(rng.below(regions_in_types)), Box::new(ty));
         (1..nodes).fold(Ty::Unit, reference)
     };
     let action = |rng: &mut Rng| {
@@ -154,14 +168,13 @@ pub fn dense(rng: &mut Rng, nodes: usize) -> Vec<u8> {
         successors: vec![(index + 1) % blocks, rng.below(blocks)],
         actions: (0..14).map(|_| action(rng)).collect(),
     };
-    let job = Job {
+    Job {
         structs: vec![],
-        regions,
+        regions: 128,
         outlives: vec![vec![]; 16],
         variables: (0..variables).map(|_| chain(rng)).collect(),
         blocks: (0..blocks).map(|index| block(rng, index)).collect(),
-    };
-    model::encode::encode(&job).expect("a short record")
+    }
 }
 
 /// What the actions of one job are drawn from.

@@ -1,0 +1,27 @@
+-- `record::access::point_at` meets its contract. Assumes nothing.
+use Rattle.record.proofs.AccessLaws.{point-end, point-action}
+use borrow.Author.Needs.{needs}
+use Rattle.record.proofs.access.point_at.Statement.{statement}
+use Rattle.record.proofs.access.point_at.Tie as tie
+
+add-at : tie.Need-add-at
+add-at c = search needs
+
+mul-at : tie.Need-mul-at
+mul-at c = search needs
+
+element-copy-out-at : tie.Need-element-copy-out-at
+element-copy-out-at c = search needs
+
+place-requires : tie.Need-place-requires
+place-requires c κs = search needs
+
+returns : tie.Need-returns
+returns c = point-end (c .if1 .taken)
+
+returns-2 : tie.Need-returns-2
+returns-2 c = point-action (c .before .if1 .left) (c .place .ensures)
+
+pub point-at-spec : {M : Type 1} → statement M
+point-at-spec =
+    tie.close (tie.spec add-at mul-at element-copy-out-at place-requires returns returns-2)
