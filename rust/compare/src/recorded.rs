@@ -1,4 +1,4 @@
-//! Recorded answers: a file of records with what the original says of them. `recorded/README.md` has the format.
+//! Recorded answers: a file of records with what the original says of them. `crates/replay/README.md` has the format.
 
 use crate::engine::{Answering, Engine, Model, Original, Outcome};
 use crate::lent::Lent;
