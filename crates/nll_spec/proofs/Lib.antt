@@ -8,6 +8,7 @@ pub mod GraphLaws
 pub mod AcceptedLaws
 pub mod TypeLaws
 pub mod SeedLaws
+pub mod WalkedLaws
 pub mod WordLaws
 pub mod DecodeLaws
 pub mod Names

@@ -4,26 +4,28 @@
 use mathlib.Core.Path.{_≡_, sym, subst, refl, ap}
 use mathlib.Core.Logic.{_⊎_, inl, inr, _↔_}
 use mathlib.Core.Bool.{Bool, _&&_, _||_, cond}
+use mathlib.Core.List.{List}
 use Prim.Native.Nat.{ℕ, _+_, _-_, _<_, _≤_}
 use native.Mathlib.Omega.{arith}
 use lib.ListN.{length, getD}
 use lib.Dec.{T, eqb, eqb-refl, ltb, leb, ltb→lt, le→leb, eqb→eq, leb→le}
 use borrow.Author.Tests.{lt-ltb, le-ltb}
-use Rattle.nll_spec.specs.Lists.{any, anyFrom, select, contains, below, Member}
+use Rattle.nll_spec.specs.Lists.{any, anyFrom, contains, below, Member}
 use Rattle.nll_spec.specs.Fixpoint.{Table, Rule, holds, least}
 use Rattle.nll_spec.specs.Syntax.{Job, Point, RegionName}
-use Rattle.nll_spec.specs.Graph.{Graph, graphOf, actionAt, predsOf, isWalked}
+use Rattle.nll_spec.specs.Graph.{Graph, graphOf, actionAt, predsOf}
 use Rattle.nll_spec.specs.Constraints.{Outlives, constraintsAt, constraintsOf}
 use Rattle.nll_spec.specs.Regions.{EndRule, passesEnd, seedTable, regionRule, adds, visits, noConstraint, isExit, solve, everyEnd, heldEnds}
 use Rattle.nll_spec.specs.WellFormed.{successorsNamed}
 use Rattle.nll_spec.specs.Meaning.{Sets, ConstraintOf, Walk, begin, go-on, Meets, LeastSolution}
 use Rattle.nll_spec.proofs.Names.{setsOf}
 use Rattle.nll_spec.proofs.Tests.{cond-true, cond-false, and-intro, and-left, and-right, or-left, or-right, contains-below, length-countFrom, any-of, below-contains, or-cases, any-found}
-use Rattle.nll_spec.proofs.Lookup.{holds-take, anyFrom-at, anyFrom-found, contains-select, select-contains}
+use Rattle.nll_spec.proofs.Lookup.{holds-take, anyFrom-at, anyFrom-found}
 use Rattle.nll_spec.proofs.Least.{least-closed, held-inside, least-ind, sized-least}
-use Rattle.nll_spec.proofs.SeedLaws.{walked-reached, reached-walked, seed-points}
-use Rattle.nll_spec.proofs.GraphLaws.{next→preds, preds→next, next-in-code, walked-is-code}
-use Rattle.nll_spec.proofs.Members.{member-place, place-member, every-member, member-gather, gather-member}
+use Rattle.nll_spec.proofs.SeedLaws.{seed-points}
+use Rattle.nll_spec.proofs.WalkedLaws.{walked-member, member-walked}
+use Rattle.nll_spec.proofs.GraphLaws.{next→preds, preds→next, next-in-code}
+use Rattle.nll_spec.proofs.Members.{member-place, place-member, every-member}
 use Rattle.nll_spec.proofs.AcceptedLaws.{Accepted}
 use Rattle.nll_spec.proofs.TypeLaws.{isNamed, constraints-good}
 use Rattle.nll_spec.proofs.MonotoneLaws.{Looser, looser-same, looser-every, rule-mono}
@@ -336,23 +338,13 @@ module _ (ends : EndRule) (g : Graph) (n : ℕ) (cs cs′ : Outlives → Type 0)
 -- ---- The constraints of a job are those that the actions of walked blocks make
 
 module _ (j : Job) where
+  abbrev made : Point → List Outlives
+  made p = constraintsAt j p (actionAt (graphOf j) p)
+
   pub constraint-of : (c : Outlives) → Member c (constraintsOf j (graphOf j)) → ConstraintOf j c
   unfolding constraintsOf
-  constraint-of c m =
-      record {
-        at = p .0;
-        walked = walked-reached j (p .0) (select-contains (isWalked (graphOf j)) (below (graphOf j .code)) (p .0) (p .1) .1);
-        made = p .2;
-      }
-    where
-      p : (n : Point) × T (contains (select (isWalked (graphOf j)) (below (graphOf j .code))) n) × Member c (constraintsAt j n (actionAt (graphOf j) n))
-      p = gather-member (λ (n : Point). constraintsAt j n (actionAt (graphOf j) n)) (select (isWalked (graphOf j)) (below (graphOf j .code))) m
+  constraint-of c m = let (p, at, m′) = walked-member j made m in record { at = p; walked = at; made = m′ }
 
   pub of-constraint : Accepted j → (c : Outlives) → ConstraintOf j c → Member c (constraintsOf j (graphOf j))
   unfolding constraintsOf
-  of-constraint ok c m =
-      member-gather (λ (n : Point). constraintsAt j n (actionAt (graphOf j) n)) (select (isWalked (graphOf j)) (below (graphOf j .code))) (m .at)
-      (contains-select (isWalked (graphOf j)) (below (graphOf j .code)) (m .at) (contains-below (graphOf j .code) (m .at) (walked-is-code j (m .at) walked)) walked) (m .made)
-    where
-      walked : T (isWalked (graphOf j) (m .at))
-      walked = reached-walked j (ok .start-named) (ok .successors-named) (m .at) (m .walked)
+  of-constraint ok c m = member-walked j made ok (m .at) (m .walked) (m .made)

@@ -14,16 +14,15 @@ use Rattle.nll_spec.specs.Fixpoint.{Table, holds}
 use Rattle.nll_spec.specs.Syntax.{RegionName, Point, Path, Job}
 use Rattle.nll_spec.specs.Syntax.{Action, Borrow}
 use Rattle.nll_spec.specs.WellFormed.{actionNamed, pathNamed, isRegion}
-use Rattle.nll_spec.specs.Graph.{graphOf, actionAt, isWalked}
+use Rattle.nll_spec.specs.Graph.{graphOf, actionAt}
 use Rattle.nll_spec.specs.Loans.{Loan, loanAt, loansOf, loanNumber, scopeTable}
 use Rattle.nll_spec.specs.Access.{Access, Read, Write, MutBorrow, Move, Dead, accesses, conflicts, faultKind, Verdict, firstFault, inScopeAt, verdictAt}
 use Rattle.nll_spec.specs.Meaning.{Sets, Reached, LoanOf, ScopePath, first, more, Faulted, Judged, clean, this, pass}
 use Rattle.nll_spec.proofs.Tests.{and-left, and-right, contains-below, below-contains}
 use Rattle.nll_spec.proofs.Lookup.{contains-select, select-contains}
-use Rattle.nll_spec.proofs.Members.{member-place, place-member, any-member, any-element, member-gather, gather-member, member-map, map-member}
-use Rattle.nll_spec.proofs.GraphLaws.{walked-is-code}
+use Rattle.nll_spec.proofs.Members.{member-place, place-member, any-member, any-element, member-map, map-member}
 use Rattle.nll_spec.proofs.AcceptedLaws.{Accepted}
-use Rattle.nll_spec.proofs.SeedLaws.{walked-reached, reached-walked}
+use Rattle.nll_spec.proofs.WalkedLaws.{walked-member, member-walked}
 use Rattle.nll_spec.proofs.ScopeLaws.{scope-path, path-scope}
 
 -- ---- Judging
@@ -70,31 +69,24 @@ unfolding loanAt
 loan-borrow p (Borrow d r k q) loan here = (d, refl, refl)
 
 module _ (j : Job) where
+  abbrev lent : Point → List Loan
+  lent p = loanAt p (actionAt (graphOf j) p)
+
   -- the loans of a job are those of its walked borrows
   loan-of : (loan : Loan) → Member loan (loansOf (graphOf j)) → LoanOf j loan
   unfolding loansOf
   loan-of loan m =
+      let (p, at, borrowed) = walked-member j lent m in
+      let (d, borrow, same) = loan-borrow p (actionAt (graphOf j) p) loan borrowed in
       record {
-        into = b .0;
-        borrow = subst (λ (q : Point). actionAt (graphOf j) q ≡ Borrow (b .0) (loan .region) (loan .kind) (loan .path)) (sym (b .2)) (b .1);
-        walked = subst (λ (q : Point). Reached j q) (sym (b .2)) (walked-reached j (p .0) (select-contains (isWalked (graphOf j)) (below (graphOf j .code)) (p .0) (p .1) .1));
+        into = d;
+        borrow = subst (λ (q : Point). actionAt (graphOf j) q ≡ Borrow d (loan .region) (loan .kind) (loan .path)) (sym same) borrow;
+        walked = subst (λ (q : Point). Reached j q) (sym same) at;
       }
-    where
-      p : (n : Point) × T (contains (select (isWalked (graphOf j)) (below (graphOf j .code))) n) × Member loan (loanAt n (actionAt (graphOf j) n))
-      p = gather-member (λ (n : Point). loanAt n (actionAt (graphOf j) n)) (select (isWalked (graphOf j)) (below (graphOf j .code))) m
-
-      b : (d : Path) × (actionAt (graphOf j) (p .0) ≡ Borrow d (loan .region) (loan .kind) (loan .path)) × (loan .point ≡ p .0)
-      b = loan-borrow (p .0) (actionAt (graphOf j) (p .0)) loan (p .2)
 
   of-loan : Accepted j → (loan : Loan) → LoanOf j loan → Member loan (loansOf (graphOf j))
   unfolding loansOf loanAt
-  of-loan ok loan l =
-      member-gather (λ (n : Point). loanAt n (actionAt (graphOf j) n)) (select (isWalked (graphOf j)) (below (graphOf j .code))) (loan .point)
-      (contains-select (isWalked (graphOf j)) (below (graphOf j .code)) (loan .point) (contains-below (graphOf j .code) (loan .point) (walked-is-code j (loan .point) walked)) walked)
-      (subst (λ (a : Action). Member loan (loanAt (loan .point) a)) (sym (l .borrow)) here)
-    where
-      walked : T (isWalked (graphOf j) (loan .point))
-      walked = reached-walked j (ok .start-named) (ok .successors-named) (loan .point) (l .walked)
+  of-loan ok loan l = member-walked j lent ok (loan .point) (l .walked) (subst (λ (a : Action). Member loan (loanAt (loan .point) a)) (sym (l .borrow)) here)
 
   -- a loan's region is one of the job's
   pub loan-region : Accepted j → (loan : Loan) → LoanOf j loan → loan .region < j .regions
