@@ -1,0 +1,7 @@
+pub mod SpellLaws
+pub mod StandLaws
+pub mod ShapeLaws
+pub mod PutLaws
+pub mod FoundLaws
+pub mod WriteLaws
+pub mod SubstLaws

@@ -1,0 +1,39 @@
+use Rattle.ty.proofs.PutLaws.{put3}
+use native.Mathlib.Omega.{arith}
+use lib.ListN.{length-set}
+use borrow.Author.Needs.{needs}
+use Rattle.ty.proofs.write.put_struct.Statement.{statement}
+use Rattle.ty.proofs.write.put_struct.Tie as tie
+
+slice-write-out : tie.Need-slice-write-out
+slice-write-out c = search needs
+
+add-out : tie.Need-add-out
+add-out c = search needs
+
+slice-write-out-2 : tie.Need-slice-write-out-2
+slice-write-out-2 c = simp length-set (omega arith)
+
+add-out-2 : tie.Need-add-out-2
+add-out-2 c = search needs
+
+slice-write-out-3 : tie.Need-slice-write-out-3
+slice-write-out-3 c = simp length-set (omega arith)
+
+same-length : tie.Need-same-length
+same-length c = search needs
+
+returns : tie.Need-returns
+returns c = put3 _ _ _ _ _ (c .pre)
+
+pub put-struct-spec : {M : Type 1} → statement M
+put-struct-spec =
+    tie.close
+    (tie.spec
+    slice-write-out
+    add-out
+    slice-write-out-2
+    add-out-2
+    slice-write-out-3
+    same-length
+    returns)
