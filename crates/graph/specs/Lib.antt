@@ -1,0 +1,4 @@
+pub mod Tables
+pub mod Shape
+pub mod Filling
+pub mod Search

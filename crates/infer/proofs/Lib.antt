@@ -1,0 +1,8 @@
+pub mod SearchLaws
+pub mod EndLaws
+pub mod PutLaws
+pub mod TableLaws
+pub mod RanLaws
+pub mod MissingLaws
+pub mod OneLaws
+pub mod Cases
