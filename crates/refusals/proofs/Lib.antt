@@ -1,0 +1,5 @@
+pub mod WalkLaws
+pub mod NameLaws
+pub mod RowLaws
+pub mod PartLaws
+pub mod FitLaws

@@ -1,0 +1,155 @@
+-- Items in a row, tested one by one: a row that a cursor goes along, and a row of the table. Assumes nothing.
+use mathlib.Core.Path.{_≡_, refl, sym, ap, _∙_}
+use mathlib.Core.Bool.{Bool, true, false, _&&_}
+use mathlib.Core.List.{List, [], _∷_}
+use Prim.Native.Nat.{ℕ, zero, suc, _+_, _-_, _≤_, _<_}
+use native.Mathlib.Omega.{arith}
+use native.Mathlib.Numerals.{add-one, sub-one}
+use lib.ListN.{length, getD, drop, drop-of-length-le}
+use lib.Seq.{drop-cons}
+use Rattle.nll_spec.specs.Lists.{every}
+use Rattle.nll_spec.specs.Syntax.{UnitTy, Job}
+use Rattle.nll_spec.specs.Decode.{read, Reader, done, byte, items, counted, maxOutlived, structDecl, type, block}
+use Rattle.repr.specs.declared.Cursor.{Cursor}
+use Rattle.repr.specs.declared.EndStep.{EndStep}
+use Rattle.repr.specs.declared.EndStep.the-variants.{Ended, Refused}
+use Rattle.record.specs.Rows.{Stands}
+use Rattle.record.specs.Layout.{Layout}
+use Rattle.record.specs.declared.Head.{Head}
+use Rattle.record.proofs.AccessLaws.{struct-at, outlives-at, variable-at, block-at}
+use Rattle.ty.proofs.SpellLaws.{carry, then}
+use Rattle.refusals.specs.Tests.{Sized, over, fails, pass, passSays, isEnded, Passes, Tested}
+
+-- ---- What the answer tells of the test
+
+pub told-fails : (z : Bool) (p : List ℕ) → fails ≡ pass z p → z ≡ false
+told-fails true p e = absurd (let z : _≡_ {A = ℕ} 0 1 = cc in omega arith)
+told-fails false p e = refl
+
+pub record Over (z : Bool) (p q : List ℕ) : Type 0 where
+  pub passes : z ≡ true
+  pub ends : p ≡ q
+
+pub told-over : (z : Bool) {p : List ℕ} (q : List ℕ) → over p ≡ pass z q → Over z p q
+told-over true q e = record { passes = refl; ends = cc }
+told-over false q e = absurd (let z : _≡_ {A = ℕ} 0 1 = cc in omega arith)
+
+-- whether it passed, and no more
+pub only-test : {A : Type 0} {m : Reader A} {f : A → Bool} {s : List ℕ} {at : ℕ} {d : EndStep} {r : Bool} → Passes m f s at d → r ≡ isEnded d → Tested m f s at r
+only-test {f = f} {s = s} {d = d} {r = r} v i = record { says = λ x bs e. i ∙ go d (f x) bs (v .says x bs e) }
+  where
+    go : (d : EndStep) (z : Bool) (bs : List ℕ) → passSays s d ≡ pass z bs → isEnded d ≡ z
+    go (Ended c) z bs e = sym (told-over z bs e .passes)
+    go (Refused k) z bs e = sym (told-fails z bs e)
+
+-- ---- A row that a cursor goes along
+
+-- the first of n items, and the others
+pub record FirstOf {A : Type 0} (m : Reader A) (n : ℕ) (bs : List ℕ) (xs : List A) (end : List ℕ) : Type 0 where
+  pub item : A
+  pub others : List A
+  pub mid : List ℕ
+  pub same : xs ≡ item ∷ others
+  pub first : m bs ≡ read item mid
+  pub reads : items (n - 1) m mid ≡ read others end
+
+pub first-of : {A : Type 0} (m : Reader A) (n : ℕ) (bs : List ℕ) {xs : List A} {end : List ℕ} → (n ≡ 0 → ⊥) → items n m bs ≡ read xs end → FirstOf m n bs xs end
+unfolding items done
+first-of m zero bs z e = absurd (z refl)
+first-of m (suc n) bs z e =
+    let w = then m _ bs e in
+    let v = then (items n m) _ (w .mid) (w .last) in
+    carry (λ ys o. FirstOf m (suc n) bs ys o) (v .last) (record { item = w .got; others = v .got; mid = w .mid; same = refl; first = w .first; reads = rw (sub-one (suc n)) (v .first) })
+
+none-of : {A : Type 0} (m : Reader A) (n : ℕ) (bs : List ℕ) {xs : List A} {end : List ℕ} → n ≡ 0 → items n m bs ≡ read xs end → (xs ≡ []) × (bs ≡ end)
+unfolding items done
+none-of m n bs z e = carry (λ ys o. (ys ≡ []) × (bs ≡ o)) (rw z at e) (refl, refl)
+
+-- Items that are still to be read, and the test of all is that of these.
+pub record ToGo {A : Type 0} (m : Reader A) (f : A → Bool) (bs : List ℕ) (left : ℕ) (all : Bool) (end : List ℕ) : Type 0 where
+  pub others : List A
+  pub reads : items left m bs ≡ read others end
+  pub same : all ≡ every f others
+
+-- Of n items from one place on, `left` are still to be tested from another on.
+pub record Passing {A : Type 0} (m : Reader A) (f : A → Bool) (s : List ℕ) (from n at left : ℕ) : Type 0 where
+  pub goes : (xs : List A) (end : List ℕ) → items n m (drop from s) ≡ read xs end → ToGo m f (drop at s) left (every f xs) end
+
+pub passing-start : {A : Type 0} (m : Reader A) (f : A → Bool) (s : List ℕ) (at n : ℕ) → Passing m f s at n at n
+passing-start m f s at n = record { goes = λ xs end e. record { others = xs; reads = e; same = refl } }
+
+module _ {A : Type 0} {m : Reader A} {f : A → Bool} {s : List ℕ} {from n at left : ℕ} (g : Passing m f s from n at left) where
+  pub passing-end : left ≡ 0 → (c : Cursor) → c .at ≡ at → Passes (items n m) (every f) s from (Ended c)
+  passing-end z c i = record {
+    says = λ xs end e.
+        let w = g .goes xs end e in
+        let v = none-of m left (drop at s) z (w .reads) in
+        rw (w .same, v .0, ← v .1, i);
+  }
+
+  module _ {d : EndStep} (z : left ≡ 0 → ⊥) (v : Passes m f s at d) where
+    pub passing-stop : {k l : ℕ} → d ≡ Refused k → Passes (items n m) (every f) s from (Refused l)
+    passing-stop i = record {
+      says = λ xs end e.
+          let w = g .goes xs end e in
+          let u = first-of m left (drop at s) z (w .reads) in
+          let t = told-fails (f (u .item)) (u .mid) (sym (ap (passSays s) i) ∙ v .says (u .item) (u .mid) (u .first)) in
+          rw (w .same, ap (every f) (u .same), t);
+    }
+
+    pub passing-more : {c : Cursor} → d ≡ Ended c → Passing m f s from n (c .at) (left - 1)
+    passing-more {c} i = record {
+      goes = λ xs end e.
+          let w = g .goes xs end e in
+          let u = first-of m left (drop at s) z (w .reads) in
+          let t = told-over (f (u .item)) (u .mid) (sym (ap (passSays s) i) ∙ v .says (u .item) (u .mid) (u .first)) in
+          record { others = u .others; reads = rw (t .ends) (u .reads); same = w .same ∙ ap (every f) (u .same) ∙ rw (t .passes) };
+    }
+
+-- ---- A row of the table
+
+-- The test of all is that of the items from number i on.
+pub record Testing {A : Type 0} (f : A → Bool) (xs : List A) (i : ℕ) : Type 0 where
+  pub same : every f xs ≡ every f (drop i xs)
+
+pub testing-start : {A : Type 0} (f : A → Bool) (xs : List A) → Testing f xs 0
+testing-start f xs = record { same = refl }
+
+-- n items, each standing where its entry of the table says, from entry `base` on. x stands for an absent one.
+pub record TableRow {A : Type 0} (m : Reader A) (s t : List ℕ) (base n : ℕ) (xs : List A) (x : A) : Type 0 where
+  pub stands : (i : ℕ) → i < length xs → Stands m (getD xs i x) (drop (getD t (base + i) 0) s)
+  pub count : length xs ≡ n
+
+pub testing-end : {A : Type 0} {m : Reader A} {f : A → Bool} {s t : List ℕ} {base n : ℕ} {xs : List A} {x : A} {i : ℕ} → TableRow m s t base n xs x → Testing f xs i → n ≤ i → true ≡ every f xs
+testing-end {xs = xs} {i = i} w g h = let e = w .count in let l : length xs ≤ i = omega arith in rw (g .same, drop-of-length-le xs l)
+
+module _ {A : Type 0} {m : Reader A} {f : A → Bool} {s t : List ℕ} {base n : ℕ} {xs : List A} {x : A} {i at : ℕ} {r : Bool} (w : TableRow m s t base n xs x) (g : Testing f xs i) (h : i < n) (e : at ≡ getD t (base + i) 0) (v : Tested m f s at r) where
+  at-item : r ≡ f (getD xs i x)
+  at-item = let c = w .count in let k = w .stands i (omega arith) in v .says (getD xs i x) (k .over) (rw e (k .reads))
+
+  from-item : every f (drop i xs) ≡ f (getD xs i x) && every f (drop (suc i) xs)
+  from-item = let c = w .count in rw (drop-cons xs i x (omega arith))
+
+  pub testing-fails : r ≡ false → false ≡ every f xs
+  testing-fails k = rw (g .same, from-item, ← at-item, k)
+
+  pub testing-more : r ≡ true → Testing f xs (i + 1)
+  testing-more k = record { same = rw add-one (g .same ∙ from-item ∙ rw (← at-item, k)) }
+
+-- ---- The rows of a job
+
+module _ {s t : List ℕ} {h : Head} {j : Job} (w : Layout s t h j) where
+  pub structs-row : TableRow structDecl s t 0 (h .structs) (j .structs) (record { params = []; fields = [] })
+  structs-row = record { stands = λ i l. struct-at w i _ l; count = w .structCount }
+
+  pub outlives-row : TableRow (counted maxOutlived byte) s t 16 (h .declared) (j .outlives) []
+  outlives-row = record { stands = λ i l. outlives-at w i _ l; count = w .declaredCount }
+
+  pub variables-row : TableRow type s t 32 (h .variables) (j .variables) UnitTy
+  variables-row = record { stands = λ i l. variable-at w i _ l; count = w .variableCount }
+
+  pub blocks-row : TableRow block s t 96 (h .blocks) (j .blocks) (record { successors = []; actions = [] })
+  blocks-row = record { stands = λ i l. block-at w i _ l; count = w .blockCount }
+
+  pub sized : Sized h j
+  sized = record { regions = sym (w .regions); structs = w .structCount; declared = w .declaredCount; variables = w .variableCount; blocks = w .blockCount }

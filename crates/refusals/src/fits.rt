@@ -1,0 +1,216 @@
+// Refusal 7 of a type: arguments fit the parameters of the struct that is named, and bounds those of the struct around.
+use super::entry;
+use super::wide;
+use record::Head;
+use record::STRUCTS;
+use repr::ArgumentStep;
+use repr::Cursor;
+use repr::EndStep;
+use repr::Kind;
+use repr::NodeStep;
+use repr::NodesStep;
+use repr::ParameterStep;
+use repr::Region;
+use repr::StructName;
+use repr::StructStep;
+ghost use mathlib.Core.Path.{_≡_};
+ghost use mathlib.Core.List.{List};
+ghost use mathlib.Core.Bool.{_&&_};
+ghost use lib.ListN.{length};
+ghost use Rattle.nll_spec.specs.Syntax.{Param, Job};
+ghost use Rattle.nll_spec.specs.Decode.{type};
+ghost use Rattle.nll_spec.specs.Types.{structOf};
+ghost use Rattle.nll_spec.specs.WellFormed.{boundFits, regionFits, typeFits, isRegionKind};
+ghost use Rattle.repr.specs.Reading.{kindOf, regionOf};
+ghost use Rattle.record.specs.Layout.{Layout};
+ghost use Rattle.refusals.specs.Tests.{Passes};
+ghost use Rattle.refusals.specs.Fits.{kindTest, ParamsAt, Within, TypeFit, ArgumentsFit};
+
+// So many parameters of a struct, and where they begin.
+pub struct Params {
+    pub declared: Cursor,
+    pub count: u8,
+}
+
+fn same_kind(kind: Kind, wanted: Kind) -> bool
+    ensures { λ r. ⌜ r ≡ kindTest (kindOf wanted) (kindOf kind) ⌝ }
+{
+    match wanted {
+        Kind::Region => match kind {
+            Kind::Region => true,
+            Kind::Type => false,
+        },
+        Kind::Type => match kind {
+            Kind::Region => false,
+            Kind::Type => true,
+        },
+    }
+}
+
+// Whether a bound index means a parameter of this kind.
+fn bound_fits(s: &[u8], around: Params, b: u8, wanted: Kind) -> bool
+    ensures { λ r. ⌜ ((ps : List Param) → ParamsAt (now (s .entry)) around ps → r ≡ boundFits (kindTest (kindOf wanted)) ps b) ⌝ }
+{
+    let count = around.count;
+    if count <= b {
+        return false;
+    }
+    let declared = around.declared;
+    match declared.parameters(s, count - 1 - b) {
+        EndStep::Refused(_) => false,
+        EndStep::Ended(c) => match c.parameter(s) {
+            ParameterStep::Refused(_) => false,
+            ParameterStep::Parameter(p, _) => {
+                let kind = p.kind;
+                same_kind(kind, wanted)
+            }
+        },
+    }
+}
+
+fn region_fits(s: &[u8], around: Params, region: Region) -> bool
+    ensures { λ r. ⌜ ((ps : List Param) → ParamsAt (now (s .entry)) around ps → r ≡ regionFits ps (regionOf region)) ⌝ }
+{
+    match region {
+        Region::Free(_) => true,
+        Region::Bound(b) => bound_fits(s, around, b, Kind::Region),
+    }
+}
+
+// The parameters of a struct by its name. One that is not there has none.
+fn params_of(s: &[u8], layout: &[u16; 1280], head: Head, name: StructName) -> Params
+    requires { ⌜ length (now layout) ≡ 1280 ⌝ }
+    ensures { λ r. ⌜ ((j : Job) → Layout (now (s .entry)) (now (layout .entry)) head j → ParamsAt (now (s .entry)) r (structOf (j .structs) (name .0) .params)) ⌝ }
+{
+    let at = entry(layout, STRUCTS + wide(name.0));
+    if head.structs <= name.0 {
+        return Params {
+            declared: at,
+            count: 0,
+        };
+    }
+    match at.struct_decl(s) {
+        StructStep::Refused(_) => Params {
+            declared: at,
+            count: 0,
+        },
+        StructStep::Struct(d) => {
+            let declared = d.declared;
+            Params {
+                declared,
+                count: d.parameters,
+            }
+        }
+    }
+}
+
+// Whether a region fits as an argument for a parameter of this kind.
+fn argument_fits(s: &[u8], around: Params, kind: Kind, region: Region) -> bool
+    ensures { λ r. ⌜ ((ps : List Param) → ParamsAt (now (s .entry)) around ps → r ≡ isRegionKind (kindOf kind) && regionFits ps (regionOf region)) ⌝ }
+{
+    same_kind(kind, Kind::Region) & region_fits(s, around, region)
+}
+
+// A type of at most `left` nodes.
+fn type_fits(
+    s: &[u8],
+    layout: &[u16; 1280],
+    head: Head,
+    c: Cursor,
+    left: usize,
+    around: Params,
+) -> NodesStep
+    requires { ⌜ length (now layout) ≡ 1280 ⌝ }
+    ensures { λ r. ⌜ TypeFit (now (s .entry)) (now (layout .entry)) head around (c .at) left r ⌝ }
+{
+    if left == 0 {
+        return NodesStep::Refused(7);
+    }
+    let less = left - 1;
+    match c.type_node(s) {
+        NodeStep::Refused(k) => NodesStep::Refused(k),
+        NodeStep::Unit(next) => NodesStep::Ended { left: less, next },
+        NodeStep::Bound(b, next) => {
+            if !bound_fits(s, around, b, Kind::Type) {
+                return NodesStep::Refused(7);
+            }
+            NodesStep::Ended { left: less, next }
+        }
+        NodeStep::Ref {
+            kind: _,
+            region,
+            referent,
+        } => {
+            if !region_fits(s, around, region) {
+                return NodesStep::Refused(7);
+            }
+            type_fits(s, layout, head, referent, less, around)
+        }
+        NodeStep::Struct {
+            name,
+            count,
+            arguments,
+        } => {
+            let named = params_of(s, layout, head, name);
+            if named.count != count {
+                return NodesStep::Refused(7);
+            }
+            let declared = named.declared;
+            arguments_fit(s, layout, head, arguments, count, less, around, declared)
+        }
+    }
+}
+
+// So many arguments, of at most `left` nodes together, for as many parameters.
+fn arguments_fit(
+    s: &[u8],
+    layout: &[u16; 1280],
+    head: Head,
+    c: Cursor,
+    count: u8,
+    left: usize,
+    around: Params,
+    declared: Cursor,
+) -> NodesStep
+    requires { ⌜ length (now layout) ≡ 1280 ⌝ }
+    ensures { λ r. ⌜ ArgumentsFit (now (s .entry)) (now (layout .entry)) head around declared (c .at) count left r ⌝ }
+{
+    if count == 0 {
+        return NodesStep::Ended { left, next: c };
+    }
+    let ParameterStep::Parameter(p, others) = declared.parameter(s) else {
+        return NodesStep::Refused(3);
+    };
+    let kind = p.kind;
+    match c.argument(s) {
+        ArgumentStep::Refused(k) => NodesStep::Refused(k),
+        ArgumentStep::Region(region, next) => {
+            if !argument_fits(s, around, kind, region) {
+                return NodesStep::Refused(7);
+            }
+            arguments_fit(s, layout, head, next, count - 1, left, around, others)
+        }
+        ArgumentStep::Type(ty) => {
+            if !same_kind(kind, Kind::Type) {
+                return NodesStep::Refused(7);
+            }
+            match type_fits(s, layout, head, ty, left, around) {
+                NodesStep::Refused(k) => NodesStep::Refused(k),
+                NodesStep::Ended { left: rest, next } => {
+                    arguments_fit(s, layout, head, next, count - 1, rest, around, others)
+                }
+            }
+        }
+    }
+}
+
+// A whole type, and where it ends.
+pub fn ty_fits(s: &[u8], layout: &[u16; 1280], head: Head, c: Cursor, around: Params) -> EndStep
+    requires { ⌜ length (now layout) ≡ 1280 ⌝ }
+    ensures { λ r. ⌜ ((j : Job) (ps : List Param) → Within (now (s .entry)) (now (layout .entry)) head around j ps → Passes type (typeFits (j .structs) ps) (now (s .entry)) (c .at) r) ⌝ }
+{
+    match type_fits(s, layout, head, c, 32, around) {
+        NodesStep::Refused(k) => EndStep::Refused(k),
+        NodesStep::Ended { left: _, next } => EndStep::Ended(next),
+    }
+}

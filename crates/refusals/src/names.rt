@@ -1,0 +1,95 @@
+// Refusal 6 of a type: its regions and structs are there.
+use record::Head;
+use repr::ArgumentStep;
+use repr::Cursor;
+use repr::EndStep;
+use repr::NodeStep;
+use repr::NodesStep;
+use repr::Region;
+ghost use mathlib.Core.Path.{_≡_};
+ghost use Rattle.nll_spec.specs.Syntax.{Job};
+ghost use Rattle.nll_spec.specs.Decode.{type};
+ghost use Rattle.nll_spec.specs.WellFormed.{regionNamed, typeNamed};
+ghost use Rattle.repr.specs.Reading.{regionOf};
+ghost use Rattle.refusals.specs.Tests.{Sized, Passes, TypeNamed, ArgumentsNamed};
+
+fn region_named(region: Region, head: Head) -> bool
+    ensures { λ r. ⌜ ((j : Job) → Sized head j → r ≡ regionNamed j (regionOf region)) ⌝ }
+{
+    match region {
+        Region::Free(name) => name.0 < head.regions,
+        Region::Bound(_) => true,
+    }
+}
+
+// A type of at most `left` nodes.
+fn type_named(s: &[u8], c: Cursor, left: usize, head: Head) -> NodesStep
+    ensures { λ r. ⌜ TypeNamed head (now (s .entry)) (c .at) left r ⌝ }
+{
+    if left == 0 {
+        return NodesStep::Refused(6);
+    }
+    let less = left - 1;
+    match c.type_node(s) {
+        NodeStep::Refused(k) => NodesStep::Refused(k),
+        NodeStep::Unit(next) => NodesStep::Ended { left: less, next },
+        NodeStep::Bound(_, next) => NodesStep::Ended { left: less, next },
+        NodeStep::Ref {
+            kind: _,
+            region,
+            referent,
+        } => {
+            if region_named(region, head) {
+                type_named(s, referent, less, head)
+            } else {
+                NodesStep::Refused(6)
+            }
+        }
+        NodeStep::Struct {
+            name,
+            count,
+            arguments,
+        } => {
+            if name.0 < head.structs {
+                arguments_named(s, arguments, count, less, head)
+            } else {
+                NodesStep::Refused(6)
+            }
+        }
+    }
+}
+
+// So many arguments of a struct, of at most `left` nodes together.
+fn arguments_named(s: &[u8], c: Cursor, count: u8, left: usize, head: Head) -> NodesStep
+    ensures { λ r. ⌜ ArgumentsNamed head (now (s .entry)) (c .at) count left r ⌝ }
+{
+    if count == 0 {
+        return NodesStep::Ended { left, next: c };
+    }
+    match c.argument(s) {
+        ArgumentStep::Refused(k) => NodesStep::Refused(k),
+        ArgumentStep::Region(region, next) => {
+            if region_named(region, head) {
+                arguments_named(s, next, count - 1, left, head)
+            } else {
+                NodesStep::Refused(6)
+            }
+        }
+        ArgumentStep::Type(ty) => match type_named(s, ty, left, head) {
+            NodesStep::Refused(k) => NodesStep::Refused(k),
+            NodesStep::Ended { left: rest, next } => {
+                arguments_named(s, next, count - 1, rest, head)
+            }
+        },
+    }
+}
+
+// A whole type, and where it ends.
+pub fn ty_named(s: &[u8], c: Cursor, head: Head) -> EndStep
+    ensures { λ r. ⌜ ((j : Job) → Sized head j → Passes type (typeNamed j) (now (s .entry)) (c .at) r) ⌝ }
+{
+    match type_named(s, c, 32, head) {
+        NodesStep::Refused(k) => EndStep::Refused(k),
+        NodesStep::Ended { left: _, next } => EndStep::Ended(next),
+    }
+}
