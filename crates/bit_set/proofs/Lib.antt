@@ -3,3 +3,4 @@ pub mod RunLaws
 pub mod SetLaws
 pub mod RowLaws
 pub mod TableLaws
+pub mod MissingLaws

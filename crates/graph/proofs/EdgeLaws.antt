@@ -17,10 +17,12 @@ use Rattle.nll_spec.proofs.Tests.{any-there, contains-here}
 use Rattle.nll_spec.proofs.GraphLaws.{blockAt, noBlock, firstOf, actionsIn, in-code, next-within, next-at-end, code-count, length-statements, successor-named, next-in-code}
 use Rattle.record.specs.declared.Head.{Head}
 use Rattle.record.proofs.AccessLaws.{block-at, first-at}
+use Rattle.record.specs.Access.{entryIn}
+use Rattle.graph.proofs.ShapeLaws.{few-blocks}
 use Rattle.graph.specs.declared.Shape.{Shape}
 use Rattle.graph.specs.declared.Place.{Place}
 use Rattle.graph.specs.Tables.{Edges}
-use Rattle.graph.specs.Shape.{rowOf, Shaped, ShapeSays, firstEntry}
+use Rattle.graph.specs.Shape.{rowOf, Shaped, ShapeSays}
 use Rattle.graph.specs.Filling.{Sized, Chained, Ended, Given, Rows, Within, BlockRows}
 
 -- ---- First points
@@ -56,7 +58,7 @@ map-same g h [] e = refl
 map-same g h (n ∷ ns) e = rw (e n (contains-here n ns), map-same g h ns (λ c k. e c (any-there (eqb c) n ns k)))
 
 -- Block b of a job, which the answer d is about.
-module _ {s t : List ℕ} {h : Head} {j : Job} (w : Given s t h j) (b : BlockIndex) (l : b < length (j .blocks)) {d : Shape} (says : ShapeSays s (getD t (96 + b) 0) d) where
+module _ {s t : List ℕ} {h : Head} {j : Job} (w : Given s t h j) (b : BlockIndex) (l : b < length (j .blocks)) {d : Shape} (says : ShapeSays s (entryIn t 96 64 b) d) where
   shaped : Shaped s (blockAt (j .blocks) b) d
   shaped = says .shaped (blockAt (j .blocks) b) (block-at (w .layout) b noBlock l)
 
@@ -66,21 +68,18 @@ module _ {s t : List ℕ} {h : Head} {j : Job} (w : Given s t h j) (b : BlockInd
     point-room = let x = in-code j b l (actionsIn j b) (omega arith) in let y = code-count j in let z = w .layout .few in omega (arith, rows .point, shaped .many)
 
     pub entry-room : at .entry + d .actions + d .count ≤ 1536
-    entry-room = let x = point-room in omega (arith, rows .few, shaped .count, w .blocks)
+    entry-room = let x = point-room in omega (arith, rows .few, shaped .count, few-blocks (w .layout))
 
     next-chain : (i : ℕ) → i < d .actions → nextOf (graphOf j) (at .point + i) ≡ suc (at .point + i) ∷ []
     next-chain i k = rw (rows .point) (next-within j b l i (omega (arith, shaped .many)))
 
     -- a successor's first point stands in the table of the record
-    first-entry : (c : ℕ) → T (contains (blockSuccessors j b) c) → firstOf j c ≡ firstEntry t c
-    first-entry c k =
-        let m : c < length (j .blocks) = successor-named j (w .named) b c l k in
-        let n : c < 64 = omega (arith, w .blocks) in
-        rw (lt-ltb c 64 n) (sym (first-at (w .layout) c m))
+    first-entry : (c : ℕ) → T (contains (blockSuccessors j b) c) → firstOf j c ≡ entryIn t 160 64 c
+    first-entry c k = sym (first-at (w .layout) c (successor-named j (w .named) b c l k))
 
-    next-end : nextOf (graphOf j) (at .point + d .actions) ≡ map (firstEntry t) (rowOf s d)
+    next-end : nextOf (graphOf j) (at .point + d .actions) ≡ map (entryIn t 160 64) (rowOf s d)
     next-end =
-        rw (rows .point, shaped .many, shaped .row) (next-at-end j b l ∙ map-same (firstOf j) (firstEntry t) (blockSuccessors j b) first-entry)
+        rw (rows .point, shaped .many, shaped .row) (next-at-end j b l ∙ map-same (firstOf j) (entryIn t 160 64) (blockSuccessors j b) first-entry)
 
     pub rows-more : {first₁ succ₁ first₂ succ₂ : List ℕ} → Chained (at .point) (d .actions) (at .entry) first succ first₁ succ₁
         → Ended s t d (at .point + d .actions) (at .entry + d .actions) first₁ succ₁ first₂ succ₂
@@ -95,11 +94,7 @@ module _ {s t : List ℕ} {h : Head} {j : Job} (w : Given s t h j) (b : BlockInd
 -- ---- What is returned
 
 module _ (s t : List ℕ) (b : BlockIndex) (at : Place) {first succ : List ℕ} (sized : Sized first succ) (within : Within at) where
-  -- a block that no job of the record has
-  pub no-block : 64 ≤ b → BlockRows s t b at at first succ first succ
-  no-block h = record { sized = sized; within = within; rows = λ _ j w l rows. absurd (omega (arith, w .blocks)) }
-
-  module _ {d : Shape} (says : ShapeSays s (getD t (96 + b) 0) d) where
+  module _ {d : Shape} (says : ShapeSays s (entryIn t 96 64 b) d) where
     pub no-point : 1024 ≤ at .point + d .actions → BlockRows s t b at at first succ first succ
     no-point h = record { sized = sized; within = within; rows = λ _ j w l rows. absurd (omega (arith, point-room w b l says rows)) }
 

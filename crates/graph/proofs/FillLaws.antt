@@ -9,9 +9,10 @@ use native.Mathlib.Decide.{ℕ-discrete}
 use lib.ListN.{length, getD, take, drop, set, length-set, length-drop, length-map}
 use lib.Seq.{slice, getD-set-same, getD-set-other, take-suc-set, take-suc, take-append-le, take-take, drop-at, length-take-le, getD-drop}
 use Rattle.nll_spec.specs.Syntax.{Point}
+use Rattle.record.specs.Access.{entryIn}
 use Rattle.graph.specs.Tables.{rowStart, rowEnd}
 use Rattle.graph.specs.declared.Shape.{Shape}
-use Rattle.graph.specs.Shape.{InRecord, firstEntry}
+use Rattle.graph.specs.Shape.{InRecord}
 use Rattle.graph.specs.Filling.{Filled, Sized, Chained, Ended}
 
 -- ---- One row more
@@ -115,11 +116,11 @@ module _ {g : ℕ → ℕ} {s : List ℕ} {from count k : ℕ} {succ₀ succ : L
       long : k + count ≡ k + length (map g (take count (drop from s)))
       long = rw (length-map, length-take-le count (drop from s) (simp length-drop (omega arith)))
 
-pub ending-all : {s t : List ℕ} {r : Shape} {i k p : ℕ} {first succ₀ succ : List ℕ} → Ending (firstEntry t) s (r .from) i k succ₀ succ → i ≤ r .count → r .count ≤ i
+pub ending-all : {s t : List ℕ} {r : Shape} {i k p : ℕ} {first succ₀ succ : List ℕ} → Ending (entryIn t 160 64) s (r .from) i k succ₀ succ → i ≤ r .count → r .count ≤ i
     → InRecord s r → p < 1024 → k + r .count ≤ 1536 → Sized first succ₀ → Ended s t r p k first succ₀ (set first (p + 1) (k + r .count)) succ
 ending-all {s} {t} {r} {i} {k} {p} {first} {succ₀} {succ} w a b d e l z =
     let x : i ≡ r .count = omega arith in
-    let v : Ending (firstEntry t) s (r .from) (r .count) k succ₀ succ = subst (λ (m : ℕ). Ending (firstEntry t) s (r .from) m k succ₀ succ) x w in
+    let v : Ending (entryIn t 160 64) s (r .from) (r .count) k succ₀ succ = subst (λ (m : ℕ). Ending (entryIn t 160 64) s (r .from) m k succ₀ succ) x w in
     record {
       sized = record { rows = length-set first _ _ ∙ z .rows; entries = v .size };
       filled = λ f h was. ending-filled v l (z .entries) e (z .rows) (d .inside) h was;

@@ -4,4 +4,3 @@ pub mod EdgeLaws
 pub mod SearchLaws
 pub mod WalkLaws
 pub mod PointLaws
-pub mod DecodedLaws

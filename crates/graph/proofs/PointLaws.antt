@@ -24,6 +24,8 @@ use Rattle.record.proofs.AccessLaws.{block-at}
 use Rattle.bit_set.specs.Bits.{has, withBit, cleared}
 use Rattle.bit_set.proofs.BitLaws.{has-with, has-with-other, length-with}
 use Rattle.bit_set.proofs.SetLaws.{length-cleared, has-cleared}
+use Rattle.record.specs.Access.{entryIn}
+use Rattle.graph.proofs.ShapeLaws.{few-blocks}
 use Rattle.graph.specs.declared.Shape.{Shape}
 use Rattle.graph.specs.Shape.{Shaped, ShapeSays}
 use Rattle.graph.specs.Filling.{Given}
@@ -66,7 +68,7 @@ module _ (ws : List ℕ) (p : ℕ) where
 
 -- ---- One block
 
-module _ {s t seen : List ℕ} {h : Head} {j : Job} (w : Given s t h j) (marks : MarksWalked seen j) (b : BlockIndex) (l : b < length (j .blocks)) {d : Shape} (says : ShapeSays s (getD t (96 + b) 0) d) {p : ℕ} {ws : List ℕ} (was : WalkedBelow j b p ws) where
+module _ {s t seen : List ℕ} {h : Head} {j : Job} (w : Given s t h j) (marks : MarksWalked seen j) (b : BlockIndex) (l : b < length (j .blocks)) {d : Shape} (says : ShapeSays s (entryIn t 96 64 b) d) {p : ℕ} {ws : List ℕ} (was : WalkedBelow j b p ws) where
   shaped : Shaped s (blockAt (j .blocks) b) d
   shaped = says .shaped (blockAt (j .blocks) b) (block-at (w .layout) b noBlock l)
 
@@ -106,9 +108,9 @@ module _ {s t seen : List ℕ} {h : Head} {j : Job} (w : Given s t h j) (marks :
 
 module _ (s t seen : List ℕ) (b : BlockIndex) (p : ℕ) {ws : List ℕ} (size : length ws ≡ 32) where
   pub points-none : p ≤ 1024 → 64 ≤ b → BlockPoints s t seen b p p ws ws
-  points-none r h = record { size = size; within = r; points = λ _ j w m l was. absurd (omega (arith, w .blocks)) }
+  points-none r h = record { size = size; within = r; points = λ _ j w m l was. absurd (omega (arith, few-blocks (w .layout))) }
 
-  module _ {d : Shape} (says : ShapeSays s (getD t (96 + b) 0) d) where
+  module _ {d : Shape} (says : ShapeSays s (entryIn t 96 64 b) d) where
     pub points-over : p ≤ 1024 → 1024 < p + (d .actions + 1) → BlockPoints s t seen b p p ws ws
     points-over r h = record { size = size; within = r; points = λ _ j w m l was. absurd (omega (arith, points-room w m b l says was)) }
 
@@ -164,8 +166,8 @@ module _ (s t seen : List ℕ) (h : Head) where
       code = let x = first-total (j .blocks) 0 in let y = code-count j in let z = was .point ∙ ap (firstPoint (j .blocks) 0) last in omega arith
 
   pub pointed-walked : {b : BlockIndex} {p start : ℕ} {ws : List ℕ} → Pointed s t seen h b p ws → h .blocks ≤ b → WalkedBlocks s t start seen
-      → (j : Job) → Layout s t h j → T (successorsNamed j) → pointCount j ≤ 1024 → length (j .blocks) ≤ 64 → j .start ≡ start → T (ltb (j .start) (length (j .blocks)))
+      → (j : Job) → Layout s t h j → T (successorsNamed j) → pointCount j ≤ 1024 → j .start ≡ start → T (ltb (j .start) (length (j .blocks)))
       → (q : Point) → q < 1024 → has ws q ≡ isWalked (graphOf j) q
-  pointed-walked r l marks j w n p k e i =
-      let g : Given s t h j = record { layout = w; named = n; points = p; blocks = k } in
+  pointed-walked r l marks j w n p e i =
+      let g : Given s t h j = record { layout = w; named = n; points = p } in
       pointed-all r l j g (marks .marks h j g e i)

@@ -5,7 +5,7 @@ use Prim.Native.Nat.{ℕ, zero, suc, _-_, _≤_, _<_}
 use native.Mathlib.Omega.{arith}
 use lib.ListN.{length, take, drop, length-take, length-drop, drop-of-length-le}
 use lib.Seq.{take-all, take-nil}
-use Rattle.nll_spec.specs.Syntax.{Block}
+use Rattle.nll_spec.specs.Syntax.{Block, Job}
 use Rattle.nll_spec.specs.Decode.{Reading, refused, read, Reader, done, _>>=_, byte, count, items, counted, action, block, maxSuccessors, maxActions}
 use Rattle.repr.specs.Reading.{rest}
 use Rattle.repr.specs.Parts.{blockOf, blockSays}
@@ -14,9 +14,15 @@ use Rattle.repr.specs.declared.BlockStep.{BlockStep}
 use Rattle.repr.specs.declared.BlockStep.the-variants as blockStep
 use Rattle.repr.proofs.ReadLaws.{told}
 use Rattle.record.specs.Rows.{Stands}
+use Rattle.record.specs.Layout.{Layout}
+use Rattle.record.specs.declared.Head.{Head}
 use Rattle.record.proofs.LayoutLaws.{count-most}
 use Rattle.graph.specs.declared.Shape.{Shape}
 use Rattle.graph.specs.Shape.{Listed, Shaped, ShapeSays}
+
+-- A job of the record has at most 64 blocks.
+pub few-blocks : {s t : List ℕ} {h : Head} {j : Job} → Layout s t h j → length (j .blocks) ≤ 64
+few-blocks w = omega (arith, w .blockCount, w .blockLimit)
 
 -- ---- The row of successors, cut where the record ends
 

@@ -17,6 +17,8 @@ use Rattle.nll_spec.proofs.Least.{Inside, held-inside, sized-least, least-ind, 
 use Rattle.nll_spec.proofs.GraphLaws.{blockAt, noBlock, walked-block, successor-named}
 use Rattle.record.specs.declared.Head.{Head}
 use Rattle.record.proofs.AccessLaws.{block-at}
+use Rattle.record.specs.Access.{entryIn}
+use Rattle.graph.proofs.ShapeLaws.{few-blocks}
 use Rattle.graph.specs.declared.Shape.{Shape}
 use Rattle.graph.specs.Shape.{rowOf, ShapeSays}
 use Rattle.graph.specs.Filling.{Given}
@@ -101,7 +103,7 @@ searching-start s t start =
     walked h j g = subst (IsWalked j) (g .is) (start-walked j (g .named))
 
     small : (h : Head) (j : Job) → Starts s t start h j → start < 64
-    small h j g = let x = walked-inside j start (walked h j g) in omega (arith, g .given .blocks)
+    small h j g = let x = walked-inside j start (walked h j g) in omega (arith, few-blocks (g .given .layout))
 
 -- the block on top of the stack, and the stack without it
 abbrev pub topOf : State → ℕ
@@ -111,7 +113,7 @@ abbrev pub popped : State → State
 popped st = state (st .seen) (st .stack) (st .depth - 1)
 
 -- the block on top is taken off, and its successors are visited
-module _ {s t : List ℕ} {start : ℕ} {st : State} (room : Roomy st) (deep : 0 < st .depth) {d : Shape} (says : ShapeSays s (getD t (96 + topOf st) 0) d) (w : Searching s t start st) where
+module _ {s t : List ℕ} {start : ℕ} {st : State} (room : Roomy st) (deep : 0 < st .depth) {d : Shape} (says : ShapeSays s (entryIn t 96 64 (topOf st)) d) (w : Searching s t start st) where
   module _ (h : Head) (j : Job) (g : Starts s t start h j) where
     top-walked : IsWalked j (topOf st)
     top-walked = let x = w .walk h j g in x .sound (topOf st) (x .pushed (st .depth - 1) (omega arith))
@@ -123,7 +125,7 @@ module _ {s t : List ℕ} {start : ℕ} {st : State} (room : Roomy st) (deep : 0
     row-walked c k =
         let e = rw row-is at k in
         let l = successor-named j (g .given .named) (topOf st) c (walked-inside j (topOf st) top-walked) e in
-        (next-walked j (topOf st) c top-walked l e, omega (arith, g .given .blocks))
+        (next-walked j (topOf st) c top-walked l e, omega (arith, few-blocks (g .given .layout)))
 
   searching-more : Searching s t start (visits (rowOf s d) (popped st))
   searching-more =
@@ -157,14 +159,11 @@ pub turned-none : (s t : List ℕ) (start : ℕ) {st : State} → st ≡ visited
 turned-none s t start e = record { roomy = subst Roomy (sym e) (visited-kept start roomy-none .roomy); on = λ _ w. w }
 
 module _ {s t : List ℕ} {from st : State} (w : Turned s t from st) (deep : 0 < st .depth) where
-  pub top-small : topOf st < 64
-  top-small = w .roomy .small (st .depth - 1) (omega arith)
-
   module _ (d : Shape) {u : State} (e : u ≡ visits (rowOf s d) (popped st)) where
     pub turned-less : work u < work st
     turned-less = subst (λ (v : State). work v < work st) (sym e) (let k = visits-kept (rowOf s d) (roomy-pop (w .roomy)) .less in omega arith)
 
-    pub turned-more : ShapeSays s (getD t (96 + topOf st) 0) d → Turned s t from u
+    pub turned-more : ShapeSays s (entryIn t 96 64 (topOf st)) d → Turned s t from u
     turned-more says =
         subst (Turned s t from) (sym e)
         (record { roomy = visits-kept (rowOf s d) (roomy-pop (w .roomy)) .roomy; on = λ start x. searching-more (w .roomy) deep says (w .on start x) })

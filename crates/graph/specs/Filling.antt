@@ -10,9 +10,10 @@ use Rattle.nll_spec.specs.Decode.{pointCount}
 use Rattle.nll_spec.specs.WellFormed.{successorsNamed}
 use Rattle.nll_spec.specs.Graph.{graphOf, nextOf, firstPoint}
 use Rattle.record.specs.Layout.{Layout}
+use Rattle.record.specs.Access.{entryIn}
 use Rattle.record.specs.declared.Head.{Head}
 use Rattle.graph.specs.Tables.{rowStart, rowEnd}
-use Rattle.graph.specs.Shape.{rowOf, firstEntry}
+use Rattle.graph.specs.Shape.{rowOf}
 use Rattle.graph.specs.declared.Shape.{Shape}
 use Rattle.graph.specs.declared.Place.{Place}
 
@@ -36,14 +37,13 @@ pub record Chained (p n k : ℕ) (first₀ succ₀ first succ : List ℕ) : Type
 -- The row of point p, a block's end, is there: the first points of its successors.
 pub record Ended (s t : List ℕ) (r : Shape) (p k : ℕ) (first₀ succ₀ first succ : List ℕ) : Type 0 where
   pub sized : Sized first succ
-  pub filled : (f : Point → List Point) → f p ≡ map (firstEntry t) (rowOf s r) → Filled f first₀ succ₀ p k → Filled f first succ (p + 1) (k + r .count)
+  pub filled : (f : Point → List Point) → f p ≡ map (entryIn t 160 64) (rowOf s r) → Filled f first₀ succ₀ p k → Filled f first succ (p + 1) (k + r .count)
 
 -- A job of the record that fits the tables.
 pub record Given (s t : List ℕ) (h : Head) (j : Job) : Type 0 where
   pub layout : Layout s t h j
   pub named : T (successorsNamed j)
   pub points : pointCount j ≤ 1024
-  pub blocks : length (j .blocks) ≤ 64
 
 -- The rows of the points of the blocks below b are there.
 pub record Rows (j : Job) (b : BlockIndex) (at : Place) (first succ : List ℕ) : Type 0 where

@@ -1,11 +1,9 @@
 -- What a block of the record has: so many actions, and its successors, which lie in a row.
 use mathlib.Core.Path.{_≡_}
-use mathlib.Core.Bool.{cond}
 use mathlib.Core.List.{List}
 use Prim.Native.Nat.{ℕ, _+_, _≤_}
-use lib.ListN.{length, getD, take, drop}
-use lib.Dec.{ltb}
-use Rattle.nll_spec.specs.Syntax.{Block, BlockIndex, Point}
+use lib.ListN.{length, take, drop}
+use Rattle.nll_spec.specs.Syntax.{Block}
 use Rattle.nll_spec.specs.Decode.{block}
 use Rattle.repr.specs.declared.BasicBlockData.{BasicBlockData}
 use Rattle.record.specs.Rows.{Stands}
@@ -37,7 +35,3 @@ pub record Shaped (s : List ℕ) (b : Block) (r : Shape) : Type 0 where
 pub record ShapeSays (s : List ℕ) (at : ℕ) (r : Shape) : Type 0 where
   pub fits : InRecord s r
   pub shaped : (b : Block) → Stands block b (drop at s) → Shaped s b r
-
--- the first point of a block, by the table of the record; 0 where there is no such block
-abbrev pub firstEntry : List ℕ → BlockIndex → Point
-firstEntry t b = cond (ltb b 64) (getD t (160 + b) 0) 0

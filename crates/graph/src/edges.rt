@@ -1,9 +1,9 @@
 // The points that follow each point, as two tables: those of p stand in `succ` from first[p] up to first[p + 1].
 use super::Place;
 use super::Shape;
-use super::shapes::first_of;
 use super::shapes::shape;
 use record::Head;
+use record::access::first_point;
 use repr::BasicBlockIndex;
 ghost use mathlib.Core.Path.{_≡_};
 ghost use Prim.Native.Nat.{_+_, _<_, _≤_};
@@ -49,7 +49,7 @@ fn end(
     let mut i = 0;
     while i < many {
         let b = s[from + i];
-        succ[k + i] = first_of(layout, BasicBlockIndex(b));
+        succ[k + i] = first_point(layout, BasicBlockIndex(b));
         i += 1;
     }
     first[p + 1] = (k + many) as u16;
@@ -67,9 +67,6 @@ fn block(
     requires { ⌜ (length (now layout) ≡ 1280) × Within at × Sized (now first) (now succ) ⌝ }
     ensures { λ r. ⌜ BlockRows (now (s .entry)) (now (layout .entry)) b at r (now (first .entry)) (now (succ .entry)) (now (first .exit)) (now (succ .exit)) ⌝ }
 {
-    if 64 <= b {
-        return at;
-    }
     let d = shape(s, layout, BasicBlockIndex(b));
     let end_point = at.point + d.actions;
     let end_entry = at.entry + d.actions;
@@ -96,8 +93,7 @@ pub fn edges(
     succ: &mut [u16; 1536],
 )
     requires { ⌜ (length (now layout) ≡ 1280) × Sized (now first) (now succ) ⌝ }
-    ensures { λ _. ⌜ Sized (now (first .exit)) (now (succ .exit)) × ((j : Job) → Layout (now (s .entry)) (now (layout .entry)) head j → T (successorsNamed j) → pointCount j ≤ 1024 → length (j .blocks) ≤ 64
-        → Edges (graphOf j) (now (first .exit)) (now (succ .exit))) ⌝ }
+    ensures { λ _. ⌜ Sized (now (first .exit)) (now (succ .exit)) × ((j : Job) → Layout (now (s .entry)) (now (layout .entry)) head j → T (successorsNamed j) → pointCount j ≤ 1024 → Edges (graphOf j) (now (first .exit)) (now (succ .exit))) ⌝ }
 {
     first[0] = 0;
     let mut at = Place { point: 0, entry: 0 };

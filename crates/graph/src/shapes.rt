@@ -2,14 +2,13 @@
 use super::Shape;
 use super::wide;
 use record::access::block_at;
-use record::access::first_point;
 use repr::BasicBlockData;
 use repr::BasicBlockIndex;
 use repr::BlockStep;
 ghost use mathlib.Core.Path.{_≡_};
-ghost use Prim.Native.Nat.{_+_, _<_};
-ghost use lib.ListN.{length, getD};
-ghost use Rattle.graph.specs.Shape.{Listed, ShapeSays, firstEntry};
+ghost use lib.ListN.{length};
+ghost use Rattle.record.specs.Access.{entryIn};
+ghost use Rattle.graph.specs.Shape.{Listed, ShapeSays};
 
 // The counts of a block, with the row of successors cut where the record ends.
 fn listed(s: &[u8], d: BasicBlockData) -> Shape
@@ -41,8 +40,8 @@ fn listed(s: &[u8], d: BasicBlockData) -> Shape
 
 // What block b has. Where the record has no block, nothing.
 pub fn shape(s: &[u8], layout: &[u16; 1280], b: BasicBlockIndex) -> Shape
-    requires { ⌜ (b .0 < 64) × (length (now layout) ≡ 1280) ⌝ }
-    ensures { λ r. ⌜ ShapeSays (now (s .entry)) (getD (now (layout .entry)) (96 + b .0) 0) r ⌝ }
+    requires { ⌜ length (now layout) ≡ 1280 ⌝ }
+    ensures { λ r. ⌜ ShapeSays (now (s .entry)) (entryIn (now (layout .entry)) 96 64 (b .0)) r ⌝ }
 {
     match block_at(layout, b).block(s) {
         BlockStep::Refused(_) => Shape {
@@ -52,16 +51,4 @@ pub fn shape(s: &[u8], layout: &[u16; 1280], b: BasicBlockIndex) -> Shape
         },
         BlockStep::Block(d) => listed(s, d),
     }
-}
-
-// The first point of a block; 0 where there is none of this number.
-pub fn first_of(layout: &[u16; 1280], b: BasicBlockIndex) -> u16
-    requires { ⌜ length (now layout) ≡ 1280 ⌝ }
-    ensures { λ r. ⌜ r ≡ firstEntry (now (layout .entry)) (b .0) ⌝ }
-{
-    let number = b.0 as u16;
-    if 64 <= number {
-        return 0;
-    }
-    first_point(layout, b)
 }

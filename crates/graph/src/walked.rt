@@ -118,8 +118,7 @@ pub fn walked(
     words: &mut [u32; 32],
 )
     requires { ⌜ (length (now layout) ≡ 1280) × (length (now words) ≡ 32) ⌝ }
-    ensures { λ _. ⌜ (length (now (words .exit)) ≡ 32) × ((j : Job) → Layout (now (s .entry)) (now (layout .entry)) head j → T (successorsNamed j) → pointCount j ≤ 1024 → length (j .blocks) ≤ 64
-        → j .start ≡ start .0 → T (ltb (j .start) (length (j .blocks))) → (p : Point) → p < 1024 → has (now (words .exit)) p ≡ isWalked (graphOf j) p) ⌝ }
+    ensures { λ _. ⌜ (length (now (words .exit)) ≡ 32) × ((j : Job) → Layout (now (s .entry)) (now (layout .entry)) head j → T (successorsNamed j) → pointCount j ≤ 1024 → j .start ≡ start .0 → T (ltb (j .start) (length (j .blocks))) → (p : Point) → p < 1024 → has (now (words .exit)) p ≡ isWalked (graphOf j) p) ⌝ }
 {
     let seen = blocks(s, layout, start);
     bit_set::clear(words, 0, 32);

@@ -3,6 +3,5 @@ pub mod EndLaws
 pub mod PutLaws
 pub mod TableLaws
 pub mod RanLaws
-pub mod MissingLaws
 pub mod OneLaws
 pub mod Cases

@@ -23,12 +23,12 @@ use Rattle.nll_spec.proofs.MonotoneLaws.{looser-same}
 use Rattle.bit_set.specs.Bits.{has}
 use Rattle.bit_set.proofs.BitLaws.{words-ext}
 use Rattle.infer.specs.Search.{Marked, isMarked}
-use Rattle.infer.specs.Missing.{missing}
+use Rattle.bit_set.specs.Missing.{missing}
 use Rattle.infer.specs.Ran.{Setting, bitAt, setsAt, setsOf, Words, Met, Ready, AllReady, Ran, Rounds, Quiet, Given, AllNamed, anyMarked}
 use Rattle.infer.specs.declared.EndRule as declared
 use Rattle.infer.specs.declared.Shape.{Shape}
 use Rattle.infer.proofs.EndLaws.{is-marked, marked-is}
-use Rattle.infer.proofs.MissingLaws.{missing-le, missing-lt}
+use Rattle.bit_set.proofs.MissingLaws.{missing-le, missing-lt}
 
 pub true-T : (b : Bool) → b ≡ true → T b
 true-T b e = subst T (sym e) tt

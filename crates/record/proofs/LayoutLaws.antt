@@ -30,6 +30,14 @@ use Rattle.record.specs.declared.Decoded.{Decoded}
 use Rattle.record.specs.declared.Decoded.the-variants.{Refused, Job as Accept}
 use Rattle.record.proofs.BlockLaws.{window-kept}
 
+first-true : (a b : Bool) → a && b ≡ true → a ≡ true
+first-true true b h = refl
+first-true false b h = h
+
+second-true : (a b : Bool) → a && b ≡ true → b ≡ true
+second-true true b h = h
+second-true false b h = absurd (let z : _≡_ {A = ℕ} 0 1 = ap (λ (x : Bool). cond x 1 0) h in omega arith)
+
 -- ---- Counts
 
 -- a count that was read is in its range
@@ -38,11 +46,7 @@ unfolding count done refuse
 count-most low high {n} bs {over} e = go (byte bs) refl
   where
     test : (m : ℕ) (r : List ℕ) (b : Bool) → leb low m && leb m high ≡ b → cond b (done m) (refuse 4) r ≡ read n over → n ≤ high
-    test m r true i j = let z : n ≡ m = cc in let l = leb-true m high (second (leb low m) (leb m high) i) in omega arith
-      where
-        second : (a b : Bool) → a && b ≡ true → b ≡ true
-        second true b h = h
-        second false b h = absurd (let z : _≡_ {A = ℕ} 0 1 = ap (λ (x : Bool). cond x 1 0) h in omega arith)
+    test m r true i j = let z : n ≡ m = cc in let l = leb-true m high (second-true (leb low m) (leb m high) i) in omega arith
     test m r false i j = absurd (let z : _≡_ {A = ℕ} 0 1 = cc in omega arith)
 
     go : (x : Reading ℕ) → byte bs ≡ x → n ≤ high
@@ -61,7 +65,7 @@ standing-length (more k r) = ap suc (standing-length r)
 window-length : (t : List ℕ) (base n : ℕ) → base + n ≤ length t → length (take n (drop base t)) ≡ n
 window-length t base n h = length-take-le n (drop base t) (simp length-drop (omega arith))
 
-module _ {n : Counts} {s : List ℕ} {c₁ c₂ c₃ c₄ : ℕ} {t₁ t₂ t₃ : List ℕ} (t₄ : List ℕ) (fit : InRange n) (size : length t₄ ≡ 1280) (structs : Row structDecl s c₁ c₂ (n .structs) 0 t₁) (k₂ : take 16 t₂ ≡ take 16 t₁) (outlives : Row (counted maxOutlived byte) s c₂ c₃ (n .declared) 16 t₂) (k₃ : take 32 t₃ ≡ take 32 t₂) (variables : Row type s c₃ c₄ (n .variables) 32 t₃) (k₄ : take 96 t₄ ≡ take 96 t₃) where
+module _ {n : Counts} {s : List ℕ} {c₁ c₂ c₃ c₄ : ℕ} {t₁ t₂ t₃ : List ℕ} (t₄ : List ℕ) (fit : InRange n) (size : length t₄ ≡ 1280) (short : length s ≤ 65535) (structs : Row structDecl s c₁ c₂ (n .structs) 0 t₁) (k₂ : take 16 t₂ ≡ take 16 t₁) (outlives : Row (counted maxOutlived byte) s c₂ c₃ (n .declared) 16 t₂) (k₃ : take 32 t₃ ≡ take 32 t₂) (variables : Row type s c₃ c₄ (n .variables) 32 t₃) (k₄ : take 96 t₄ ≡ take 96 t₃) where
   structs-stand : Standing structDecl s (take (n .structs) (drop 0 t₄)) (structs .found)
   structs-stand =
       rw (window-kept t₃ t₄ 0 (n .structs) 96 (omega (arith, fit .structs)) k₄
@@ -94,7 +98,14 @@ module _ {n : Counts} {s : List ℕ} {c₁ c₂ c₃ c₄ : ℕ} {t₁ t₂ t₃
       declaredCount = standing-length outlives-stand ∙ window-length t₄ 16 (n .declared) (omega (arith, fit .declared));
       variableCount = standing-length variables-stand ∙ window-length t₄ 32 (n .variables) (omega (arith, fit .variables));
       blockCount = standing-length (b .placed .stands) ∙ window-length t₄ 96 (n .blocks) (omega (arith, fit .blocks));
+      structLimit = fit .structs;
+      regionLimit = fit .regions;
+      declaredLimit = fit .declared;
+      variableLimit = fit .variables;
+      blockLimit = fit .blocks;
       few = omega (arith, b .counts);
+      short = short;
+      size = size;
       start = refl;
     };
   }
@@ -129,9 +140,6 @@ pub job-refused : {s t : List ℕ} (bs : List ℕ) {k : ℕ} → job bs ≡ refu
 unfolding whole
 job-refused bs e = record { says = ap whole e }
 
-first-true : (a b : Bool) → a && b ≡ true → a ≡ true
-first-true true b h = refl
-first-true false b h = h
 
 module _ {n : Counts} {s : List ℕ} {from : ℕ} {t : List ℕ} (next : Cursor) {points loans : ℕ} (p : Parts n s from (next .at) points loans t) where
   points-are : pointCount (p .job) ≡ points + n .declared
@@ -139,7 +147,10 @@ module _ {n : Counts} {s : List ℕ} {from : ℕ} {t : List ℕ} (next : Cursor)
   points-are = omega (arith, p .counts, p .declared)
 
   accepted : (b : Bool) → leb (points + n .declared) maxPoints && leb loans maxLoans ≡ b → DecodedSays (cond (leb (pointCount (p .job)) maxPoints && leb (borrowCount (p .job)) maxLoans) (decode.decoded (p .job)) (decode.rejected 5)) s t (cond b (Accept (headOf n points)) (Refused 5))
-  accepted true e = let few = leb-true (points + n .declared) maxPoints (first-true (leb (points + n .declared) maxPoints) (leb loans maxLoans) e) in record { says = record { job = p .job; is = rw (points-are, ← p .lends, e); layout = p .layout (omega arith) } }
+  accepted true e =
+      let few = leb-true (points + n .declared) maxPoints (first-true (leb (points + n .declared) maxPoints) (leb loans maxLoans) e) in
+      let lent = leb-true loans maxLoans (second-true (leb (points + n .declared) maxPoints) (leb loans maxLoans) e) in
+      record { says = record { job = p .job; is = rw (points-are, ← p .lends, e); points = omega (arith, points-are); loans = omega (arith, p .lends); layout = p .layout (omega arith) } }
   accepted false e = record { says = rw (points-are, ← p .lends, e) }
 
   pub whole-says : (bs : List ℕ) {r : Decoded} → job bs ≡ partsOf (n .structs) (n .regions) (n .declared) (n .variables) (n .blocks) (drop from s) → r ≡ verdictOf n (length s) next points loans → DecodedSays (whole (job bs)) s t r

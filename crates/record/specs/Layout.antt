@@ -7,7 +7,7 @@ use lib.ListN.{length, take, drop}
 use lib.Dec.{ltb, leb}
 use Rattle.nll_spec.specs.Syntax.{Job}
 use Rattle.nll_spec.specs.Decode.{Reading, refused, read, Reader, done, _>>=_, byte, count, items, counted, structDecl, type, block, codeCount}
-use Rattle.nll_spec.specs.Decode.{borrowCount, maxStructs, maxRegions, maxDeclared, maxVariables, maxBlocks, maxOutlived, maxPoints, maxLoans}
+use Rattle.nll_spec.specs.Decode.{pointCount, borrowCount, maxStructs, maxRegions, maxDeclared, maxVariables, maxBlocks, maxOutlived, maxPoints, maxLoans}
 use Rattle.nll_spec.specs.Decode as decode
 use Rattle.repr.specs.Reading.{rest}
 use Rattle.repr.specs.declared.Cursor.{Cursor}
@@ -25,7 +25,7 @@ use Rattle.record.specs.declared.Decoded.the-variants.{Refused, Job as A
 -- ---- Where each part of a job lies
 
 -- The job j of the record s, with the head h and the table t. From entry 0 on stand the offsets of the structs, from 16 on those of the outlives
--- lists, from 32 on those of the variables' types; `blocks` says what stands from 96 on.
+-- lists, from 32 on those of the variables' types; `blocks` says what stands from 96 on. The counts are within their limits.
 pub record Layout (s t : List ℕ) (h : Head) (j : Job) : Type 0 where
   pub structs : Standing structDecl s (take (h .structs) (drop 0 t)) (j .structs)
   pub outlives : Standing (counted maxOutlived byte) s (take (h .declared) (drop 16 t)) (j .outlives)
@@ -37,15 +37,24 @@ pub record Layout (s t : List ℕ) (h : Head) (j : Job) : Type 0 where
   pub declaredCount : length (j .outlives) ≡ h .declared
   pub variableCount : length (j .variables) ≡ h .variables
   pub blockCount : length (j .blocks) ≡ h .blocks
+  pub structLimit : h .structs ≤ 16
+  pub regionLimit : h .regions ≤ 128
+  pub declaredLimit : h .declared ≤ 16
+  pub variableLimit : h .variables ≤ 64
+  pub blockLimit : h .blocks ≤ 64
   pub few : codeCount (j .blocks) ≤ 1024
+  pub short : length s ≤ 65535
+  pub size : length t ≡ 1280
   pub start : j .start ≡ 0
 
 -- ---- What a record is
 
--- a job that is accepted, and where it lies
+-- a job within the limits of refusal 5, and where it lies
 pub record Accepted (d : decode.Decoded) (s t : List ℕ) (h : Head) : Type 0 where
   pub job : Job
   pub is : d ≡ decode.decoded job
+  pub points : pointCount job ≤ 1024
+  pub loans : borrowCount job ≤ 128
   pub layout : Layout s t h job
 
 abbrev pub Verdict : decode.Decoded → List ℕ → List ℕ → Decoded → Type 0
@@ -61,9 +70,10 @@ pub record DecodedSays (d : decode.Decoded) (s t : List ℕ) (r : Decoded) : Typ
 abbrev pub Onward : Type 0
 Onward = ℕ → ℕ → ℕ → ℕ → ℕ → Reader Job
 
--- The counts that have a row in the table.
+-- The counts are in their ranges.
 pub record InRange (n : Counts) : Type 0 where
   pub structs : n .structs ≤ 16
+  pub regions : n .regions ≤ 128
   pub declared : n .declared ≤ 16
   pub variables : n .variables ≤ 64
   pub blocks : n .blocks ≤ 64

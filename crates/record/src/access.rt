@@ -1,22 +1,33 @@
-// Where a part of an accepted job lies, by its number.
+// Where a part of an accepted job lies, by its number. A number that names nothing is at 0.
 use super::BLOCKS;
 use super::END;
 use super::FIRST;
+use super::Head;
 use super::OUTLIVES;
 use super::POINTS;
 use super::PointStep;
 use super::STRUCTS;
 use super::VARIABLES;
 use super::wide;
+use repr::Action;
+use repr::ActionStep;
 use repr::BasicBlockIndex;
 use repr::Cursor;
 use repr::RegionName;
+use repr::StructDecl;
 use repr::StructName;
+use repr::StructStep;
 use repr::Variable;
 ghost use mathlib.Core.Path.{_≡_};
 ghost use Prim.Native.Nat.{_+_, _<_, _≤_};
 ghost use lib.ListN.{length, getD};
-ghost use Rattle.record.specs.Access.{pointOf};
+ghost use Rattle.nll_spec.specs.Syntax.{Job};
+ghost use Rattle.nll_spec.specs.Decode.{codeCount};
+ghost use Rattle.nll_spec.specs.Types.{structOf};
+ghost use Rattle.nll_spec.specs.Graph.{graphOf, actionAt};
+ghost use Rattle.record.specs.Layout.{Layout};
+ghost use Rattle.record.specs.Access.{entryIn, pointOf, Declared, Acts};
+ghost use Rattle.record.specs.declared.Head as heads;
 
 fn place(x: u16) -> usize
     ensures { λ r. ⌜ r ≡ x ⌝ }
@@ -24,61 +35,102 @@ fn place(x: u16) -> usize
     x as usize
 }
 
-// The entry of the table as a place.
-fn entry(layout: &[u16; 1280], i: usize) -> Cursor
-    requires { ⌜ (i < 1280) × (length (now layout) ≡ 1280) ⌝ }
-    ensures { λ r. ⌜ r .at ≡ getD (now (layout .entry)) i 0 ⌝ }
+// Entry i of the row of so many entries from base on.
+fn entry(layout: &[u16; 1280], base: usize, many: usize, i: u8) -> u16
+    requires { ⌜ (base + many ≤ 1280) × (length (now layout) ≡ 1280) ⌝ }
+    ensures { λ r. ⌜ r ≡ entryIn (now (layout .entry)) base many i ⌝ }
 {
-    let at = place(layout[i]);
-    Cursor { at }
+    let k = wide(i);
+    if k < many {
+        return layout[base + k];
+    }
+    0
 }
 
 pub fn struct_at(layout: &[u16; 1280], name: StructName) -> Cursor
-    requires { ⌜ (name .0 < 16) × (length (now layout) ≡ 1280) ⌝ }
-    ensures { λ r. ⌜ r .at ≡ getD (now (layout .entry)) (0 + name .0) 0 ⌝ }
+    requires { ⌜ length (now layout) ≡ 1280 ⌝ }
+    ensures { λ r. ⌜ r .at ≡ entryIn (now (layout .entry)) 0 16 (name .0) ⌝ }
 {
-    entry(layout, STRUCTS + wide(name.0))
+    let at = place(entry(layout, STRUCTS, 16, name.0));
+    Cursor { at }
 }
 
 pub fn outlives_at(layout: &[u16; 1280], name: RegionName) -> Cursor
-    requires { ⌜ (name .0 < 16) × (length (now layout) ≡ 1280) ⌝ }
-    ensures { λ r. ⌜ r .at ≡ getD (now (layout .entry)) (16 + name .0) 0 ⌝ }
+    requires { ⌜ length (now layout) ≡ 1280 ⌝ }
+    ensures { λ r. ⌜ r .at ≡ entryIn (now (layout .entry)) 16 16 (name .0) ⌝ }
 {
-    entry(layout, OUTLIVES + wide(name.0))
+    let at = place(entry(layout, OUTLIVES, 16, name.0));
+    Cursor { at }
 }
 
 pub fn variable_at(layout: &[u16; 1280], v: Variable) -> Cursor
-    requires { ⌜ (v .0 < 64) × (length (now layout) ≡ 1280) ⌝ }
-    ensures { λ r. ⌜ r .at ≡ getD (now (layout .entry)) (32 + v .0) 0 ⌝ }
+    requires { ⌜ length (now layout) ≡ 1280 ⌝ }
+    ensures { λ r. ⌜ r .at ≡ entryIn (now (layout .entry)) 32 64 (v .0) ⌝ }
 {
-    entry(layout, VARIABLES + wide(v.0))
+    let at = place(entry(layout, VARIABLES, 64, v.0));
+    Cursor { at }
 }
 
 pub fn block_at(layout: &[u16; 1280], b: BasicBlockIndex) -> Cursor
-    requires { ⌜ (b .0 < 64) × (length (now layout) ≡ 1280) ⌝ }
-    ensures { λ r. ⌜ r .at ≡ getD (now (layout .entry)) (96 + b .0) 0 ⌝ }
+    requires { ⌜ length (now layout) ≡ 1280 ⌝ }
+    ensures { λ r. ⌜ r .at ≡ entryIn (now (layout .entry)) 96 64 (b .0) ⌝ }
 {
-    entry(layout, BLOCKS + wide(b.0))
+    let at = place(entry(layout, BLOCKS, 64, b.0));
+    Cursor { at }
 }
 
 // The first point of a block.
 pub fn first_point(layout: &[u16; 1280], b: BasicBlockIndex) -> u16
-    requires { ⌜ (b .0 < 64) × (length (now layout) ≡ 1280) ⌝ }
-    ensures { λ r. ⌜ r ≡ getD (now (layout .entry)) (160 + b .0) 0 ⌝ }
+    requires { ⌜ length (now layout) ≡ 1280 ⌝ }
+    ensures { λ r. ⌜ r ≡ entryIn (now (layout .entry)) 160 64 (b .0) ⌝ }
 {
-    let i = FIRST + wide(b.0);
-    layout[i]
+    entry(layout, FIRST, 64, b.0)
 }
 
-// The action of a point of the blocks, or a block's end.
+// The action of a point of the blocks, or a block's end. A point that the table has no entry for is at 0.
 pub fn point_at(layout: &[u16; 1280], p: usize) -> PointStep
-    requires { ⌜ (p < 1024) × (length (now layout) ≡ 1280) ⌝ }
-    ensures { λ r. ⌜ r ≡ pointOf (getD (now (layout .entry)) (256 + p) 0) ⌝ }
+    requires { ⌜ length (now layout) ≡ 1280 ⌝ }
+    ensures { λ r. ⌜ r ≡ pointOf (entryIn (now (layout .entry)) 256 1024 p) ⌝ }
 {
+    if 1024 <= p {
+        return PointStep::Action(Cursor { at: 0 });
+    }
     let at = layout[POINTS + p];
     if at == END {
         PointStep::End
     } else {
         PointStep::Action(Cursor { at: place(at) })
+    }
+}
+
+// The struct of a name. One that is not there has no parameters and no fields.
+pub fn struct_decl_at(s: &[u8], layout: &[u16; 1280], head: Head, name: StructName) -> StructDecl
+    requires { ⌜ length (now layout) ≡ 1280 ⌝ }
+    ensures { λ d. ⌜ ((j : Job) → Layout (now (s .entry)) (now (layout .entry)) head j → Declared (now (s .entry)) (structOf (j .structs) (name .0)) d) ⌝ }
+{
+    let at = struct_at(layout, name);
+    let none = StructDecl {
+        parameters: 0,
+        declared: at,
+        fields: 0,
+        members: at,
+    };
+    if head.structs <= name.0 {
+        return none;
+    }
+    match at.struct_decl(s) {
+        StructStep::Refused(_) => none,
+        StructStep::Struct(d) => d,
+    }
+}
+
+// The action of a point of the blocks; a block's end does nothing, as Noop does. An Init's sources stand at the cursor that comes with it.
+pub fn action_at(s: &[u8], layout: &[u16; 1280], p: usize) -> ActionStep
+    requires { ⌜ length (now layout) ≡ 1280 ⌝ }
+    ensures { λ r. ⌜ ((h : heads.Head) (j : Job) → Layout (now (s .entry)) (now (layout .entry)) h j → p < codeCount (j .blocks) → Acts (now (s .entry)) (actionAt (graphOf j) p) r) ⌝ }
+{
+    match point_at(layout, p) {
+        PointStep::End => ActionStep::Action(Action::Noop, Cursor { at: 0 }),
+        PointStep::Action(c) => c.action(s),
     }
 }

@@ -37,7 +37,7 @@ pub fn counts(c: Cursor, s: &[u8]) -> CountsStep
 
 // Variables and blocks.
 fn last_counts(c: Cursor, s: &[u8], structs: u8, regions: u8, declared: u8) -> CountsStep
-    requires { ⌜ (structs ≤ 16) × (declared ≤ 16) ⌝ }
+    requires { ⌜ (structs ≤ 16) × (regions ≤ 128) × (declared ≤ 16) ⌝ }
     ensures { λ r. ⌜ LastCountsSay structs regions declared (now (s .entry)) (c .at) r ⌝ }
 {
     match c.count(s, 0, 64) {

@@ -1,21 +1,19 @@
 -- Types against parameters, node by node. Assumes nothing.
-use mathlib.Core.Path.{_≡_, refl, sym, ap, subst, _∙_}
-use mathlib.Core.Bool.{Bool, true, false, _&&_, not}
+use mathlib.Core.Path.{_≡_, refl, sym, ap, _∙_}
+use mathlib.Core.Bool.{Bool, true, false, _&&_}
 use mathlib.Core.List.{List, [], _∷_}
-use Prim.Native.Nat.{ℕ, zero, suc, _+_, _-_, _≤_, _<_}
+use Prim.Native.Nat.{ℕ, zero, suc, _-_, _≤_, _<_}
 use native.Mathlib.Omega.{arith}
 use native.Mathlib.Nat.{le-refl}
-use lib.ListN.{length, getD, drop, List·getD-eq-default}
+use lib.ListN.{length, getD}
 use lib.Dec.{ltb}
-use Rattle.nll_spec.specs.Lists.{every}
 use borrow.Author.Tests.{lt-ltb, le-ltb}
 use Rattle.nll_spec.specs.Syntax as syntax
 use Rattle.nll_spec.specs.Syntax.{Ty, Args, NoArgs, RegionArg, TypeArg, Param, StructDecl, Job, Co, RegionKind}
-use Rattle.nll_spec.specs.Decode.{read, Reader, done, items, param, field, structDecl}
+use Rattle.nll_spec.specs.Decode.{read, Reader, done, items, param}
 use Rattle.nll_spec.specs.Types.{structOf, argCount}
 use Rattle.nll_spec.specs.WellFormed.{isRegionKind, isTypeKind, boundFits, regionFits, typeFits, argsFit, fieldsFit, variablesFit, typesFit}
 use Rattle.repr.specs.Reading.{rest, kindOf, regionOf, parameterOf, parameterSays, ended, endSays}
-use Rattle.repr.specs.Parts.{structSays, StructSays}
 use Rattle.repr.specs.Types.{node, NodeSays, ArgumentSays}
 use Rattle.repr.specs.declared.Cursor.{Cursor}
 use Rattle.repr.specs.declared.Region as reprRegion
@@ -25,8 +23,6 @@ use Rattle.repr.specs.declared.BorrowKind.{BorrowKind}
 use Rattle.repr.specs.declared.StructName.{StructName}
 use Rattle.repr.specs.declared.StructParameter.{StructParameter}
 use Rattle.repr.specs.declared.StructDecl as reprStruct
-use Rattle.repr.specs.declared.StructStep.{StructStep}
-use Rattle.repr.specs.declared.StructStep.the-variants as structStep
 use Rattle.repr.specs.declared.EndStep.{EndStep}
 use Rattle.repr.specs.declared.EndStep.the-variants as endStep
 use Rattle.repr.specs.declared.ParameterStep.{ParameterStep}
@@ -41,15 +37,14 @@ use Rattle.repr.proofs.ReadLaws.{told, step}
 use Rattle.repr.proofs.PartLaws.{end-over}
 use Rattle.record.specs.Rows.{Stands}
 use Rattle.record.specs.Layout.{Layout}
+use Rattle.record.specs.Access.{Declared}
 use Rattle.record.specs.declared.Head.{Head}
 use Rattle.ty.proofs.SpellLaws.{clash, carry, then}
-use Rattle.refusals.specs.Tests.{Tested}
-use Rattle.refusals.specs.Fits.{ParamsAt, Within, TypeFit, ArgumentsFit, fieldFits, structFits}
+use Rattle.refusals.specs.Fits.{ParamsAt, Within, TypeFit, ArgumentsFit}
 use Rattle.refusals.specs.declared.fits.Params.{Params}
 use Rattle.refusals.proofs.WalkLaws as walks
 use Rattle.refusals.proofs.WalkLaws.{fewer-still, rest-fewer}
-use Rattle.refusals.proofs.RowLaws.{first-of, structs-row}
-use Rattle.refusals.proofs.PartLaws.{struct-is}
+use Rattle.refusals.proofs.RowLaws.{first-of}
 
 -- ---- A row, by number
 
@@ -128,23 +123,8 @@ pub no-params : {s : List ℕ} (c : Cursor) → ParamsAt s (record { declared = 
 unfolding items done
 no-params {s} c = record { stand = record { over = rest s c; reads = refl } }
 
-module _ {s t : List ℕ} {h : Head} {name : StructName} {i : ℕ} {at : Cursor} (e : at .at ≡ getD t i 0) (k : i ≡ 0 + name .0) where
-  pub params-past : h .structs ≤ name .0 → (j : Job) → Layout s t h j → ParamsAt s (record { declared = at; count = 0 }) (structOf (j .structs) (name .0) .params)
-  params-past l j w =
-      let n = w .structCount in
-      let o : length (j .structs) ≤ name .0 = omega arith in
-      let r : structOf (j .structs) (name .0) ≡ record { params = []; fields = [] } = List·getD-eq-default (j .structs) (record { params = []; fields = [] }) o in
-      subst (λ (x : StructDecl). ParamsAt s (record { declared = at; count = 0 }) (x .params)) (sym r) (no-params at)
-
-  module _ (l : name .0 < h .structs) {d : StructStep} (m : StructSays s (at .at) d) (j : Job) (w : Layout s t h j) where
-    stands : Stands structDecl (structOf (j .structs) (name .0)) (drop (at .at) s)
-    stands = let n = w .structCount in rw (e, k) (structs-row w .stands (name .0) (omega arith))
-
-    pub params-refused : {r : Params} {x : ℕ} → d ≡ structStep.Refused x → ParamsAt s r (structOf (j .structs) (name .0) .params)
-    params-refused f = absurd (clash (sym (ap (structSays s) f) ∙ m .same ∙ stands .reads))
-
-    pub params-there : {x : reprStruct.StructDecl} → d ≡ structStep.Struct x → ParamsAt s (record { declared = x .declared; count = x .parameters }) (structOf (j .structs) (name .0) .params)
-    params-there f = record { stand = struct-is m f (stands .reads) .params }
+declared-size : {s : List ℕ} {x : StructDecl} {d : reprStruct.StructDecl} → Declared s x d → length (x .params) ≡ d .parameters
+declared-size {s} {d = d} w = items-length param (d .parameters) (rest s (d .declared)) (w .params .reads)
 
 -- ---- Arguments and parameters, counted
 
@@ -193,18 +173,18 @@ module _ {s t : List ℕ} {h : Head} {around : Params} {at left : ℕ} where
       unfolding typeFits
       ref-unfit i = record { walks = λ j ps w. walks.ref-fails m e (λ u. rw (← f ps (w .params), i)); fewer = tt }
 
-    module _ {name : StructName} {n : ℕ} {c : Cursor} (e : d ≡ nodeStep.Struct name n c) {p : Params} (f : (j : Job) → Layout s t h j → ParamsAt s p (structOf (j .structs) (name .0) .params)) where
-      pub fit-struct : {r : NodesStep} → p .count ≡ n → (left ≡ 0 → ⊥) → ArgumentsFit s t h around (p .declared) (c .at) n (left - 1) r → TypeFit s t h around at left r
+    module _ {name : StructName} {n : ℕ} {c : Cursor} (e : d ≡ nodeStep.Struct name n c) {p : reprStruct.StructDecl} (f : (j : Job) → Layout s t h j → Declared s (structOf (j .structs) (name .0)) p) where
+      pub fit-struct : {r : NodesStep} → p .parameters ≡ n → (left ≡ 0 → ⊥) → ArgumentsFit s t h around (p .declared) (c .at) n (left - 1) r → TypeFit s t h around at left r
       unfolding typeFits
       fit-struct {r} i z v = record {
-        walks = λ j ps w. walks.type-struct m e z (λ g. refl) (v .walks j ps (structOf (j .structs) (name .0) .params) w (rw (← i) (f j (w .layout) .stand)));
+        walks = λ j ps w. walks.type-struct m e z (λ g. refl) (v .walks j ps (structOf (j .structs) (name .0) .params) w (rw (← i) (f j (w .layout) .params)));
         fewer = fewer-still r (v .fewer) (omega arith);
       }
 
-      pub count-unfit : {k : ℕ} → (p .count ≡ n → ⊥) → TypeFit s t h around at left (Refused k)
+      pub count-unfit : {k : ℕ} → (p .parameters ≡ n → ⊥) → TypeFit s t h around at left (Refused k)
       unfolding typeFits
       count-unfit i = record {
-        walks = λ j ps w. walks.struct-fails m e (λ g l. args-differ (j .structs) ps g (structOf (j .structs) (name .0) .params) (λ o. i (sym (size (f j (w .layout))) ∙ sym o ∙ l)));
+        walks = λ j ps w. walks.struct-fails m e (λ g l. args-differ (j .structs) ps g (structOf (j .structs) (name .0) .params) (λ o. i (sym (declared-size (f j (w .layout))) ∙ sym o ∙ l)));
         fewer = tt;
       }
 
@@ -296,9 +276,9 @@ module _ {s t : List ℕ} {h : Head} {around : Params} {declared : Cursor} {n le
 
 -- ---- Parts
 
-pub struct-fit : {s t : List ℕ} {h : Head} {j : Job} {at : ℕ} {d : StructStep} {x : reprStruct.StructDecl} {r : Bool} → StructSays s at d → d ≡ structStep.Struct x → Layout s t h j
-    → ((ps : List Param) → Within s t h (record { declared = x .declared; count = x .parameters }) j ps → Tested (items (x .fields) field) (every (fieldFits j ps)) s (x .members .at) r) → Tested structDecl (structFits j) s at r
-struct-fit m e w v = record { says = λ y bs i. let u = struct-is m e i in v (y .params) (record { layout = w; params = record { stand = u .params } }) .says (y .fields) bs (u .fields) }
+-- the parameters of a struct, around its fields
+pub around-fields : {s t : List ℕ} {h : Head} {j : Job} {x : StructDecl} {d : reprStruct.StructDecl} → Layout s t h j → Declared s x d → Within s t h (record { declared = d .declared; count = d .parameters }) j (x .params)
+around-fields w v = record { layout = w; params = record { stand = v .params } }
 
 -- no parameters around
 pub alone : {s t : List ℕ} {h : Head} {j : Job} (c : Cursor) → Layout s t h j → Within s t h (record { declared = c; count = 0 }) j []

@@ -12,16 +12,15 @@ use borrow.Author.Tests.{lt-ltb, le-ltb, le-leb, lt-leb, not-false}
 use Rattle.nll_spec.specs.Lists.{every, gather}
 use Rattle.nll_spec.specs.Syntax as syntax
 use Rattle.nll_spec.specs.Syntax.{Ty, Job}
-use Rattle.nll_spec.specs.Decode.{refused, read, Reader, done, byte, count, items, counted, maxOutlived, param, field, structDecl, type, path, action, block}
+use Rattle.nll_spec.specs.Decode.{refused, read, Reader, done, byte, count, items, counted, maxOutlived, field, type, path, action, block}
 use Rattle.nll_spec.specs.WellFormed.{typeNamed, fieldNamed, pathNamed, actionNamed, structsNamed, outlivedNamed, variablesNamed, successorsNamed, actionsNamed, named}
 use Rattle.repr.specs.Reading.{rest, byteSays, pathSays}
-use Rattle.repr.specs.Parts.{fieldSays, structOf, structSays, StructSays, actionSays, sourcesOf, blockOf, blockSays}
+use Rattle.repr.specs.Parts.{fieldSays, actionSays, sourcesOf, blockOf, blockSays}
 use Rattle.repr.specs.declared.Cursor.{Cursor}
 use Rattle.repr.specs.declared.FieldName.{FieldName}
 use Rattle.repr.specs.declared.Path.{Path}
 use Rattle.repr.specs.declared.Action.{Action}
 use Rattle.repr.specs.declared.Action.the-variants.{Noop, Init, Borrow, Assign, Constraint, Use, Drop, StorageDead}
-use Rattle.repr.specs.declared.StructDecl.{StructDecl}
 use Rattle.repr.specs.declared.BasicBlockData.{BasicBlockData}
 use Rattle.repr.specs.declared.EndStep.{EndStep}
 use Rattle.repr.specs.declared.EndStep.the-variants.{Ended, Refused}
@@ -29,8 +28,6 @@ use Rattle.repr.specs.declared.ByteStep.{ByteStep}
 use Rattle.repr.specs.declared.ByteStep.the-variants as byteStep
 use Rattle.repr.specs.declared.FieldStep.{FieldStep}
 use Rattle.repr.specs.declared.FieldStep.the-variants as fieldStep
-use Rattle.repr.specs.declared.StructStep.{StructStep}
-use Rattle.repr.specs.declared.StructStep.the-variants as structStep
 use Rattle.repr.specs.declared.PathStep.{PathStep}
 use Rattle.repr.specs.declared.PathStep.the-variants as pathStep
 use Rattle.repr.specs.declared.ActionStep.{ActionStep}
@@ -38,7 +35,6 @@ use Rattle.repr.specs.declared.ActionStep.the-variants as actionStep
 use Rattle.repr.specs.declared.BlockStep.{BlockStep}
 use Rattle.repr.specs.declared.BlockStep.the-variants as blockStep
 use Rattle.repr.proofs.ReadLaws.{told, step, bytes-at, bytes-short}
-use Rattle.record.specs.Rows.{Stands}
 use Rattle.record.specs.Layout.{Layout}
 use Rattle.record.specs.declared.Head.{Head}
 use Rattle.ty.proofs.SpellLaws.{clash, carry, then}
@@ -89,27 +85,6 @@ module _ (j : Job) (n : ℕ) (t : Ty) where
 
   pub field-numbered : (n ≡ 0 → ⊥) → fieldNamed j (record { number = n; type = t }) ≡ typeNamed j t
   field-numbered z = let h : ltb 0 n ≡ true = lt-ltb 0 n (omega arith) in rw h
-
--- ---- A struct
-
--- its parameters and fields, where they lie
-pub record StructIs (s : List ℕ) (d : StructDecl) (x : syntax.StructDecl) (bs : List ℕ) : Type 0 where
-  pub params : Stands (items (d .parameters) param) (x .params) (rest s (d .declared))
-  pub fields : items (d .fields) field (rest s (d .members)) ≡ read (x .fields) bs
-
-pub struct-is : {s : List ℕ} {at : ℕ} {r : StructStep} {d : StructDecl} {x : syntax.StructDecl} {bs : List ℕ} → StructSays s at r → r ≡ structStep.Struct d → structDecl (drop at s) ≡ read x bs → StructIs s d x bs
-unfolding structOf done
-struct-is {s} {d = d} m e i =
-    let w = then (items (d .parameters) param) _ (rest s (d .declared)) (sym (told (structSays s) (m .same) e) ∙ i) in
-    let v = then (items (d .fields) field) _ (rest s (d .members)) (w .last) in
-    carry (λ y o. StructIs s d y o) (v .last) (record { params = record { over = w .mid; reads = w .first }; fields = v .first })
-
-module _ {s : List ℕ} {at : ℕ} {d : StructStep} (m : StructSays s at d) where
-  pub struct-refused : {f : syntax.StructDecl → Bool} {k : ℕ} {r : Bool} → d ≡ structStep.Refused k → Tested structDecl f s at r
-  struct-refused e = none-tested (told (structSays s) (m .same) e)
-
-  pub struct-fields : {f : syntax.Field → Bool} {x : StructDecl} {r : Bool} → d ≡ structStep.Struct x → Tested (items (x .fields) field) (every f) s (x .members .at) r → Tested structDecl (λ y. every f (y .fields)) s at r
-  struct-fields e v = record { says = λ y bs i. let w = struct-is m e i in v .says (y .fields) bs (w .fields) }
 
 -- ---- Bytes below a limit
 
@@ -262,7 +237,7 @@ module _ {h : Head} {s : List ℕ} {at : ℕ} {d : BlockStep} (m : blockSays s d
 
 -- ---- The whole job
 
-every-append : {A : Type 0} (f : A → Bool) (xs ys : List A) → every f (xs ++ ys) ≡ every f xs && every f ys
+pub every-append : {A : Type 0} (f : A → Bool) (xs ys : List A) → every f (xs ++ ys) ≡ every f xs && every f ys
 every-append f [] ys = refl
 every-append f (x ∷ xs) ys = go (f x) (every f xs) (every f ys) (every-append f xs ys)
   where
@@ -274,7 +249,7 @@ every-gather : {A B : Type 0} (f : A → Bool) (g : B → List A) (bs : List B) 
 every-gather f g [] = refl
 every-gather f g (b ∷ bs) = every-append f (g b) (gather g bs) ∙ ap (λ (z : Bool). every f (g b) && z) (every-gather f g bs)
 
-every-both : {A : Type 0} (f g : A → Bool) (xs : List A) → every (λ x. f x && g x) xs ≡ every f xs && every g xs
+pub every-both : {A : Type 0} (f g : A → Bool) (xs : List A) → every (λ x. f x && g x) xs ≡ every f xs && every g xs
 every-both f g [] = refl
 every-both f g (x ∷ xs) = ap (λ (z : Bool). (f x && g x) && z) (every-both f g xs) ∙ go (f x) (g x) (every f xs) (every g xs)
   where

@@ -8,15 +8,17 @@ use native.Mathlib.Numerals.{add-one, sub-one}
 use lib.ListN.{length, getD, drop, drop-of-length-le}
 use lib.Seq.{drop-cons}
 use Rattle.nll_spec.specs.Lists.{every}
-use Rattle.nll_spec.specs.Syntax.{UnitTy, Job}
-use Rattle.nll_spec.specs.Decode.{read, Reader, done, byte, items, counted, maxOutlived, structDecl, type, block}
+use Rattle.nll_spec.specs.Syntax.{UnitTy, Field, StructDecl, Job}
+use Rattle.nll_spec.specs.Decode.{read, Reader, done, byte, items, counted, maxOutlived, field, type, block}
 use Rattle.repr.specs.declared.Cursor.{Cursor}
+use Rattle.repr.specs.declared.StructDecl as declared
 use Rattle.repr.specs.declared.EndStep.{EndStep}
 use Rattle.repr.specs.declared.EndStep.the-variants.{Ended, Refused}
 use Rattle.record.specs.Rows.{Stands}
 use Rattle.record.specs.Layout.{Layout}
+use Rattle.record.specs.Access.{entryIn, Declared}
 use Rattle.record.specs.declared.Head.{Head}
-use Rattle.record.proofs.AccessLaws.{struct-at, outlives-at, variable-at, block-at}
+use Rattle.record.proofs.AccessLaws.{outlives-at, variable-at, block-at}
 use Rattle.ty.proofs.SpellLaws.{carry, then}
 use Rattle.refusals.specs.Tests.{Sized, over, fails, pass, passSays, isEnded, Passes, Tested}
 
@@ -115,40 +117,45 @@ pub record Testing {A : Type 0} (f : A → Bool) (xs : List A) (i : ℕ) : Type 
 pub testing-start : {A : Type 0} (f : A → Bool) (xs : List A) → Testing f xs 0
 testing-start f xs = record { same = refl }
 
--- n items, each standing where its entry of the table says, from entry `base` on. x stands for an absent one.
-pub record TableRow {A : Type 0} (m : Reader A) (s t : List ℕ) (base n : ℕ) (xs : List A) (x : A) : Type 0 where
-  pub stands : (i : ℕ) → i < length xs → Stands m (getD xs i x) (drop (getD t (base + i) 0) s)
-  pub count : length xs ≡ n
+pub testing-end : {A : Type 0} {f : A → Bool} {xs : List A} {n i : ℕ} → length xs ≡ n → Testing f xs i → n ≤ i → true ≡ every f xs
+testing-end {xs = xs} {i = i} e g h = let l : length xs ≤ i = omega arith in rw (g .same, drop-of-length-le xs l)
 
-pub testing-end : {A : Type 0} {m : Reader A} {f : A → Bool} {s t : List ℕ} {base n : ℕ} {xs : List A} {x : A} {i : ℕ} → TableRow m s t base n xs x → Testing f xs i → n ≤ i → true ≡ every f xs
-testing-end {xs = xs} {i = i} w g h = let e = w .count in let l : length xs ≤ i = omega arith in rw (g .same, drop-of-length-le xs l)
+-- The answer is the test of item i. x stands for an absent one.
+pub record ItemTested {A : Type 0} (f : A → Bool) (xs : List A) (x : A) (i : ℕ) (r : Bool) : Type 0 where
+  pub says : r ≡ f (getD xs i x)
 
-module _ {A : Type 0} {m : Reader A} {f : A → Bool} {s t : List ℕ} {base n : ℕ} {xs : List A} {x : A} {i at : ℕ} {r : Bool} (w : TableRow m s t base n xs x) (g : Testing f xs i) (h : i < n) (e : at ≡ getD t (base + i) 0) (v : Tested m f s at r) where
-  at-item : r ≡ f (getD xs i x)
-  at-item = let c = w .count in let k = w .stands i (omega arith) in v .says (getD xs i x) (k .over) (rw e (k .reads))
-
+module _ {A : Type 0} {f : A → Bool} {xs : List A} {x : A} {n i : ℕ} {r : Bool} (c : length xs ≡ n) (g : Testing f xs i) (h : i < n) (e : ItemTested f xs x i r) where
   from-item : every f (drop i xs) ≡ f (getD xs i x) && every f (drop (suc i) xs)
-  from-item = let c = w .count in rw (drop-cons xs i x (omega arith))
+  from-item = rw (drop-cons xs i x (omega arith))
 
   pub testing-fails : r ≡ false → false ≡ every f xs
-  testing-fails k = rw (g .same, from-item, ← at-item, k)
+  testing-fails k = rw (g .same, from-item, ← e .says, k)
 
   pub testing-more : r ≡ true → Testing f xs (i + 1)
-  testing-more k = record { same = rw add-one (g .same ∙ from-item ∙ rw (← at-item, k)) }
+  testing-more k = record { same = rw add-one (g .same ∙ from-item ∙ rw (← e .says, k)) }
+
+-- Items, each standing where its entry of the table says: of a row of so many entries from `base` on.
+pub record TableRow {A : Type 0} (m : Reader A) (s t : List ℕ) (base many n : ℕ) (xs : List A) (x : A) : Type 0 where
+  pub stands : (i : ℕ) → i < length xs → Stands m (getD xs i x) (drop (entryIn t base many i) s)
+  pub count : length xs ≡ n
+
+pub row-item : {A : Type 0} {m : Reader A} {f : A → Bool} {s t : List ℕ} {base many n : ℕ} {xs : List A} {x : A} {i at : ℕ} {r : Bool} → TableRow m s t base many n xs x → i < n → at ≡ entryIn t base many i → Tested m f s at r → ItemTested f xs x i r
+row-item {xs = xs} {x = x} {i = i} w h e v = let c = w .count in let k = w .stands i (omega arith) in record { says = v .says (getD xs i x) (k .over) (rw e (k .reads)) }
+
+-- the fields of a struct
+pub fields-tested : {s : List ℕ} {f : Field → Bool} {x : StructDecl} {d : declared.StructDecl} {r : Bool} → Declared s x d → Tested (items (d .fields) field) (every f) s (d .members .at) r → r ≡ every f (x .fields)
+fields-tested {x = x} w v = let k = w .fields in v .says (x .fields) (k .over) (k .reads)
 
 -- ---- The rows of a job
 
 module _ {s t : List ℕ} {h : Head} {j : Job} (w : Layout s t h j) where
-  pub structs-row : TableRow structDecl s t 0 (h .structs) (j .structs) (record { params = []; fields = [] })
-  structs-row = record { stands = λ i l. struct-at w i _ l; count = w .structCount }
-
-  pub outlives-row : TableRow (counted maxOutlived byte) s t 16 (h .declared) (j .outlives) []
+  pub outlives-row : TableRow (counted maxOutlived byte) s t 16 16 (h .declared) (j .outlives) []
   outlives-row = record { stands = λ i l. outlives-at w i _ l; count = w .declaredCount }
 
-  pub variables-row : TableRow type s t 32 (h .variables) (j .variables) UnitTy
+  pub variables-row : TableRow type s t 32 64 (h .variables) (j .variables) UnitTy
   variables-row = record { stands = λ i l. variable-at w i _ l; count = w .variableCount }
 
-  pub blocks-row : TableRow block s t 96 (h .blocks) (j .blocks) (record { successors = []; actions = [] })
+  pub blocks-row : TableRow block s t 96 64 (h .blocks) (j .blocks) (record { successors = []; actions = [] })
   blocks-row = record { stands = λ i l. block-at w i _ l; count = w .blockCount }
 
   pub sized : Sized h j

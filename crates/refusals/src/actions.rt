@@ -1,12 +1,11 @@
 // Refusal 6 of blocks: their successors, and the paths and regions of their actions.
-use super::entry;
 use super::parts::all_below;
 use super::passed;
-use super::wide;
-use record::BLOCKS;
 use record::Head;
+use record::access::block_at;
 use repr::Action;
 use repr::ActionStep;
+use repr::BasicBlockIndex;
 use repr::BlockStep;
 use repr::Cursor;
 use repr::EndStep;
@@ -148,10 +147,9 @@ pub fn blocks_named(s: &[u8], layout: &[u16; 1280], head: Head) -> bool
     requires { ⌜ length (now layout) ≡ 1280 ⌝ }
     ensures { λ r. ⌜ ((j : Job) → Layout (now (s .entry)) (now (layout .entry)) head j → r ≡ blocksNamed j) ⌝ }
 {
-    let many = wide(head.blocks);
     let mut i = 0;
-    while i < many {
-        if !block_named(s, entry(layout, BLOCKS + i), head) {
+    while i < head.blocks {
+        if !block_named(s, block_at(layout, BasicBlockIndex(i)), head) {
             return false;
         }
         i += 1;

@@ -1,8 +1,6 @@
 // Refusal 7 of a type: arguments fit the parameters of the struct that is named, and bounds those of the struct around.
-use super::entry;
-use super::wide;
 use record::Head;
-use record::STRUCTS;
+use record::access::struct_decl_at;
 use repr::ArgumentStep;
 use repr::Cursor;
 use repr::EndStep;
@@ -11,18 +9,14 @@ use repr::NodeStep;
 use repr::NodesStep;
 use repr::ParameterStep;
 use repr::Region;
-use repr::StructName;
-use repr::StructStep;
 ghost use mathlib.Core.Path.{_≡_};
 ghost use mathlib.Core.List.{List};
 ghost use mathlib.Core.Bool.{_&&_};
 ghost use lib.ListN.{length};
 ghost use Rattle.nll_spec.specs.Syntax.{Param, Job};
 ghost use Rattle.nll_spec.specs.Decode.{type};
-ghost use Rattle.nll_spec.specs.Types.{structOf};
 ghost use Rattle.nll_spec.specs.WellFormed.{boundFits, regionFits, typeFits, isRegionKind};
 ghost use Rattle.repr.specs.Reading.{kindOf, regionOf};
-ghost use Rattle.record.specs.Layout.{Layout};
 ghost use Rattle.refusals.specs.Tests.{Passes};
 ghost use Rattle.refusals.specs.Fits.{kindTest, ParamsAt, Within, TypeFit, ArgumentsFit};
 
@@ -77,33 +71,6 @@ fn region_fits(s: &[u8], around: Params, region: Region) -> bool
     }
 }
 
-// The parameters of a struct by its name. One that is not there has none.
-fn params_of(s: &[u8], layout: &[u16; 1280], head: Head, name: StructName) -> Params
-    requires { ⌜ length (now layout) ≡ 1280 ⌝ }
-    ensures { λ r. ⌜ ((j : Job) → Layout (now (s .entry)) (now (layout .entry)) head j → ParamsAt (now (s .entry)) r (structOf (j .structs) (name .0) .params)) ⌝ }
-{
-    let at = entry(layout, STRUCTS + wide(name.0));
-    if head.structs <= name.0 {
-        return Params {
-            declared: at,
-            count: 0,
-        };
-    }
-    match at.struct_decl(s) {
-        StructStep::Refused(_) => Params {
-            declared: at,
-            count: 0,
-        },
-        StructStep::Struct(d) => {
-            let declared = d.declared;
-            Params {
-                declared,
-                count: d.parameters,
-            }
-        }
-    }
-}
-
 // Whether a region fits as an argument for a parameter of this kind.
 fn argument_fits(s: &[u8], around: Params, kind: Kind, region: Region) -> bool
     ensures { λ r. ⌜ ((ps : List Param) → ParamsAt (now (s .entry)) around ps → r ≡ isRegionKind (kindOf kind) && regionFits ps (regionOf region)) ⌝ }
@@ -151,8 +118,8 @@ fn type_fits(
             count,
             arguments,
         } => {
-            let named = params_of(s, layout, head, name);
-            if named.count != count {
+            let named = struct_decl_at(s, layout, head, name);
+            if named.parameters != count {
                 return NodesStep::Refused(7);
             }
             let declared = named.declared;

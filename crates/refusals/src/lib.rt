@@ -12,36 +12,13 @@ use parts::outlives_named;
 use parts::structs_named;
 use parts::variables_named;
 use record::Head;
-use repr::Cursor;
 use repr::EndStep;
 ghost use mathlib.Core.Path.{_≡_};
-ghost use Prim.Native.Nat.{_<_, _≤_};
-ghost use lib.ListN.{length, getD};
+ghost use lib.ListN.{length};
 ghost use Rattle.nll_spec.specs.Syntax.{Job};
 ghost use Rattle.nll_spec.specs.WellFormed as wellFormed;
 ghost use Rattle.record.specs.Layout.{Layout};
 ghost use Rattle.refusals.specs.Tests.{isEnded};
-
-fn wide(x: u8) -> usize
-    ensures { λ r. ⌜ (r ≡ x) × (r ≤ 255) ⌝ }
-{
-    x as usize
-}
-
-fn place(x: u16) -> usize
-    ensures { λ r. ⌜ r ≡ x ⌝ }
-{
-    x as usize
-}
-
-// The entry of the table as a place.
-fn entry(layout: &[u16; 1280], i: usize) -> Cursor
-    requires { ⌜ (i < 1280) × (length (now layout) ≡ 1280) ⌝ }
-    ensures { λ r. ⌜ r .at ≡ getD (now (layout .entry)) i 0 ⌝ }
-{
-    let at = place(layout[i]);
-    Cursor { at }
-}
 
 // Whether what was tested passed.
 fn passed(e: EndStep) -> bool

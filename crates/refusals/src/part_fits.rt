@@ -1,24 +1,26 @@
 // Refusal 7 of structs and variables.
-use super::entry;
 use super::fits::Params;
 use super::fits::ty_fits;
 use super::passed;
-use super::wide;
 use record::Head;
-use record::STRUCTS;
-use record::VARIABLES;
+use record::access::struct_decl_at;
+use record::access::variable_at;
 use repr::Cursor;
 use repr::EndStep;
 use repr::FieldStep;
-use repr::StructStep;
+use repr::StructDecl;
+use repr::StructName;
+use repr::Variable;
 ghost use mathlib.Core.Path.{_≡_};
 ghost use mathlib.Core.List.{List, []};
 ghost use lib.ListN.{length};
 ghost use Rattle.nll_spec.specs.Lists.{every};
+ghost use Rattle.nll_spec.specs.Syntax as syntax;
 ghost use Rattle.nll_spec.specs.Syntax.{Param, Job};
-ghost use Rattle.nll_spec.specs.Decode.{items, field, structDecl, type};
+ghost use Rattle.nll_spec.specs.Decode.{items, field, type};
 ghost use Rattle.nll_spec.specs.WellFormed.{typeFits, fieldsFit, variablesFit};
 ghost use Rattle.record.specs.Layout.{Layout};
+ghost use Rattle.record.specs.Access.{Declared};
 ghost use Rattle.refusals.specs.Tests.{Passes, Tested};
 ghost use Rattle.refusals.specs.Fits.{Within, fieldFits, structFits};
 
@@ -60,32 +62,27 @@ fn fields_fit(
 }
 
 // A struct: its fields, with its parameters around them.
-fn struct_fits(s: &[u8], layout: &[u16; 1280], head: Head, c: Cursor) -> bool
+fn struct_fits(s: &[u8], layout: &[u16; 1280], head: Head, d: StructDecl) -> bool
     requires { ⌜ length (now layout) ≡ 1280 ⌝ }
-    ensures { λ r. ⌜ ((j : Job) → Layout (now (s .entry)) (now (layout .entry)) head j → Tested structDecl (structFits j) (now (s .entry)) (c .at) r) ⌝ }
+    ensures { λ r. ⌜ ((j : Job) (x : syntax.StructDecl) → Layout (now (s .entry)) (now (layout .entry)) head j → Declared (now (s .entry)) x d → r ≡ structFits j x) ⌝ }
 {
-    match c.struct_decl(s) {
-        StructStep::Refused(_) => false,
-        StructStep::Struct(d) => {
-            let declared = d.declared;
-            let members = d.members;
-            let around = Params {
-                declared,
-                count: d.parameters,
-            };
-            passed(fields_fit(s, layout, head, members, d.fields, around))
-        }
-    }
+    let declared = d.declared;
+    let members = d.members;
+    let around = Params {
+        declared,
+        count: d.parameters,
+    };
+    passed(fields_fit(s, layout, head, members, d.fields, around))
 }
 
 pub fn structs_fit(s: &[u8], layout: &[u16; 1280], head: Head) -> bool
     requires { ⌜ length (now layout) ≡ 1280 ⌝ }
     ensures { λ r. ⌜ ((j : Job) → Layout (now (s .entry)) (now (layout .entry)) head j → r ≡ fieldsFit j) ⌝ }
 {
-    let many = wide(head.structs);
     let mut i = 0;
-    while i < many {
-        if !struct_fits(s, layout, head, entry(layout, STRUCTS + i)) {
+    while i < head.structs {
+        let d = struct_decl_at(s, layout, head, StructName(i));
+        if !struct_fits(s, layout, head, d) {
             return false;
         }
         i += 1;
@@ -109,10 +106,9 @@ pub fn variables_fit(s: &[u8], layout: &[u16; 1280], head: Head) -> bool
     requires { ⌜ length (now layout) ≡ 1280 ⌝ }
     ensures { λ r. ⌜ ((j : Job) → Layout (now (s .entry)) (now (layout .entry)) head j → r ≡ variablesFit j) ⌝ }
 {
-    let many = wide(head.variables);
     let mut i = 0;
-    while i < many {
-        if !variable_fits(s, layout, head, entry(layout, VARIABLES + i)) {
+    while i < head.variables {
+        if !variable_fits(s, layout, head, variable_at(layout, Variable(i))) {
             return false;
         }
         i += 1;

@@ -1,24 +1,27 @@
 // Refusal 6 of structs, outlives lists and variables.
-use super::entry;
 use super::names::ty_named;
 use super::passed;
-use super::wide;
 use record::Head;
-use record::OUTLIVES;
-use record::STRUCTS;
-use record::VARIABLES;
+use record::access::outlives_at;
+use record::access::struct_decl_at;
+use record::access::variable_at;
 use repr::ByteStep;
 use repr::Cursor;
 use repr::EndStep;
 use repr::FieldStep;
-use repr::StructStep;
+use repr::RegionName;
+use repr::StructDecl;
+use repr::StructName;
+use repr::Variable;
 ghost use mathlib.Core.Path.{_≡_};
 ghost use lib.ListN.{length, take, drop};
 ghost use Rattle.nll_spec.specs.Lists.{every};
+ghost use Rattle.nll_spec.specs.Syntax as syntax;
 ghost use Rattle.nll_spec.specs.Syntax.{Job};
-ghost use Rattle.nll_spec.specs.Decode.{byte, items, counted, maxOutlived, field, structDecl};
+ghost use Rattle.nll_spec.specs.Decode.{byte, items, counted, maxOutlived, field};
 ghost use Rattle.nll_spec.specs.WellFormed.{fieldNamed, structsNamed, outlivedNamed, variablesNamed};
 ghost use Rattle.record.specs.Layout.{Layout};
+ghost use Rattle.record.specs.Access.{Declared};
 ghost use Rattle.refusals.specs.Tests.{Sized, Passes, Tested, allBelow, structNamed};
 
 // A field: its number is not 0, and its type is named.
@@ -55,26 +58,21 @@ fn fields_named(s: &[u8], from: Cursor, count: u8, head: Head) -> EndStep
     EndStep::Ended(c)
 }
 
-fn struct_named(s: &[u8], c: Cursor, head: Head) -> bool
-    ensures { λ r. ⌜ ((j : Job) → Sized head j → Tested structDecl (structNamed j) (now (s .entry)) (c .at) r) ⌝ }
+fn struct_named(s: &[u8], d: StructDecl, head: Head) -> bool
+    ensures { λ r. ⌜ ((j : Job) (x : syntax.StructDecl) → Sized head j → Declared (now (s .entry)) x d → r ≡ structNamed j x) ⌝ }
 {
-    match c.struct_decl(s) {
-        StructStep::Refused(_) => false,
-        StructStep::Struct(d) => {
-            let members = d.members;
-            passed(fields_named(s, members, d.fields, head))
-        }
-    }
+    let members = d.members;
+    passed(fields_named(s, members, d.fields, head))
 }
 
 pub fn structs_named(s: &[u8], layout: &[u16; 1280], head: Head) -> bool
     requires { ⌜ length (now layout) ≡ 1280 ⌝ }
     ensures { λ r. ⌜ ((j : Job) → Layout (now (s .entry)) (now (layout .entry)) head j → r ≡ structsNamed j) ⌝ }
 {
-    let many = wide(head.structs);
     let mut i = 0;
-    while i < many {
-        if !struct_named(s, entry(layout, STRUCTS + i), head) {
+    while i < head.structs {
+        let d = struct_decl_at(s, layout, head, StructName(i));
+        if !struct_named(s, d, head) {
             return false;
         }
         i += 1;
@@ -117,10 +115,9 @@ pub fn outlives_named(s: &[u8], layout: &[u16; 1280], head: Head) -> bool
     requires { ⌜ length (now layout) ≡ 1280 ⌝ }
     ensures { λ r. ⌜ ((j : Job) → Layout (now (s .entry)) (now (layout .entry)) head j → r ≡ outlivedNamed j) ⌝ }
 {
-    let many = wide(head.declared);
     let mut i = 0;
-    while i < many {
-        if !outlived_named(s, entry(layout, OUTLIVES + i), head.declared) {
+    while i < head.declared {
+        if !outlived_named(s, outlives_at(layout, RegionName(i)), head.declared) {
             return false;
         }
         i += 1;
@@ -132,10 +129,9 @@ pub fn variables_named(s: &[u8], layout: &[u16; 1280], head: Head) -> bool
     requires { ⌜ length (now layout) ≡ 1280 ⌝ }
     ensures { λ r. ⌜ ((j : Job) → Layout (now (s .entry)) (now (layout .entry)) head j → r ≡ variablesNamed j) ⌝ }
 {
-    let many = wide(head.variables);
     let mut i = 0;
-    while i < many {
-        if !passed(ty_named(s, entry(layout, VARIABLES + i), head)) {
+    while i < head.variables {
+        if !passed(ty_named(s, variable_at(layout, Variable(i)), head)) {
             return false;
         }
         i += 1;

@@ -31,7 +31,7 @@ loop-again : tie.Need-loop-again Inv-loop μ-loop
 loop-again c = rowed-more _ _ _ (c .before .before .before .before .before .loop .inv) (c .before .before .before .if1 .taken) (c .block .ensures)
 
 returns : tie.Need-returns Inv-loop μ-loop
-returns c = (c .before .before .loop .inv .sized, λ j w n p k. rowed-all _ _ _ (c .before .before .loop .inv) (c .if1 .left) j (record { layout = w; named = n; points = p; blocks = k }))
+returns c = (c .before .before .loop .inv .sized, λ j w n p. rowed-all _ _ _ (c .before .before .loop .inv) (c .if1 .left) j (record { layout = w; named = n; points = p }))
 
 pub edges-spec : {M : Type 1} → statement M
 edges-spec =

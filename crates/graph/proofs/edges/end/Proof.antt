@@ -1,6 +1,6 @@
 -- `graph::edges::end` meets its contract. Assumes nothing.
 use Rattle.graph.proofs.FillLaws.{Ending, ending-none, ending-more, ending-all}
-use Rattle.graph.specs.Shape.{firstEntry}
+use Rattle.record.specs.Access.{entryIn}
 use Prim.Native.Nat.{_-_, _≤_}
 use native.Mathlib.Omega.{arith}
 use borrow.Author.Needs.{needs}
@@ -8,7 +8,7 @@ use Rattle.graph.proofs.edges.end.Statement.{statement}
 use Rattle.graph.proofs.edges.end.Tie as tie
 
 abbrev Inv-loop : tie.InvT-loop
-Inv-loop s layout p k first succ₀ from many i₀ succ i = (i ≤ many) × Ending (firstEntry layout) s from i k succ₀ succ
+Inv-loop s layout p k first succ₀ from many i₀ succ i = (i ≤ many) × Ending (entryIn layout 160 64) s from i k succ₀ succ
 
 abbrev μ-loop : tie.MeasureT-loop
 μ-loop s layout p k first succ₀ from many i₀ succ i = many - i
@@ -22,8 +22,8 @@ add-b c = search needs
 shared-slice-read-b : tie.Need-shared-slice-read-b Inv-loop μ-loop
 shared-slice-read-b c = omega (arith, c .before .before .before .before .pre .1 .inside)
 
-first-of-requires : tie.Need-first-of-requires Inv-loop μ-loop
-first-of-requires c κs = search needs
+first-point-requires : tie.Need-first-point-requires Inv-loop μ-loop
+first-point-requires c κs = search needs
 
 add-succ : tie.Need-add-succ Inv-loop μ-loop
 add-succ c = search needs
@@ -41,7 +41,7 @@ loop-less : tie.Need-loop-less Inv-loop μ-loop
 loop-less c = search needs
 
 loop-again : tie.Need-loop-again Inv-loop μ-loop
-loop-again c = (omega arith, ending-more (c .before .before .before .loop .inv .1) (omega arith) (omega (arith, c .before .before .before .before .before .pre .1 .inside)) (c .first-of .ensures))
+loop-again c = (omega arith, ending-more (c .before .before .before .loop .inv .1) (omega arith) (omega (arith, c .before .before .before .before .before .pre .1 .inside)) (c .first-point .ensures))
 
 add-first : tie.Need-add-first Inv-loop μ-loop
 add-first c = search needs
@@ -70,7 +70,7 @@ end-spec =
     loop-holds
     add-b
     shared-slice-read-b
-    first-of-requires
+    first-point-requires
     add-succ
     mul-succ
     element-write-succ

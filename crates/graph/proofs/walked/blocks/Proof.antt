@@ -1,6 +1,6 @@
 -- `graph::walked::blocks` meets its contract. Assumes nothing.
 use Rattle.graph.proofs.SearchLaws.{work, roomy-none, roomy-pop}
-use Rattle.graph.proofs.WalkLaws.{Turned, turned-none, turned-more, turned-less, turned-all, top-small}
+use Rattle.graph.proofs.WalkLaws.{Turned, turned-none, turned-more, turned-less, turned-all}
 use Rattle.graph.specs.Search.{state}
 use native.Mathlib.Omega.{arith}
 use borrow.Author.Needs.{needs}
@@ -26,7 +26,7 @@ array-read-b : tie.Need-array-read-b Inv-loop μ-loop
 array-read-b c = omega (arith, c .before .loop .inv .roomy .room)
 
 shape-requires : tie.Need-shape-requires Inv-loop μ-loop
-shape-requires c κs = (top-small (c .before .loop .inv) (omega arith), c .before .before .before .before .before .before .pre)
+shape-requires c κs = search needs
 
 visit-next-requires : tie.Need-visit-next-requires Inv-loop μ-loop
 visit-next-requires c κs = (c .before .before .shape .ensures .fits, roomy-pop (c .before .before .before .before .loop .inv .roomy))

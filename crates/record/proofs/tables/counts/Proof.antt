@@ -35,7 +35,7 @@ enum-known-declared : tie.Need-enum-known-declared
 enum-known-declared c = search needs
 
 last-counts-requires : tie.Need-last-counts-requires
-last-counts-requires c κs = (count-most 0 16 _ (told (byteSays _) (c .before .before .before .before .before .before .before .before .before .before .before .count .ensures) (c .before .before .before .before .before .before .before .before .before .structs .given .1)), count-most 0 16 _ (told (byteSays _) (c .before .before .before .count3 .ensures) (c .before .declared .given .1)))
+last-counts-requires c κs = (count-most 0 16 _ (told (byteSays _) (c .before .before .before .before .before .before .before .before .before .before .before .count .ensures) (c .before .before .before .before .before .before .before .before .before .structs .given .1)), count-most 0 128 _ (told (byteSays _) (c .before .before .before .before .before .before .before .count2 .ensures) (c .before .before .before .before .before .regions .given .1)), count-most 0 16 _ (told (byteSays _) (c .before .before .before .count3 .ensures) (c .before .declared .given .1)))
 
 returns : tie.Need-returns
 returns c = record { same = λ f. sym (stop _ _ _ (told (byteSays _) (c .before .before .before .count .ensures) (c .before .k .given .1))); fit = tt }

@@ -34,7 +34,7 @@ returns-2 c = record { same = λ f. sym (step _ _ _ (told (byteSays _) (c .befor
 returns-3 : tie.Need-returns-3
 returns-3 c = record {
   same = λ f. sym (step _ _ _ (told (byteSays _) (c .before .before .before .before .before .before .before .count .ensures) (c .before .before .before .before .before .variables .given .1)) ∙ step _ _ _ (told (byteSays _) (c .before .before .before .count2 .ensures) (c .before .blocks2 .given .1)));
-  fit = record { structs = c .before .before .before .before .before .before .before .before .before .pre .0; declared = c .before .before .before .before .before .before .before .before .before .pre .1; variables = count-most 0 64 _ (told (byteSays _) (c .before .before .before .before .before .before .before .count .ensures) (c .before .before .before .before .before .variables .given .1)); blocks = count-most 1 64 _ (told (byteSays _) (c .before .before .before .count2 .ensures) (c .before .blocks2 .given .1)) };
+  fit = record { structs = c .before .before .before .before .before .before .before .before .before .pre .0; regions = c .before .before .before .before .before .before .before .before .before .pre .1; declared = c .before .before .before .before .before .before .before .before .before .pre .2; variables = count-most 0 64 _ (told (byteSays _) (c .before .before .before .before .before .before .before .count .ensures) (c .before .before .before .before .before .variables .given .1)); blocks = count-most 1 64 _ (told (byteSays _) (c .before .before .before .count2 .ensures) (c .before .blocks2 .given .1)) };
 }
 
 pub last-counts-spec : {M : Type 1} → statement M

@@ -51,7 +51,7 @@ unfolding partsOf
 returns-3 c = record { result = step _ _ _ (row-result (c .before .before .before .before .before .before .before .before .before .before .before .before .before .row .ensures) (c .before .before .before .before .before .before .before .before .before .before .before .second .given .1) .reads) ∙ step _ _ _ (row-result (c .before .before .before .before .before .before .before .before .row2 .ensures) (c .before .before .before .before .before .before .third .given .1) .reads) ∙ stop _ _ _ (row-result (c .before .before .before .row3 .ensures) (c .before .k3 .given .1)) }
 
 returns-4 : tie.Need-returns-4
-returns-4 c = parts-end _ (c .before .before .before .before .before .before .before .before .before .before .before .before .before .before .before .before .before .before .pre .0) (c .blocks2 .ensures .size) (row-result (c .before .before .before .before .before .before .before .before .before .before .before .before .before .before .before .row .ensures) (c .before .before .before .before .before .before .before .before .before .before .before .before .before .second .given .1)) (c .before .before .before .before .before .before .before .before .before .before .row2 .ensures .kept) (row-result (c .before .before .before .before .before .before .before .before .before .before .row2 .ensures) (c .before .before .before .before .before .before .before .before .third .given .1)) (c .before .before .before .before .before .row3 .ensures .kept) (row-result (c .before .before .before .before .before .row3 .ensures) (c .before .before .before .last .given .1)) (c .blocks2 .ensures .kept) _ refl (c .blocks2 .result) (c .blocks2 .ensures .result)
+returns-4 c = parts-end _ (c .before .before .before .before .before .before .before .before .before .before .before .before .before .before .before .before .before .before .pre .0) (c .blocks2 .ensures .size) (c .before .before .before .before .before .before .before .before .before .before .before .before .before .before .before .before .before .before .pre .2) (row-result (c .before .before .before .before .before .before .before .before .before .before .before .before .before .before .before .row .ensures) (c .before .before .before .before .before .before .before .before .before .before .before .before .before .second .given .1)) (c .before .before .before .before .before .before .before .before .before .before .row2 .ensures .kept) (row-result (c .before .before .before .before .before .before .before .before .before .before .row2 .ensures) (c .before .before .before .before .before .before .before .before .third .given .1)) (c .before .before .before .before .before .row3 .ensures .kept) (row-result (c .before .before .before .before .before .row3 .ensures) (c .before .before .before .last .given .1)) (c .blocks2 .ensures .kept) _ refl (c .blocks2 .result) (c .blocks2 .ensures .result)
 
 pub parts-spec : {M : Type 1} → statement M
 parts-spec =

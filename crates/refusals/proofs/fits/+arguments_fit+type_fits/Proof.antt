@@ -15,7 +15,7 @@ use Rattle.refusals.proofs.fits.type_fits.Kinds as type-fits-kinds
 use Rattle.refusals.proofs.fits.+arguments_fit+type_fits.Lts-type_fits as type-fits-lts
 use Rattle.refusals.proofs.fits.argument_fits.Reads as argument-fits-reads
 use Rattle.refusals.proofs.fits.bound_fits.Reads as bound-fits-reads
-use Rattle.refusals.proofs.fits.params_of.Reads as params-of-reads
+use Rattle.record.proofs.access.struct_decl_at.Reads as struct-decl-at-reads
 use Rattle.refusals.proofs.fits.region_fits.Reads as region-fits-reads
 use Rattle.refusals.proofs.fits.same_kind.Reads as same-kind-reads
 use Rattle.repr.proofs.Cursor.argument.Reads as argument-reads
@@ -53,7 +53,7 @@ abbrev arguments-fit-calls : ℕ → arguments-fit-lts.Claims
 arguments-fit-calls t = (parameter-reads.Asked, parameter-reads.Learnt, argument-reads.Asked, argument-reads.Learnt, argument-fits-reads.Asked, argument-fits-reads.Learnt, arguments-fit-below t, arguments-fit.Post, same-kind-reads.Asked, same-kind-reads.Learnt, type-fits-below t, type-fits.Post)
 
 abbrev type-fits-calls : ℕ → type-fits-lts.Claims
-type-fits-calls t = (type-node-reads.Asked, type-node-reads.Learnt, bound-fits-reads.Asked, bound-fits-reads.Learnt, region-fits-reads.Asked, region-fits-reads.Learnt, type-fits-below t, type-fits.Post, params-of-reads.Asked, params-of-reads.Learnt, arguments-fit-below t, arguments-fit.Post)
+type-fits-calls t = (type-node-reads.Asked, type-node-reads.Learnt, bound-fits-reads.Asked, bound-fits-reads.Learnt, region-fits-reads.Asked, region-fits-reads.Learnt, type-fits-below t, type-fits.Post, struct-decl-at-reads.Asked, struct-decl-at-reads.Learnt, arguments-fit-below t, arguments-fit.Post)
 
 arguments-fit-returns : (t : ℕ) → arguments-fit-lts.Need-returns (arguments-fit-calls t) (arguments-fit-at t) arguments-fit.Post
 arguments-fit-returns t c = laws.fit-arguments-none _ (c .if1 .taken)
@@ -166,11 +166,11 @@ type-fits-type-fits-requires t c κs = (omega arith, c .before .before .before .
 type-fits-enum-known-name : (t : ℕ) → type-fits-lts.Need-enum-known-name (type-fits-calls t) (type-fits-at t) type-fits.Post
 type-fits-enum-known-name t c = search needs
 
-type-fits-params-of-requires : (t : ℕ) → type-fits-lts.Need-params-of-requires (type-fits-calls t) (type-fits-at t) type-fits.Post
-type-fits-params-of-requires t c κs = search needs
+type-fits-struct-decl-at-requires : (t : ℕ) → type-fits-lts.Need-struct-decl-at-requires (type-fits-calls t) (type-fits-at t) type-fits.Post
+type-fits-struct-decl-at-requires t c κs = search needs
 
 type-fits-returns-4 : (t : ℕ) → type-fits-lts.Need-returns-4 (type-fits-calls t) (type-fits-at t) type-fits.Post
-type-fits-returns-4 t c = laws.count-unfit (c .before .before .before .before .before .before .type-node .ensures) (c .before .before .before .before .name .given .1) (c .before .before .params-of .ensures) (c .if4 .taken)
+type-fits-returns-4 t c = laws.count-unfit (c .before .before .before .before .before .before .type-node .ensures) (c .before .before .before .before .name .given .1) (c .before .before .struct-decl-at .ensures) (c .if4 .taken)
 
 type-fits-arguments-fit-requires : (t : ℕ) → type-fits-lts.Need-arguments-fit-requires (type-fits-calls t) (type-fits-at t) type-fits.Post
 type-fits-arguments-fit-requires t c κs = (omega arith, c .before .before .before .before .before .before .before .before .before .before .pre .1)
@@ -188,7 +188,7 @@ type-fits-returns-8 : (t : ℕ) → type-fits-lts.Need-returns-8 (type-fits-call
 type-fits-returns-8 t c = laws.fit-ref (c .before .before .before .before .before .before .type-node .ensures) (c .before .before .before .before .region .given .1) (c .before .before .region-fits .ensures) (not-false _ (c .before .if3 .left)) (c .before .before .before .before .before .before .before .if1 .left) (c .type-fits .ensures)
 
 type-fits-returns-9 : (t : ℕ) → type-fits-lts.Need-returns-9 (type-fits-calls t) (type-fits-at t) type-fits.Post
-type-fits-returns-9 t c = laws.fit-struct (c .before .before .before .before .before .before .before .before .type-node .ensures) (c .before .before .before .before .before .before .name .given .1) (c .before .before .before .before .params-of .ensures) (c .before .before .if4 .left) (c .before .before .before .before .before .before .before .before .before .if1 .left) (c .arguments-fit .ensures)
+type-fits-returns-9 t c = laws.fit-struct (c .before .before .before .before .before .before .before .before .type-node .ensures) (c .before .before .before .before .before .before .name .given .1) (c .before .before .before .before .struct-decl-at .ensures) (c .before .before .if4 .left) (c .before .before .before .before .before .before .before .before .before .if1 .left) (c .arguments-fit .ensures)
 
 pub +arguments-fit+type-fits-spec : {M : Type 1} → statement M
 +arguments-fit+type-fits-spec = close μ-arguments-fit μ-type-fits (λ t. arguments-fit-lts.spec (arguments-fit-calls t)
@@ -234,7 +234,7 @@ pub +arguments-fit+type-fits-spec : {M : Type 1} → statement M
     (type-fits-returns-3 t)
     (type-fits-type-fits-requires t)
     (type-fits-enum-known-name t)
-    (type-fits-params-of-requires t)
+    (type-fits-struct-decl-at-requires t)
     (type-fits-returns-4 t)
     (type-fits-arguments-fit-requires t)
     (type-fits-returns-5 t)

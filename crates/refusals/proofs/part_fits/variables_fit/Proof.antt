@@ -5,36 +5,30 @@ use native.Mathlib.Omega.{arith}
 use borrow.Author.Tests.{not-true, not-false}
 use Rattle.nll_spec.specs.Syntax.{Job}
 use Rattle.record.specs.Layout.{Layout}
-use Rattle.refusals.proofs.RowLaws.{Testing, testing-start, testing-end, testing-fails, testing-more, variables-row}
+use Rattle.refusals.proofs.RowLaws.{Testing, testing-start, testing-end, testing-fails, testing-more, variables-row, row-item}
 use mathlib.Core.List.{[]}
 use Rattle.nll_spec.specs.WellFormed.{typeFits, variablesFit}
 use Rattle.refusals.proofs.part_fits.variables_fit.Statement.{statement}
 use Rattle.refusals.proofs.part_fits.variables_fit.Tie as tie
 
 abbrev Inv-loop : tie.InvT-loop
-Inv-loop s layout head many i₀ i = (j : Job) → Layout s layout head j → Testing (typeFits (j .structs) []) (j .variables) i
+Inv-loop s layout head i₀ i = (j : Job) → Layout s layout head j → Testing (typeFits (j .structs) []) (j .variables) i
 
 abbrev μ-loop : tie.MeasureT-loop
-μ-loop s layout head many i₀ i = many - i
-
-wide-requires : tie.Need-wide-requires Inv-loop μ-loop
-wide-requires c κs = search needs
+μ-loop s layout head i₀ i = head .variables - i
 
 loop-holds : tie.Need-loop-holds Inv-loop μ-loop
 loop-holds c = λ j w. testing-start _ _
 
-add-entry : tie.Need-add-entry Inv-loop μ-loop
-add-entry c = search needs
-
-entry-requires : tie.Need-entry-requires Inv-loop μ-loop
-entry-requires c κs = search needs
+variable-at-requires : tie.Need-variable-at-requires Inv-loop μ-loop
+variable-at-requires c κs = search needs
 
 variable-fits-requires : tie.Need-variable-fits-requires Inv-loop μ-loop
 variable-fits-requires c κs = search needs
 
 returns : tie.Need-returns Inv-loop μ-loop
 unfolding variablesFit
-returns c = λ j w. testing-fails (variables-row w) (c .before .before .before .before .loop .inv j w) (omega arith) (c .before .before .entry .ensures) (c .before .variable-fits .ensures j w) (not-true _ (c .if1 .taken))
+returns c = λ j w. testing-fails (w .variableCount) (c .before .before .before .before .before .loop .inv j w) (omega arith) (row-item (variables-row w) (omega arith) (c .before .before .variable-at .ensures) (c .before .variable-fits .ensures j w)) (not-true _ (c .if2 .taken))
 
 add-i : tie.Need-add-i Inv-loop μ-loop
 add-i c = search needs
@@ -43,11 +37,11 @@ loop-less : tie.Need-loop-less Inv-loop μ-loop
 loop-less c = search needs
 
 loop-again : tie.Need-loop-again Inv-loop μ-loop
-loop-again c = λ j w. testing-more (variables-row w) (c .before .before .before .before .loop .inv j w) (omega arith) (c .before .before .entry .ensures) (c .before .variable-fits .ensures j w) (not-false _ (c .if1 .left))
+loop-again c = λ j w. testing-more (w .variableCount) (c .before .before .before .before .before .loop .inv j w) (omega arith) (row-item (variables-row w) (omega arith) (c .before .before .variable-at .ensures) (c .before .variable-fits .ensures j w)) (not-false _ (c .if2 .left))
 
 returns-2 : tie.Need-returns-2 Inv-loop μ-loop
 unfolding variablesFit
-returns-2 c = λ j w. testing-end (variables-row w) (c .before .loop .inv j w) (omega arith)
+returns-2 c = λ j w. testing-end (w .variableCount) (c .before .before .loop .inv j w) (omega arith)
 
 pub variables-fit-spec : {M : Type 1} → statement M
 variables-fit-spec =
@@ -55,10 +49,8 @@ variables-fit-spec =
     (tie.spec
     Inv-loop
     μ-loop
-    wide-requires
     loop-holds
-    add-entry
-    entry-requires
+    variable-at-requires
     variable-fits-requires
     returns
     add-i

@@ -5,36 +5,30 @@ use native.Mathlib.Omega.{arith}
 use borrow.Author.Tests.{not-true, not-false}
 use Rattle.nll_spec.specs.Syntax.{Job}
 use Rattle.record.specs.Layout.{Layout}
-use Rattle.refusals.proofs.RowLaws.{Testing, testing-start, testing-end, testing-fails, testing-more, structs-row, sized}
+use Rattle.refusals.proofs.RowLaws.{Testing, testing-start, testing-end, testing-fails, testing-more, sized}
 use Rattle.nll_spec.specs.WellFormed.{structsNamed}
 use Rattle.refusals.specs.Tests.{structNamed}
 use Rattle.refusals.proofs.parts.structs_named.Statement.{statement}
 use Rattle.refusals.proofs.parts.structs_named.Tie as tie
 
 abbrev Inv-loop : tie.InvT-loop
-Inv-loop s layout head many i₀ i = (j : Job) → Layout s layout head j → Testing (structNamed j) (j .structs) i
+Inv-loop s layout head i₀ i = (j : Job) → Layout s layout head j → Testing (structNamed j) (j .structs) i
 
 abbrev μ-loop : tie.MeasureT-loop
-μ-loop s layout head many i₀ i = many - i
-
-wide-requires : tie.Need-wide-requires Inv-loop μ-loop
-wide-requires c κs = search needs
+μ-loop s layout head i₀ i = head .structs - i
 
 loop-holds : tie.Need-loop-holds Inv-loop μ-loop
 loop-holds c = λ j w. testing-start _ _
 
-add-entry : tie.Need-add-entry Inv-loop μ-loop
-add-entry c = search needs
-
-entry-requires : tie.Need-entry-requires Inv-loop μ-loop
-entry-requires c κs = search needs
+struct-decl-at-requires : tie.Need-struct-decl-at-requires Inv-loop μ-loop
+struct-decl-at-requires c κs = search needs
 
 struct-named-requires : tie.Need-struct-named-requires Inv-loop μ-loop
 struct-named-requires c κs = search needs
 
 returns : tie.Need-returns Inv-loop μ-loop
 unfolding structsNamed
-returns c = λ j w. testing-fails (structs-row w) (c .before .before .before .before .loop .inv j w) (omega arith) (c .before .before .entry .ensures) (c .before .struct-named .ensures j (sized w)) (not-true _ (c .if1 .taken))
+returns c = λ j w. testing-fails (w .structCount) (c .before .before .before .before .before .loop .inv j w) (omega arith) (record { says = c .before .struct-named .ensures j _ (sized w) (c .before .before .struct-decl-at .ensures j w) }) (not-true _ (c .if2 .taken))
 
 add-i : tie.Need-add-i Inv-loop μ-loop
 add-i c = search needs
@@ -43,11 +37,11 @@ loop-less : tie.Need-loop-less Inv-loop μ-loop
 loop-less c = search needs
 
 loop-again : tie.Need-loop-again Inv-loop μ-loop
-loop-again c = λ j w. testing-more (structs-row w) (c .before .before .before .before .loop .inv j w) (omega arith) (c .before .before .entry .ensures) (c .before .struct-named .ensures j (sized w)) (not-false _ (c .if1 .left))
+loop-again c = λ j w. testing-more (w .structCount) (c .before .before .before .before .before .loop .inv j w) (omega arith) (record { says = c .before .struct-named .ensures j _ (sized w) (c .before .before .struct-decl-at .ensures j w) }) (not-false _ (c .if2 .left))
 
 returns-2 : tie.Need-returns-2 Inv-loop μ-loop
 unfolding structsNamed
-returns-2 c = λ j w. testing-end (structs-row w) (c .before .loop .inv j w) (omega arith)
+returns-2 c = λ j w. testing-end (w .structCount) (c .before .before .loop .inv j w) (omega arith)
 
 pub structs-named-spec : {M : Type 1} → statement M
 structs-named-spec =
@@ -55,10 +49,8 @@ structs-named-spec =
     (tie.spec
     Inv-loop
     μ-loop
-    wide-requires
     loop-holds
-    add-entry
-    entry-requires
+    struct-decl-at-requires
     struct-named-requires
     returns
     add-i

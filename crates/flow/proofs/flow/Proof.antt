@@ -1,0 +1,41 @@
+-- `flow::flow`. The loop's invariant: the sets came about by edges. The measure is the number of 0 bits. Assumes nothing.
+use borrow.Author.Tests.{not-true, not-false}
+use mathlib.Core.Path.{_∙_}
+use Rattle.bit_set.specs.Missing.{missing}
+use Rattle.flow.specs.Running.{Since, Rows}
+use Rattle.flow.proofs.FlowLaws.{rounds-none, rounds-more, rounds-less, rounds-all, flows-none}
+use Rattle.flow.proofs.flow.Statement.{statement}
+use Rattle.flow.proofs.flow.Tie as tie
+
+abbrev Inv-loop : tie.InvT-loop
+Inv-loop sets₀ pass first succ code direction sets = Since (Rows direction code first succ code) pass sets₀ sets
+
+abbrev μ-loop : tie.MeasureT-loop
+μ-loop sets₀ pass first succ code direction sets = missing sets
+
+returns : tie.Need-returns Inv-loop μ-loop
+returns c = let a = c .before .args in (c .before .pre, flows-none (a .direction) (a .code) (a .first .now) (a .succ .now) (a .pass .now) (a .sets .now) (c .if1 .taken))
+
+loop-holds : tie.Need-loop-holds Inv-loop μ-loop
+loop-holds c = let a = c .before .args in rounds-none (a .direction) (a .code) (a .first .now) (a .succ .now) (a .pass .now) (a .sets .now)
+
+round-requires : tie.Need-round-requires Inv-loop μ-loop
+round-requires c κs = (c .before .before .if1 .left, c .before .loop .inv .as-long ∙ c .before .before .before .pre)
+
+returns-2 : tie.Need-returns-2 Inv-loop μ-loop
+returns-2 c = let a = c .before .before .before .before .before .args in
+    let s = c .before .before .before .loop .inv in (
+      c .before .round .ensures .since .as-long ∙ s .as-long ∙ c .before .before .before .before .before .pre,
+      rounds-all (a .direction) (a .code) (a .first .now) (a .succ .now) (a .pass .now) (a .sets .now) s (c .before .round .ensures) (not-true _ (c .if2 .taken)) (c .before .before .before .before .before .pre),
+    )
+
+loop-less : tie.Need-loop-less Inv-loop μ-loop
+loop-less c = let a = c .before .before .before .before .before .args in rounds-less (a .direction) (a .code) (a .first .now) (a .succ .now) (a .pass .now) (a .sets .now) (c .before .before .before .loop .inv) (c .before .round .ensures) (not-false _ (c .if2 .left))
+
+loop-again : tie.Need-loop-again Inv-loop μ-loop
+loop-again c = let a = c .before .before .before .before .before .args in rounds-more (a .direction) (a .code) (a .first .now) (a .succ .now) (a .pass .now) (a .sets .now) (c .before .before .before .loop .inv) (c .before .round .ensures)
+
+pub flow-spec : {M : Type 1} → statement M
+flow-spec =
+    tie.close
+    (tie.spec Inv-loop μ-loop returns loop-holds round-requires returns-2 loop-less loop-again)

@@ -1,0 +1,166 @@
+// Least sets of numbers along the edges of a graph, in four words a point: number b of point p is bit b of the words from 4 * p on.
+// The points that follow point p are succ[first[p]..first[p + 1]].
+ghost use mathlib.Core.Path.{_≡_};
+ghost use Prim.Native.Nat.{_<_, _≤_};
+ghost use lib.ListN.{length};
+ghost use Rattle.nll_spec.specs.Graph.{Graph};
+ghost use Rattle.graph.specs.Tables.{Edges};
+ghost use Rattle.flow.specs.Flows.{FlowSays};
+ghost use Rattle.flow.specs.Running.{Mixed, Ran, One, Lanes, Turned, upTo, Row, nth, Rows};
+
+// Whether numbers go from a point to those that follow it, or to those that it follows.
+pub enum Direction {
+    Forward,
+    Backward,
+}
+
+fn wide(x: u16) -> usize
+    ensures { λ r. ⌜ r ≡ x ⌝ }
+{
+    x as usize
+}
+
+// e, or the size of the table of successors where that is less.
+fn up_to(e: u16) -> usize
+    ensures { λ r. ⌜ (r ≡ upTo e) × (r ≤ 1536) ⌝ }
+{
+    let k = wide(e);
+    if k < 1536 {
+        return k;
+    }
+    1536
+}
+
+// A word with the bits of another one that may pass.
+fn mixed(old: u32, from: u32, pass: u32) -> u32
+    ensures { λ r. ⌜ Mixed old from pass r ⌝ }
+{
+    old | (from & pass)
+}
+
+// Puts what word v has and word w lets pass into word w, and says whether that changed it.
+fn word(sets: &mut [u32; 4096], pass: &[u32; 4096], v: usize, w: usize) -> bool
+    requires { ⌜ (v < 4096) × (w < 4096) × (length (now sets) ≡ 4096) ⌝ }
+    ensures { λ r. ⌜ Ran (One v w) (now (pass .entry)) (now (sets .entry)) (now (sets .exit)) r ⌝ }
+{
+    let old = sets[w];
+    let new = mixed(old, sets[v], pass[w]);
+    sets[w] = new;
+    old != new
+}
+
+// The same for the sets of the points p and q.
+fn edge(sets: &mut [u32; 4096], pass: &[u32; 4096], p: usize, q: usize) -> bool
+    requires { ⌜ (p < 1024) × (q < 1024) × (length (now sets) ≡ 4096) ⌝ }
+    ensures { λ r. ⌜ Ran (Lanes 4 p q) (now (pass .entry)) (now (sets .entry)) (now (sets .exit)) r ⌝ }
+{
+    let mut changed = false;
+    let mut k = 0;
+    while k < 4 {
+        changed = word(sets, pass, 4 * p + k, 4 * q + k) | changed;
+        k += 1;
+    }
+    changed
+}
+
+// The same for p and the point s that follows it, in the direction. A number that is no point of a block is passed by.
+fn turned(
+    sets: &mut [u32; 4096],
+    pass: &[u32; 4096],
+    code: usize,
+    p: usize,
+    s: u16,
+    direction: Direction,
+) -> bool
+    requires { ⌜ (code ≤ 1024) × (p < code) × (length (now sets) ≡ 4096) ⌝ }
+    ensures { λ r. ⌜ Ran (Turned direction code p s) (now (pass .entry)) (now (sets .entry)) (now (sets .exit)) r ⌝ }
+{
+    let q = wide(s);
+    if code <= q {
+        return false;
+    }
+    match direction {
+        Direction::Forward => edge(sets, pass, p, q),
+        Direction::Backward => edge(sets, pass, q, p),
+    }
+}
+
+// The same for p and each point that follows it.
+fn row(
+    sets: &mut [u32; 4096],
+    pass: &[u32; 4096],
+    first: &[u16; 1025],
+    succ: &[u16; 1536],
+    code: usize,
+    p: usize,
+    direction: Direction,
+) -> bool
+    requires { ⌜ (code ≤ 1024) × (p < code) × (length (now sets) ≡ 4096) ⌝ }
+    ensures { λ r. ⌜ Ran (Row direction code (now (first .entry)) (now (succ .entry)) p) (now (pass .entry)) (now (sets .entry)) (now (sets .exit)) r ⌝ }
+{
+    let start = wide(first[p]);
+    let end = up_to(first[p + 1]);
+    let mut changed = false;
+    let mut k = start;
+    while k < end {
+        changed = turned(sets, pass, code, p, succ[k], direction) | changed;
+        k += 1;
+    }
+    changed
+}
+
+// Point number i of a round, which goes down where numbers go backward.
+fn point(code: usize, i: usize, direction: Direction) -> usize
+    requires { ⌜ i < code ⌝ }
+    ensures { λ r. ⌜ (r ≡ nth direction code i) × (r < code) ⌝ }
+{
+    match direction {
+        Direction::Forward => i,
+        Direction::Backward => code - 1 - i,
+    }
+}
+
+// Every edge once.
+fn round(
+    sets: &mut [u32; 4096],
+    pass: &[u32; 4096],
+    first: &[u16; 1025],
+    succ: &[u16; 1536],
+    code: usize,
+    direction: Direction,
+) -> bool
+    requires { ⌜ (code ≤ 1024) × (length (now sets) ≡ 4096) ⌝ }
+    ensures { λ r. ⌜ Ran (Rows direction code (now (first .entry)) (now (succ .entry)) code) (now (pass .entry)) (now (sets .entry)) (now (sets .exit)) r ⌝ }
+{
+    let mut changed = false;
+    let mut i = 0;
+    while i < code {
+        let p = point(code, i, direction);
+        changed = row(sets, pass, first, succ, code, p, direction) | changed;
+        i += 1;
+    }
+    changed
+}
+
+// Puts into each point's set the numbers that come to it along edges, through points that let them pass.
+pub fn flow(
+    sets: &mut [u32; 4096],
+    pass: &[u32; 4096],
+    first: &[u16; 1025],
+    succ: &[u16; 1536],
+    code: usize,
+    direction: Direction,
+)
+    requires { ⌜ length (now sets) ≡ 4096 ⌝ }
+    ensures { λ _. ⌜ (length (now (sets .exit)) ≡ 4096) × ((g : Graph) → Edges g (now (first .entry)) (now (succ .entry)) → code ≡ g .code
+        → FlowSays g direction (now (pass .entry)) (now (sets .entry)) (now (sets .exit))) ⌝ }
+{
+    if 1024 < code {
+        return;
+    }
+    loop {
+        if !round(sets, pass, first, succ, code, direction) {
+            return;
+        }
+    }
+}

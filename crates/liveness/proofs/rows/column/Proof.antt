@@ -1,0 +1,71 @@
+-- `liveness::rows::column`. The loop's invariant: the rows below v are done. Assumes nothing.
+use Prim.Native.Nat.{_-_, _≤_}
+use mathlib.Core.Path.{_∙_}
+use mathlib.Core.Logic.{⊎-elim}
+use native.Mathlib.Omega.{arith}
+use Rattle.liveness.specs.Rows.{Column}
+use Rattle.liveness.proofs.ColumnLaws.{column-none, column-held, column-out, column-all}
+use borrow.Author.Needs.{needs}
+use Rattle.liveness.proofs.rows.column.Statement.{statement}
+use Rattle.liveness.proofs.rows.column.Tie as tie
+
+abbrev Inv-loop : tie.InvT-loop
+Inv-loop sets p from many rows₀ v₀ rows v = (v ≤ many) × Column v from p sets rows₀ rows
+
+abbrev μ-loop : tie.MeasureT-loop
+μ-loop sets p from many rows₀ v₀ rows v = many - v
+
+loop-holds : tie.Need-loop-holds Inv-loop μ-loop
+loop-holds c = let a = c .args in (omega arith, column-none (a .from) (a .p) (a .sets .now) (a .rows .now) (c .pre .3))
+
+mul-test : tie.Need-mul-test Inv-loop μ-loop
+mul-test c = search needs
+
+add-test : tie.Need-add-test Inv-loop μ-loop
+add-test c = search needs
+
+test-requires : tie.Need-test-requires Inv-loop μ-loop
+test-requires c κs = search needs
+
+mul-add : tie.Need-mul-add Inv-loop μ-loop
+mul-add c = search needs
+
+add-requires : tie.Need-add-requires Inv-loop μ-loop
+add-requires c κs = search needs
+
+add-v : tie.Need-add-v Inv-loop μ-loop
+add-v c = search needs
+
+loop-less : tie.Need-loop-less Inv-loop μ-loop
+loop-less c = search needs
+
+loop-again : tie.Need-loop-again Inv-loop μ-loop
+loop-again c = let a = c .before .before .before .before .before .args in
+    let l = c .before .before .before .before .loop in
+    let t = c .before .test in (
+      omega arith,
+      ⊎-elim
+          (λ w. column-held (a .from) (a .p) (a .sets .now) (a .rows .now) (l .inv .1) (t .ensures) (w .0 .taken) (omega arith) (c .before .before .before .before .before .pre .0) (w .3 ∙ w .2 .ensures .0))
+          (λ w. column-out (a .from) (a .p) (a .sets .now) (a .rows .now) (l .inv .1) (t .ensures) (w .0 .left) (w .1))
+          (c .if1 .came),
+    )
+
+returns : tie.Need-returns Inv-loop μ-loop
+returns c = let a = c .before .before .args in column-all (a .from) (a .p) (a .sets .now) (a .rows .now) (c .before .loop .inv .1) (c .before .loop .inv .0) (omega arith)
+
+pub column-spec : {M : Type 1} → statement M
+column-spec =
+    tie.close
+    (tie.spec
+    Inv-loop
+    μ-loop
+    loop-holds
+    mul-test
+    add-test
+    test-requires
+    mul-add
+    add-requires
+    add-v
+    loop-less
+    loop-again
+    returns)

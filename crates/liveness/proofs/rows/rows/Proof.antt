@@ -1,0 +1,62 @@
+-- `liveness::rows::rows`. The loop's invariant: the points below p are done. Assumes nothing.
+use Prim.Native.Nat.{_-_, _≤_}
+use mathlib.Core.Logic.{⊎-elim}
+use native.Mathlib.Omega.{arith}
+use Rattle.liveness.specs.Rows.{Columns}
+use Rattle.liveness.proofs.ColumnLaws.{columns-none, columns-held, columns-out, columns-all}
+use borrow.Author.Needs.{needs}
+use Rattle.liveness.proofs.rows.rows.Statement.{statement}
+use Rattle.liveness.proofs.rows.rows.Tie as tie
+
+abbrev Inv-loop : tie.InvT-loop
+Inv-loop sets walked code from many rows₀ p₀ rows p = (p ≤ code) × Columns many p from walked sets rows
+
+abbrev μ-loop : tie.MeasureT-loop
+μ-loop sets walked code from many rows₀ p₀ rows p = code - p
+
+clear-requires : tie.Need-clear-requires Inv-loop μ-loop
+clear-requires c κs = search needs
+
+loop-holds : tie.Need-loop-holds Inv-loop μ-loop
+loop-holds c = let a = c .before .before .args in (omega arith, columns-none (a .many) (a .from) (c .before .before .pre .2) (a .walked .now) (a .sets .now) (a .rows .now) (c .before .before .pre .3) (c .clear .ensures))
+
+test-requires : tie.Need-test-requires Inv-loop μ-loop
+test-requires c κs = search needs
+
+column-requires : tie.Need-column-requires Inv-loop μ-loop
+column-requires c κs = (omega arith, c .before .before .before .before .before .before .before .before .pre .1, c .before .before .before .before .before .before .before .before .pre .2, c .before .before .before .before .before .loop .inv .1 .size)
+
+add-p : tie.Need-add-p Inv-loop μ-loop
+add-p c = search needs
+
+loop-less : tie.Need-loop-less Inv-loop μ-loop
+loop-less c = search needs
+
+loop-again : tie.Need-loop-again Inv-loop μ-loop
+loop-again c = let a = c .before .before .before .before .before .before .before .args in
+    let l = c .before .before .before .before .loop in
+    let t = c .before .test in (
+      omega arith,
+      ⊎-elim
+          (λ w. rw (w .3) (columns-held (a .many) (a .from) (c .before .before .before .before .before .before .before .pre .2) (a .walked .now) (a .sets .now) (l .inv .1) (t .ensures) (w .0 .taken) (w .2 .ensures)))
+          (λ w. columns-out (a .many) (a .from) (c .before .before .before .before .before .before .before .pre .2) (a .walked .now) (a .sets .now) (l .inv .1) (t .ensures) (w .0 .left) (w .1))
+          (c .if1 .came),
+    )
+
+returns : tie.Need-returns Inv-loop μ-loop
+returns c = let a = c .before .before .before .before .args in columns-all (a .many) (a .from) (c .before .before .before .before .pre .2) (a .walked .now) (a .sets .now) (c .before .loop .inv .1) (c .before .loop .inv .0) (omega arith)
+
+pub rows-spec : {M : Type 1} → statement M
+rows-spec =
+    tie.close
+    (tie.spec
+    Inv-loop
+    μ-loop
+    clear-requires
+    loop-holds
+    test-requires
+    column-requires
+    add-p
+    loop-less
+    loop-again
+    returns)

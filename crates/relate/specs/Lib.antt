@@ -1,0 +1,3 @@
+-- Two types related under a variance.
+pub mod Beside
+pub mod Relates

@@ -1,0 +1,84 @@
+-- What relating two types does: it runs the constraints of `Constraints.relate`, and tells where the types end.
+use mathlib.Core.Path.{_≡_}
+use mathlib.Core.Bool.{true}
+use mathlib.Core.List.{List}
+use Prim.Native.Nat.{ℕ, _-_, _≤_}
+use lib.ListN.{drop}
+use lib.Dec.{T}
+use Rattle.nll_spec.specs.Syntax.{BorrowKind, Variance, RegionName, Free, Ty, RefTy, Args, Param, Job}
+use Rattle.nll_spec.specs.Decode.{maxNodes, items, param}
+use Rattle.nll_spec.specs.Types.{typeNodes, argNodes}
+use Rattle.nll_spec.specs.Constraints.{Outlives, relate, relateArgs}
+use Rattle.nll_spec.specs.WellFormed.{sameShape, sameShapes}
+use Rattle.repr.specs.Reading.{rest}
+use Rattle.record.specs.Rows.{Stands}
+use Rattle.record.specs.Layout.{Layout}
+use Rattle.infer.specs.Ran.{Setting, Given, AllNamed, Ran}
+use Rattle.ty.specs.Stands.{TypeTo, ArgsTo, TypeAt}
+use Rattle.relate.specs.declared.Run.{Run}
+use Rattle.relate.specs.declared.beside.Row.{Row}
+use Rattle.relate.specs.declared.Both.{Both}
+use Rattle.relate.specs.declared.Both.the-variants as both
+
+-- The constraints cs are run, in every setting that is given and has their names.
+pub record Runs (run : Run) (first succ last : List ℕ) (cs : List Outlives) (ws grew ws′ grew′ : List ℕ) : Type 0 where
+  pub ran : (e : Setting) → Given e (run .shape) (run .rule) first succ ws grew → AllNamed e cs → Ran e last cs ws grew ws′ grew′
+
+-- ---- Two types, or two rows of arguments, of one shape
+
+-- The types m and n stand at x of a and at y of b; p and q follow them.
+pub record Types (a : List ℕ) (x : ℕ) (b : List ℕ) (y left : ℕ) (m n : Ty) (p q : List ℕ) : Type 0 where
+  pub a-stands : TypeTo (drop x a) m p
+  pub b-stands : TypeTo (drop y b) n q
+  pub a-few : typeNodes m ≤ left
+  pub b-few : typeNodes n ≤ maxNodes
+  pub alike : sameShape m n ≡ true
+
+pub record Arguments (a : List ℕ) (x : Row) (b : List ℕ) (y : Row) (left : ℕ) (g h : Args) (p q : List ℕ) : Type 0 where
+  pub a-stand : ArgsTo (rest a (x .from)) (x .count) g p
+  pub b-stand : ArgsTo (rest b (y .from)) (y .count) h q
+  pub a-few : argNodes g ≤ left
+  pub b-few : argNodes h ≤ maxNodes
+  pub alike : sameShapes g h ≡ true
+
+-- where both end, and the nodes that are left
+pub record EndAt (l left : ℕ) (of-a p of-b q : List ℕ) : Type 0 where
+  pub nodes : l ≡ left
+  pub a-ends : of-a ≡ p
+  pub b-ends : of-b ≡ q
+
+abbrev pub Ends : List ℕ → List ℕ → ℕ → List ℕ → List ℕ → Both → Type 0
+Ends a b left p q (both.Ended l c d) = EndAt l left (rest a c) p (rest b d) q
+Ends a b left p q both.Stopped = ⊥
+
+-- no more nodes are left than there were
+abbrev pub Fewer : ℕ → Both → Type 0
+Fewer left (both.Ended l c d) = l ≤ left
+Fewer left both.Stopped = Unit {0}
+
+module _ (s t : List ℕ) (run : Run) (first succ last : List ℕ) where
+  pub record TypesRelate (a : List ℕ) (x : ℕ) (b : List ℕ) (y left : ℕ) (v : Variance) (ws grew ws′ grew′ : List ℕ) (r : Both) : Type 0 where
+    pub runs : (j : Job) → Layout s t (run .head) j → (m n : Ty) (p q : List ℕ) → Types a x b y left m n p q
+        → Runs run first succ last (relate (run .at) (j .structs) m v n) ws grew ws′ grew′
+    pub ends : (m n : Ty) (p q : List ℕ) → Types a x b y left m n p q → Ends a b (left - typeNodes m) p q r
+    pub fewer : Fewer left r
+
+  pub record ArgumentsRelate (params : Row) (a : List ℕ) (x : Row) (b : List ℕ) (y : Row) (left : ℕ) (v : Variance) (ws grew ws′ grew′ : List ℕ) (r : Both) : Type 0 where
+    pub runs : (j : Job) → Layout s t (run .head) j → (ds : List Param) → Stands (items (params .count) param) ds (rest s (params .from))
+        → (g h : Args) (p q : List ℕ) → Arguments a x b y left g h p q
+        → Runs run first succ last (relateArgs (run .at) (j .structs) g v ds h) ws grew ws′ grew′
+    pub ends : (g h : Args) (p q : List ℕ) → Arguments a x b y left g h p q → Ends a b (left - argNodes g) p q r
+    pub fewer : Fewer left r
+
+  -- ---- Whole types
+
+  -- The constraints of the two types that stand there are run, if the types have one shape.
+  pub record Relates (a : List ℕ) (x : ℕ) (b : List ℕ) (y : ℕ) (v : Variance) (ws grew ws′ grew′ : List ℕ) : Type 0 where
+    pub runs : (j : Job) → Layout s t (run .head) j → (m n : Ty) → TypeAt a x m → TypeAt b y n → typeNodes m ≤ maxNodes → typeNodes n ≤ maxNodes → T (sameShape m n)
+        → Runs run first succ last (relate (run .at) (j .structs) m v n) ws grew ws′ grew′
+
+-- The same for a Ref of a region to the second.
+pub record RelatesRef (o : RegionName) (s t : List ℕ) (run : Run) (first succ last a : List ℕ) (x : ℕ) (b : List ℕ) (y : ℕ) (v : Variance) (ws grew ws′ grew′ : List ℕ) : Type 0 where
+  pub runs : (j : Job) → Layout s t (run .head) j → (m n : Ty) (k : BorrowKind) → TypeAt a x m → TypeAt b y n → typeNodes m ≤ maxNodes → typeNodes n ≤ maxNodes
+      → T (sameShape m (RefTy k (Free o) n))
+      → Runs run first succ last (relate (run .at) (j .structs) m v (RefTy k (Free o) n)) ws grew ws′ grew′

@@ -1,0 +1,6 @@
+pub mod AddLaws
+pub mod ChosenLaws
+pub mod ClosureLaws
+pub mod RowLaws
+pub mod LiveLaws
+pub mod SeedLaws

@@ -1,0 +1,81 @@
+-- What the variables give to the regions' rows. Assumes nothing.
+use mathlib.Core.Path.{_≡_, refl, sym, ap, ap₂, subst, _∙_}
+use mathlib.Core.Bool.{Bool, false, _&&_, _||_}
+use mathlib.Core.List.{List}
+use Prim.Native.Nat.{ℕ, _+_, _*_, _/_, _%_, _^_, _≤_, _<_}
+use native.Mathlib.Nat.{zero-div}
+use native.Mathlib.Omega.{arith}
+use native.Mathlib.Numerals.{add-one}
+use lib.ListN.{length, replicate, getD-replicate, length-replicate}
+use lib.Dec.{eqb, leb}
+use Rattle.nll_spec.specs.Lists.{contains}
+use Rattle.nll_spec.specs.Syntax.{Ty, UnitTy, Job}
+use Rattle.nll_spec.specs.Types.{variableType}
+use Rattle.nll_spec.specs.Decode.{type}
+use Rattle.nll_spec.specs.Output.{wordBits}
+use Rattle.repr.specs.Reading.{rest}
+use Rattle.repr.specs.declared.Cursor.{Cursor}
+use Rattle.record.specs.Rows.{Stands}
+use Rattle.record.specs.Layout.{Layout}
+use Rattle.record.specs.Access.{entryIn}
+use Rattle.record.specs.declared.Head.{Head}
+use Rattle.record.proofs.AccessLaws.{variable-at}
+use Rattle.bit_set.specs.Bits.{has}
+use Rattle.bit_set.proofs.BitLaws.{digit}
+use Rattle.seeds.specs.declared.Which.{Which}
+use Rattle.seeds.specs.declared.Which.the-variants.{Every, Dropped}
+use Rattle.seeds.specs.Chosen.{addAll, chosen}
+use Rattle.seeds.specs.Seeded.{Room, Adds, spreads, takes, anyTo, liveIn}
+use Rattle.seeds.proofs.AddLaws.{has-added}
+use Rattle.seeds.proofs.RowLaws.{adds-none, adds-same, adds-then, room-kept}
+
+-- ---- One variable
+
+-- nothing is in a set of zeros
+zeros-empty : (n i : ℕ) → i / wordBits < n → has (replicate n 0) i ≡ false
+zeros-empty n i h = ap (λ (w : ℕ). eqb (digit w (i % wordBits)) 1) (getD-replicate n (i / wordBits) 0 0 h) ∙ ap (λ (x : ℕ). eqb (x % 2) 1) (zero-div (2 ^ (i % wordBits)))
+
+pub live-adds : {s t : List ℕ} {h : Head} {w v : ℕ} (which : Which) (live names before after : List ℕ) (at : Cursor) → at .at ≡ entryIn t 32 64 v
+    → ((j : Job) (ty : Ty) → Layout s t h j → Stands type ty (rest s at) → names ≡ addAll (replicate 4 0) 0 (chosen which (j .structs) ty))
+    → (v < 64 → length live ≡ 2048 → Room h w before → Adds w (h .regions) (spreads (h .declared) names live v) before after)
+    → (j : Job) → Layout s t h j → v < length (j .variables) → length live ≡ 2048 → Room h w before → Adds w (h .regions) (takes j which live v) before after
+live-adds {s} {t} {h} {w} {v} which live names before after at e f g j l hv hl room =
+    let k = l .variableCount in
+    let m = l .variableLimit in
+    let st : Stands type (variableType j v) (rest s at) = rw e (variable-at l v UnitTy hv) in
+    let n : names ≡ addAll (replicate 4 0) 0 (chosen which (j .structs) (variableType j v)) = f j (variableType j v) l st in
+    adds-same (g (omega arith) hl room) (takes j which live v) (λ r p hr hp. turn r p n (omega (arith, l .regionLimit)) (l .declaredCount))
+  where
+    turn : (r p : ℕ) → names ≡ addAll (replicate 4 0) 0 (chosen which (j .structs) (variableType j v)) → r < 128 → length (j .outlives) ≡ h .declared → spreads (h .declared) names live v r p ≡ takes j which live v r p
+    turn r p n lr d =
+        ap₂ (λ (a : ℕ) (b : Bool). leb a r && b && has live (wordBits * (32 * v) + p)) (sym d)
+        (ap (λ (u : List ℕ). has u (wordBits * 0 + r)) n
+        ∙ has-added (replicate 4 0) 0 (chosen which (j .structs) (variableType j v)) r (rw length-replicate (omega arith))
+        ∙ ap (λ (b : Bool). b || contains (chosen which (j .structs) (variableType j v)) r) (zeros-empty 4 (wordBits * 0 + r) (omega arith)))
+
+-- ---- Every variable
+
+pub record Giving (s t : List ℕ) (h : Head) (used dropped : List ℕ) (w v : ℕ) (before ws : List ℕ) : Type 0 where
+  pub size : length ws ≡ length before
+  pub adds : (j : Job) → Layout s t h j → length used ≡ 2048 → length dropped ≡ 2048 → Room h w before → Adds w (h .regions) (λ r p. anyTo (liveIn j used dropped r p) v) before ws
+
+pub giving-start : (s t : List ℕ) (h : Head) (used dropped : List ℕ) (w : ℕ) (ws : List ℕ) → Giving s t h used dropped w 0 ws ws
+giving-start s t h used dropped w ws = record { size = refl; adds = λ j l hu hd room. adds-none w (h .regions) _ ws (λ r p hr hp. refl) }
+
+module _ {s t : List ℕ} {h : Head} {used dropped : List ℕ} {w v : ℕ} {before ws : List ℕ} (x : Giving s t h used dropped w v before ws) where
+  pub giving-more : {us vs : List ℕ} → v < h .variables → length us ≡ length ws → length vs ≡ length us
+      → ((j : Job) → Layout s t h j → v < length (j .variables) → length used ≡ 2048 → Room h w ws → Adds w (h .regions) (takes j Every used v) ws us)
+      → ((j : Job) → Layout s t h j → v < length (j .variables) → length dropped ≡ 2048 → Room h w us → Adds w (h .regions) (takes j Dropped dropped v) us vs)
+      → Giving s t h used dropped w (v + 1) before vs
+  giving-more hv eu ev f g = record {
+    size = ev ∙ eu ∙ x .size;
+    adds = λ j l hu hd room.
+        let k = l .variableCount in
+        let rw₁ = room-kept (x .size) room in
+        adds-same (adds-then (x .adds j l hu hd room) (adds-then (f j l (omega arith) hu rw₁) (g j l (omega arith) hd (room-kept eu rw₁))))
+        (λ r p. anyTo (liveIn j used dropped r p) (v + 1)) (λ r p hr hp. sym (ap (anyTo (liveIn j used dropped r p)) (add-one v)));
+  }
+
+  pub giving-end : h .variables ≤ v → v ≤ h .variables → (j : Job) → Layout s t h j → length used ≡ 2048 → length dropped ≡ 2048 → Room h w before
+      → Adds w (h .regions) (λ r p. anyTo (liveIn j used dropped r p) (h .variables)) before ws
+  giving-end a b j l hu hd room = let e : v ≡ h .variables = omega arith in subst (λ (z : ℕ). Adds w (h .regions) (λ r p. anyTo (liveIn j used dropped r p) z) before ws) e (x .adds j l hu hd room)

@@ -1,0 +1,47 @@
+-- `well_formed::refusal` meets its contract. Assumes nothing.
+use borrow.Author.Tests.{not-true, not-false}
+use Rattle.well_formed.proofs.JudgeLaws.{refused-6, refused-7, refused-8, refused-9, not-refused}
+use borrow.Author.Needs.{needs}
+use Rattle.well_formed.proofs.refusal.Statement.{statement}
+use Rattle.well_formed.proofs.refusal.Tie as tie
+
+named-requires : tie.Need-named-requires
+named-requires c κs = search needs
+
+returns : tie.Need-returns
+returns c = λ j w. refused-6 j (c .before .named .ensures j w) (not-true _ (c .if1 .taken))
+
+types-fit-requires : tie.Need-types-fit-requires
+types-fit-requires c κs = search needs
+
+returns-2 : tie.Need-returns-2
+returns-2 c = λ j w. refused-7 j (c .before .before .before .named .ensures j w) (not-false _ (c .before .before .if1 .left)) (c .before .types-fit .ensures j w) (not-true _ (c .if2 .taken))
+
+paths-fit-requires : tie.Need-paths-fit-requires
+paths-fit-requires c κs = search needs
+
+returns-3 : tie.Need-returns-3
+returns-3 c = λ j w. refused-8 j (c .before .before .before .before .before .named .ensures j w) (not-false _ (c .before .before .before .before .if1 .left)) (c .before .before .before .types-fit .ensures j w) (not-false _ (c .before .before .if2 .left)) (c .before .paths-fit .ensures j w) (not-true _ (c .if3 .taken))
+
+shapes-fit-requires : tie.Need-shapes-fit-requires
+shapes-fit-requires c κs = search needs
+
+returns-4 : tie.Need-returns-4
+returns-4 c = λ j w. refused-9 j (c .before .before .before .before .before .before .before .named .ensures j w) (not-false _ (c .before .before .before .before .before .before .if1 .left)) (c .before .before .before .before .before .types-fit .ensures j w) (not-false _ (c .before .before .before .before .if2 .left)) (c .before .before .before .paths-fit .ensures j w) (not-false _ (c .before .before .if3 .left)) (c .before .shapes-fit .ensures j w) (not-true _ (c .if4 .taken))
+
+returns-5 : tie.Need-returns-5
+returns-5 c = λ j w. not-refused j (c .before .before .before .before .before .before .before .named .ensures j w) (not-false _ (c .before .before .before .before .before .before .if1 .left)) (c .before .before .before .before .before .types-fit .ensures j w) (not-false _ (c .before .before .before .before .if2 .left)) (c .before .before .before .paths-fit .ensures j w) (not-false _ (c .before .before .if3 .left)) (c .before .shapes-fit .ensures j w) (not-false _ (c .if4 .left))
+
+pub refusal-spec : {M : Type 1} → statement M
+refusal-spec =
+    tie.close
+    (tie.spec
+    named-requires
+    returns
+    types-fit-requires
+    returns-2
+    paths-fit-requires
+    returns-3
+    shapes-fit-requires
+    returns-4
+    returns-5)
