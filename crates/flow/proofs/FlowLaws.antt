@@ -51,7 +51,7 @@ up-to-is e l = go (decLt e 1536)
     go (no k) = let q : 1536 ≡ e = omega (arith, k) in rw (le-ltb e 1536 (omega arith)) q
 
 -- the tables say that q follows p
-abbrev Entry : List ℕ → List ℕ → Point → Point → Type 0
+abbrev pub Entry : List ℕ → List ℕ → Point → Point → Type 0
 Entry first succ p q = (k : ℕ) × (rowStart first p ≤ k) × (k < upTo (rowEnd first p)) × (getD succ k 0 ≡ q)
 
 module _ (g : Graph) (first succ : List ℕ) (t : Edges g first succ) where
@@ -63,7 +63,7 @@ module _ (g : Graph) (first succ : List ℕ) (t : Edges g first succ) where
       ap (λ (xs : List ℕ). getD xs k 0) (sym (t .next p l)) ∙ getD-drop (rowStart first p) (take (rowEnd first p) succ) k 0
       ∙ getD-take (rowEnd first p) succ (rowStart first p + k) 0 (omega arith)
 
-  entry-next : (p q : Point) → p < g .code → Entry first succ p q → Next g p q
+  pub entry-next : (p q : Point) → p < g .code → Entry first succ p q → Next g p q
   entry-next p q l e =
       let lo : rowStart first p ≤ e .0 = e .1 in
       let hi : e .0 < rowEnd first p = rw (up-to-is (rowEnd first p) (t .ends p l)) at (e .2) in
@@ -72,7 +72,7 @@ module _ (g : Graph) (first succ : List ℕ) (t : Edges g first succ) where
       subst (λ (x : ℕ). T (contains (nextOf g p) x)) (after-at p (e .0 - rowStart first p) l k ∙ ap (λ (x : ℕ). getD succ x 0) i ∙ e .3)
       (at-contains (nextOf g p) (e .0 - rowStart first p) (rw (length-after p l) k))
 
-  next-entry : (p q : Point) → p < g .code → Next g p q → Entry first succ p q
+  pub next-entry : (p q : Point) → p < g .code → Next g p q → Entry first succ p q
   next-entry p q l n =
       let w = contains-at (nextOf g p) q n in
       let k : w .0 < rowEnd first p - rowStart first p = rw (length-after p l) at (w .1) in

@@ -29,12 +29,12 @@ and-01 (suc zero) (suc zero) hx hy = refl
 and-01 (suc zero) (suc (suc y)) hx hy = absurd (omega arith)
 and-01 (suc (suc x)) y hx hy = absurd (omega arith)
 
-digit-and : (a b i : ℕ) → eqb (digit (bitAnd a b) i) 1 ≡ (eqb (digit a i) 1 && eqb (digit b i) 1)
+pub digit-and : (a b i : ℕ) → eqb (digit (bitAnd a b) i) 1 ≡ (eqb (digit a i) 1 && eqb (digit b i) 1)
 digit-and a b i =
     ap (λ (x : ℕ). eqb (x % 2) 1) (and-shr a b i) ∙ ap (λ (x : ℕ). eqb x 1) (and-mod (a / 2 ^ i) (b / 2 ^ i) 1)
     ∙ and-01 (digit a i) (digit b i) (digit-lt a i) (digit-lt b i)
 
-has-word : (ws : List ℕ) (w b : ℕ) → b < wordBits → has ws (wordBits * w + b) ≡ eqb (digit (getD ws w 0) b) 1
+pub has-word : (ws : List ℕ) (w b : ℕ) → b < wordBits → has ws (wordBits * w + b) ≡ eqb (digit (getD ws w 0) b) 1
 has-word ws w b l =
     let d : (wordBits * w + b) / wordBits ≡ w = omega arith in
     let m : (wordBits * w + b) % wordBits ≡ b = omega arith in

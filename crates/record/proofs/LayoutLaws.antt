@@ -140,7 +140,6 @@ pub job-refused : {s t : List ℕ} (bs : List ℕ) {k : ℕ} → job bs ≡ refu
 unfolding whole
 job-refused bs e = record { says = ap whole e }
 
-
 module _ {n : Counts} {s : List ℕ} {from : ℕ} {t : List ℕ} (next : Cursor) {points loans : ℕ} (p : Parts n s from (next .at) points loans t) where
   points-are : pointCount (p .job) ≡ points + n .declared
   unfolding pointCount

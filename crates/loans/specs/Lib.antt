@@ -1,0 +1,3 @@
+-- The table of loans.
+pub mod Table
+pub mod Loans

@@ -1,0 +1,4 @@
+pub mod PathLaws
+pub mod GainsLaws
+pub mod LoanLaws
+pub mod ScopeLaws

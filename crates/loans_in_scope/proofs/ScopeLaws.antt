@@ -1,0 +1,157 @@
+-- The tables, the flow and the last step give the loans in scope. Assumes nothing.
+use mathlib.Core.Path.{_≡_, refl, sym, ap, ap₂, _∙_, subst}
+use mathlib.Core.Logic.{_⊎_, inl, inr}
+use mathlib.Core.Bool.{Bool, true, false, not, _&&_, true≢false}
+use mathlib.Core.List.{List}
+use Prim.Native.Nat.{ℕ, zero, suc, _+_, _*_, _/_, _%_, _^_, _<_}
+use native.Mathlib.Nat.{zero-div}
+use native.Mathlib.Omega.{arith}
+use lib.ListN.{length, getD, replicate, length-replicate}
+use lib.Dec.{T, eqb}
+use Rattle.nll_spec.specs.Fixpoint.{Table, holds}
+use Rattle.nll_spec.specs.Syntax.{Job, Point}
+use Rattle.nll_spec.specs.Graph.{Graph, graphOf, actionAt}
+use Rattle.nll_spec.specs.Loans.{loansOf, loanNumber, kills, overwritten, scopeTable}
+use Rattle.nll_spec.specs.Loans as loans
+use Rattle.nll_spec.specs.Output.{wordBits}
+use Rattle.nll_spec.specs.Meaning.{Next}
+use Rattle.nll_spec.proofs.Tests.{is-true}
+use Rattle.nll_spec.proofs.GraphLaws.{code-count}
+use Rattle.bit_set.specs.Bits.{has, cleared}
+use Rattle.bit_set.proofs.BitLaws.{digit}
+use Rattle.bit_set.proofs.RunLaws.{and-true-left, and-true-right}
+use Rattle.bit_set.proofs.SetLaws.{length-cleared, has-cleared}
+use Rattle.record.specs.declared.Head.{Head}
+use Rattle.graph.specs.Tables.{Edges}
+use Rattle.flow.specs.Flows.{bitAt, FlowSays}
+use Rattle.flow.specs.declared.Direction.the-variants.{Forward}
+use Rattle.flow.proofs.RunningLaws.{has-word}
+use Rattle.flow.proofs.FlowLaws.{entry-next, next-entry}
+use Rattle.loans_in_scope.specs.Gains.{Gains, tables, Sized, Filled, Below, Rows, Masked}
+use Rattle.loans_in_scope.specs.Scope.{killed, jobBits, Given, PointsFilled, ScopeSays}
+use Rattle.loans_in_scope.proofs.GainsLaws.{masked-has}
+use Rattle.loans_in_scope.proofs.LoanLaws.{successors-of}
+use Rattle.loans_in_scope.proofs.PathLaws.{scope-to, to-scope, scope-same}
+
+-- ---- Sets that were empty
+
+abbrev zeros : List ℕ
+zeros = replicate 4096 0
+
+no-word : (n k : ℕ) → getD {A = ℕ} (replicate n 0) k 0 ≡ 0
+no-word zero k = refl
+no-word (suc n) zero = refl
+no-word (suc n) (suc k) = no-word n k
+
+no-bit : (p i : ℕ) → i < 128 → has zeros (bitAt p i) ≡ true → ⊥
+no-bit p i l e =
+    let z : wordBits * (4 * p + i / wordBits) + i % wordBits ≡ bitAt p i = omega arith in
+    true≢false (sym e ∙ ap (has zeros) (sym z) ∙ has-word zeros (4 * p + i / wordBits) (i % wordBits) (omega arith) ∙ ap (λ (x : ℕ). eqb (digit x (i % wordBits)) 1) (no-word 4096 (4 * p + i / wordBits)) ∙ zero-digit (i % wordBits))
+  where
+    zero-digit : (b : ℕ) → eqb (digit 0 b) 1 ≡ false
+    zero-digit b = ap (λ (x : ℕ). eqb (x % 2) 1) (zero-div (2 ^ b))
+
+pub sized-zeros : Sized (tables zeros zeros zeros)
+sized-zeros = record { start = length-replicate {A = ℕ} 4096 0; pass = length-replicate {A = ℕ} 4096 0; region = length-replicate {A = ℕ} 4096 0 }
+
+pub cleared-size : (ws : List ℕ) {u : List ℕ} → length ws ≡ 4096 → u ≡ cleared ws 0 4096 → length u ≡ 4096
+cleared-size ws l e = ap length e ∙ length-cleared ws 0 4096 ∙ l
+
+pub gathered-size : {F : Point → ℕ → Type 0} {ws u : List ℕ} → length ws ≡ 4096 → Gains F ws u → length u ≡ 4096
+gathered-size l g = g .as-long ∙ l
+
+module _ {f : Point → ℕ → Bool} {code count : ℕ} {ws : List ℕ} (g : Gains (λ p i. Below code count p i × (f p i ≡ true)) zeros ws) where
+  filled-has : (p i : ℕ) → p < code → i < count → i < 128 → has ws (bitAt p i) ≡ f p i
+  filled-has p i l m n = go (f p i) refl (has ws (bitAt p i)) refl
+    where
+      from : (has zeros (bitAt p i) ≡ true) ⊎ (Below code count p i × (f p i ≡ true)) → f p i ≡ true
+      from (inl e) = absurd (no-bit p i n e)
+      from (inr e) = e .1
+
+      go : (a : Bool) → f p i ≡ a → (b : Bool) → has ws (bitAt p i) ≡ b → b ≡ a
+      go true e b h = sym h ∙ g .new p i n ((l, m), e)
+      go false e true h = sym (from (g .only p i n h)) ∙ e
+      go false e false h = refl
+
+-- ---- All of it
+
+killed-is : (j : Job) (p : Point) (loan : loans.Loan) → kills j (actionAt (graphOf j) p) loan ≡ killed j (overwritten (actionAt (graphOf j) p)) loan
+unfolding kills
+killed-is j p loan = refl
+
+module _ {s t : List ℕ} {h : Head} {first succ words : List ℕ} {width : ℕ} {table : List ℕ} {count : ℕ} where
+  pub says-none : {scope : List ℕ} → length scope ≡ 4096 → ((j : Job) (sets : Table) → Given s t h words width table count j sets → ⊥) → ScopeSays s t h first succ words width table count scope
+  says-none z n = record { size = z; bits = λ j sets g e p i l m. absurd (n j sets g) }
+
+  module _ {code : ℕ} (is-code : code ≡ h .code) {start pass region leaves none u scope : List ℕ} (filled : PointsFilled s t words width table count code (tables zeros zeros zeros) (tables start pass region))
+      (flows : (g : Graph) → Edges g first succ → code ≡ g .code → FlowSays g Forward pass start leaves) (ws : List ℕ) (size : length ws ≡ 4096) (empty : none ≡ cleared ws 0 4096) (gathered : Gains (Rows leaves code first succ code) none u)
+      (masked : Masked region u 4096 scope) where
+    module _ (j : Job) (sets : Table) (g : Given s t h words width table count j sets) (e : Edges (graphOf j) first succ) (i : ℕ) (l : i < count) where
+      same-code : code ≡ graphOf j .code
+      same-code = is-code ∙ g .layout .code ∙ sym (code-count j)
+
+      few : i < 128
+      few = omega (arith, g .loans .few)
+
+      bits : Filled (Below code count) (jobBits j sets) (tables zeros zeros zeros) (tables start pass region)
+      bits = filled .bits h j sets g (omega (arith, is-code, g .layout .code))
+
+      starts : (p : Point) → p < graphOf j .code → has start (bitAt p i) ≡ (eqb (loanNumber (loansOf (graphOf j)) i .point) p && not (kills j (actionAt (graphOf j) p) (loanNumber (loansOf (graphOf j)) i)))
+      starts p m = filled-has {f = λ p i. jobBits j sets p i .start} (bits .start) p i (omega (arith, same-code)) l few
+          ∙ ap (λ (b : Bool). eqb (loanNumber (loansOf (graphOf j)) i .point) p && not b) (sym (killed-is j p (loanNumber (loansOf (graphOf j)) i)))
+
+      passes : (p : Point) → p < graphOf j .code → has pass (bitAt p i) ≡ (holds sets (loanNumber (loansOf (graphOf j)) i .region) p && not (kills j (actionAt (graphOf j) p) (loanNumber (loansOf (graphOf j)) i)))
+      passes p m = filled-has {f = λ p i. jobBits j sets p i .pass} (bits .pass) p i (omega (arith, same-code)) l few
+          ∙ ap (λ (b : Bool). holds sets (loanNumber (loansOf (graphOf j)) i .region) p && not b) (sym (killed-is j p (loanNumber (loansOf (graphOf j)) i)))
+
+      regions : (p : Point) → p < graphOf j .code → has region (bitAt p i) ≡ holds sets (loanNumber (loansOf (graphOf j)) i .region) p
+      regions p m = filled-has {f = λ p i. jobBits j sets p i .region} (bits .region) p i (omega (arith, same-code)) l few
+
+      abbrev Reached : Point → Type 0
+      Reached q = ((p : Point) × (p < graphOf j .code) × Next (graphOf j) p q × (has leaves (bitAt p i) ≡ true)) × T (holds sets (loanNumber (loansOf (graphOf j)) i .region) q)
+
+      both : (q : Point) → q < graphOf j .code → has scope (bitAt q i) ≡ (has u (bitAt q i) && has region (bitAt q i))
+      both q m = masked-has region u masked q i (omega (arith, e .ordered, e .few)) few
+
+      scoped-to : (q : Point) → q < graphOf j .code → has scope (bitAt q i) ≡ true → Reached q
+      scoped-to q m k =
+          let w : (has u (bitAt q i) && has region (bitAt q i)) ≡ true = sym (both q m) ∙ k in (
+            from (gathered .only q i few (and-true-left (has u (bitAt q i)) (has region (bitAt q i)) w)),
+            subst T (sym (sym (regions q m) ∙ and-true-right (has u (bitAt q i)) (has region (bitAt q i)) w)) tt,
+          )
+        where
+          from : (has none (bitAt q i) ≡ true) ⊎ Rows leaves code first succ code q i → (p : Point) × (p < graphOf j .code) × Next (graphOf j) p q × (has leaves (bitAt p i) ≡ true)
+          from (inl z) =
+              let y : wordBits * 0 + bitAt q i ≡ bitAt q i = omega arith in
+              absurd (true≢false (sym z ∙ ap₂ has empty (sym y) ∙ has-cleared ws 0 4096 (omega arith) (bitAt q i) (omega (arith, e .ordered, e .few, few))))
+          from (inr (p, m, (k, lo, hi, (c, x, a)))) =
+              let n : p < graphOf j .code = omega (arith, same-code) in
+              (p, n, entry-next (graphOf j) first succ e p q n (k, lo, hi, sym x), a)
+
+      to-scoped : (q : Point) → q < graphOf j .code → Reached q → has scope (bitAt q i) ≡ true
+      to-scoped q m ((p, n, next, a), r) =
+          let (k, lo, hi, x) = next-entry (graphOf j) first succ e p q n next in
+          let w : has u (bitAt q i) ≡ true = gathered .new q i few (p, omega (arith, same-code), (k, lo, hi, (omega (arith, x, same-code), sym x, a))) in
+          both q m ∙ ap₂ (λ (x y : Bool). x && y) w (regions q m ∙ is-true _ r)
+
+      scope-is : (q : Point) → q < graphOf j .code → has scope (bitAt q i) ≡ holds (scopeTable j (graphOf j) sets (loansOf (graphOf j))) i q
+      scope-is q m =
+          scope-same j (successors-of j (g .names)) sets (loansOf (graphOf j)) i (omega (arith, g .loans .count)) scope q
+          (scope-to j (successors-of j (g .names)) region-of loan i start pass starts passes leaves scope flow few (λ x y. (scoped-to x y, to-scoped x y)) q m)
+          (to-scope j (successors-of j (g .names)) region-of loan i start pass starts passes leaves scope flow few (λ x y. (scoped-to x y, to-scoped x y)) q m)
+        where
+          loan : loans.Loan
+          loan = loanNumber (loansOf (graphOf j)) i
+
+          region-of : Point → Bool
+          region-of = holds sets (loan .region)
+
+          flow : FlowSays (graphOf j) Forward pass start leaves
+          flow = flows (graphOf j) e same-code
+
+    pub scope-says : ScopeSays s t h first succ words width table count scope
+    scope-says =
+        record {
+          size = masked .as-long ∙ gathered-size (cleared-size ws size empty) gathered;
+          bits = λ j sets g e p i l m. scope-is j sets g e i m p (omega (arith, code-count j));
+        }

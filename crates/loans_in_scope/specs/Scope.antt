@@ -1,0 +1,102 @@
+-- The loans in scope at each point, in four words a point.
+use mathlib.Core.Path.{_≡_}
+use mathlib.Core.Bool.{Bool, not, _&&_}
+use mathlib.Core.List.{List, [], _∷_}
+use Prim.Native.Nat.{ℕ, _*_, _+_, _<_, _≤_}
+use lib.ListN.{length}
+use lib.Dec.{T, eqb}
+use Rattle.nll_spec.specs.Lists.{any}
+use Rattle.nll_spec.specs.Fixpoint.{Table, holds}
+use Rattle.nll_spec.specs.Syntax as syntax
+use Rattle.nll_spec.specs.Syntax.{Job, Point}
+use Rattle.nll_spec.specs.Decode.{codeCount, pointCount}
+use Rattle.nll_spec.specs.WellFormed.{named}
+use Rattle.nll_spec.specs.Types.{isPrefix}
+use Rattle.nll_spec.specs.Graph.{graphOf, actionAt}
+use Rattle.nll_spec.specs.Loans.{loansOf, loanNumber, overwritten, scopeTable}
+use Rattle.nll_spec.specs.Loans as loans
+use Rattle.nll_spec.specs.Output.{wordBits}
+use Rattle.bit_set.specs.Bits.{has}
+use Rattle.bit_set.specs.Rows.{Says}
+use Rattle.repr.specs.Reading.{pathOf}
+use Rattle.repr.specs.declared.Action.{Action}
+use Rattle.repr.specs.declared.Action.the-variants.{Noop, Init, Borrow, Assign, Constraint, Use, Drop, StorageDead}
+use Rattle.record.specs.Layout.{Layout}
+use Rattle.record.specs.declared.Head.{Head}
+use Rattle.graph.specs.Tables.{Edges}
+use Rattle.loans.specs.Loans.{loanOf, LoansAt}
+use Rattle.loans.specs.Table.{entryOf}
+use Rattle.loans.specs.declared.Loan.{Loan}
+use Rattle.loans_in_scope.specs.Gains.{Bits, Tables, Sized, Filled, Cells, Below}
+use Rattle.loans_in_scope.specs.declared.Overwritten.{Overwritten}
+use Rattle.loans_in_scope.specs.declared.Overwritten.the-variants.{At, Nothing}
+
+-- ---- What is overwritten
+
+abbrev pub overwrittenBy : Action → Overwritten
+overwrittenBy Noop = Nothing
+overwrittenBy (Init dest n) = At dest
+overwrittenBy (Borrow dest r k source) = At dest
+overwrittenBy (Assign dest source) = At dest
+overwrittenBy (Constraint sup sub) = Nothing
+overwrittenBy (Use p) = Nothing
+overwrittenBy (Drop p) = Nothing
+overwrittenBy (StorageDead v) = Nothing
+
+-- the paths of an answer, as `overwritten` has them
+abbrev pub pathsOf : List ℕ → Overwritten → List syntax.Path
+pathsOf s (At d) = pathOf s d ∷ []
+pathsOf s Nothing = []
+
+-- ---- A loan at a point
+
+-- one of these paths is a prefix of the loan's
+abbrev pub killed : Job → List syntax.Path → loans.Loan → Bool
+killed j ds loan = any (λ d. isPrefix j d (loan .path)) ds
+
+-- The bits of a loan at a point that overwrites ds, where `inside` says whether its region holds the point: it starts there, or may pass, unless it is
+-- killed.
+abbrev pub bitsOf : Job → List syntax.Path → Bool → loans.Loan → Point → Bits
+bitsOf j ds inside loan p =
+    record { start = eqb (loan .point) p && not (killed j ds loan); pass = inside && not (killed j ds loan); region = inside }
+
+-- region r's set in the words holds p
+abbrev pub insideOf : List ℕ → ℕ → ℕ → Point → Bool
+insideOf words width r p = has words (wordBits * (r * width) + p)
+
+-- the bits of loan i, where the point overwrites d
+abbrev pub entryBits : Job → List ℕ → List ℕ → ℕ → List ℕ → Overwritten → Point → ℕ → Bits
+entryBits j s words width table d p i = bitsOf j (pathsOf s d) (insideOf words width (entryOf table i .region .0) p) (loanOf s (entryOf table i)) p
+
+-- the bits of loan i of a job with these sets
+abbrev pub jobBits : Job → Table → Point → ℕ → Bits
+jobBits j sets p i =
+    bitsOf j (overwritten (actionAt (graphOf j) p)) (holds sets (loanNumber (loansOf (graphOf j)) i .region) p) (loanNumber (loansOf (graphOf j)) i) p
+
+-- ---- What is handed over
+
+-- A job of the record, its loans, and the regions' sets in so many words each.
+pub record Given (s t : List ℕ) (h : Head) (words : List ℕ) (width : ℕ) (table : List ℕ) (count : ℕ) (j : Job) (sets : Table) : Type 0 where
+  pub layout : Layout s t h j
+  pub names : T (named j)
+  pub loans : LoansAt s j table count
+  pub rows : length sets ≡ j .regions
+  pub says : Says width sets words
+  pub narrow : width ≤ 32
+  pub room : pointCount j ≤ wordBits * width
+
+-- The bits of each loan at point p came to the tables.
+pub record PointFilled (s t words : List ℕ) (width : ℕ) (table : List ℕ) (count p : ℕ) (a b : Tables) : Type 0 where
+  pub sized : Sized b
+  pub bits : (h : Head) (j : Job) (sets : Table) → Given s t h words width table count j sets → p < codeCount (j .blocks) → Filled (Cells p count) (jobBits j sets) a b
+
+-- Those at the first n points came to them.
+pub record PointsFilled (s t words : List ℕ) (width : ℕ) (table : List ℕ) (count n : ℕ) (a b : Tables) : Type 0 where
+  pub sized : Sized b
+  pub bits : (h : Head) (j : Job) (sets : Table) → Given s t h words width table count j sets → n ≤ codeCount (j .blocks) → Filled (Below n count) (jobBits j sets) a b
+
+-- The words have the loans in scope: loan i at point p is number i of the four words from 4 * p on.
+pub record ScopeSays (s t : List ℕ) (h : Head) (first succ words : List ℕ) (width : ℕ) (table : List ℕ) (count : ℕ) (scope : List ℕ) : Type 0 where
+  pub size : length scope ≡ 4096
+  pub bits : (j : Job) (sets : Table) → Given s t h words width table count j sets → Edges (graphOf j) first succ → (p : Point) (i : ℕ) → p < codeCount (j .blocks) → i < count
+      → has scope (wordBits * (4 * p) + i) ≡ holds (scopeTable j (graphOf j) sets (loansOf (graphOf j))) i p
