@@ -1,0 +1,4 @@
+-- Laws of verdicts.
+pub mod SearchLaws
+pub mod FaultLaws
+pub mod WriteLaws

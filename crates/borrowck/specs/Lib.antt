@@ -1,0 +1,3 @@
+-- Accesses, conflicts and verdicts.
+pub mod Search
+pub mod Faults

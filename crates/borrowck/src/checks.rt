@@ -1,0 +1,240 @@
+// What each access of an action conflicts with.
+use super::Depth;
+use super::Fault;
+use super::Found;
+use super::Mode;
+use super::search::search;
+use repr::Action;
+use repr::BorrowKind;
+use repr::Cursor;
+use repr::Path;
+use repr::PathStep;
+use repr::Variable;
+ghost use mathlib.Core.Path.{_≡_};
+ghost use mathlib.Core.List.{[], _∷_};
+ghost use Prim.Native.Nat.{_<_};
+ghost use lib.ListN.{length};
+ghost use Rattle.nll_spec.specs.Access as access;
+ghost use Rattle.repr.specs.Reading.{pathOf};
+ghost use Rattle.borrowck.specs.Faults.{faultFor, sourceAccess, Meets, Checked, SourcesChecked, ActionChecked};
+
+// Whether a loan in scope conflicts with an access to the path.
+fn check_borrows(
+    s: &[u8],
+    table: &[u16; 1024],
+    count: usize,
+    scope: &[u32; 4096],
+    p: usize,
+    depth: Depth,
+    mode: Mode,
+    path: Path,
+) -> bool
+    requires { ⌜ (length (now table) ≡ 1024) × (p < 1024) ⌝ }
+    ensures { λ r. ⌜ Meets (now (s .entry)) (now (table .entry)) count (now (scope .entry)) p depth mode path r ⌝ }
+{
+    match search(s, table, count, scope, p, depth, mode, path) {
+        Found::At(_) => true,
+        Found::Nothing => false,
+    }
+}
+
+fn fault_if(conflict: bool, kind: u8, operand: u8) -> Fault
+    ensures { λ r. ⌜ r ≡ faultFor conflict kind operand ⌝ }
+{
+    if conflict {
+        return Fault { kind, operand };
+    }
+    Fault {
+        kind: 0,
+        operand: 0,
+    }
+}
+
+fn check_read(
+    s: &[u8],
+    table: &[u16; 1024],
+    count: usize,
+    scope: &[u32; 4096],
+    p: usize,
+    path: Path,
+    operand: u8,
+) -> Fault
+    requires { ⌜ (length (now table) ≡ 1024) × (p < 1024) ⌝ }
+    ensures { λ r. ⌜ Checked (now (s .entry)) (now (table .entry)) count (now (scope .entry)) p operand (access.Read (pathOf (now (s .entry)) path) ∷ []) r ⌝ }
+{
+    let conflict = check_borrows(s, table, count, scope, p, Depth::Deep, Mode::Read, path);
+    fault_if(conflict, 1, operand)
+}
+
+// A destination is overwritten, without being read.
+fn check_shallow_write(
+    s: &[u8],
+    table: &[u16; 1024],
+    count: usize,
+    scope: &[u32; 4096],
+    p: usize,
+    path: Path,
+    operand: u8,
+) -> Fault
+    requires { ⌜ (length (now table) ≡ 1024) × (p < 1024) ⌝ }
+    ensures { λ r. ⌜ Checked (now (s .entry)) (now (table .entry)) count (now (scope .entry)) p operand (access.Write (pathOf (now (s .entry)) path) ∷ []) r ⌝ }
+{
+    let conflict = check_borrows(s, table, count, scope, p, Depth::Shallow, Mode::Write, path);
+    fault_if(conflict, 2, operand)
+}
+
+// A Mut borrow may read and write all that its source leads to.
+fn check_mut_borrow(
+    s: &[u8],
+    table: &[u16; 1024],
+    count: usize,
+    scope: &[u32; 4096],
+    p: usize,
+    path: Path,
+    operand: u8,
+) -> Fault
+    requires { ⌜ (length (now table) ≡ 1024) × (p < 1024) ⌝ }
+    ensures { λ r. ⌜ Checked (now (s .entry)) (now (table .entry)) count (now (scope .entry)) p operand (access.MutBorrow (pathOf (now (s .entry)) path) ∷ []) r ⌝ }
+{
+    let conflict = check_borrows(s, table, count, scope, p, Depth::Deep, Mode::Write, path);
+    fault_if(conflict, 2, operand)
+}
+
+fn check_move(
+    s: &[u8],
+    table: &[u16; 1024],
+    count: usize,
+    scope: &[u32; 4096],
+    p: usize,
+    path: Path,
+    operand: u8,
+) -> Fault
+    requires { ⌜ (length (now table) ≡ 1024) × (p < 1024) ⌝ }
+    ensures { λ r. ⌜ Checked (now (s .entry)) (now (table .entry)) count (now (scope .entry)) p operand (access.Move (pathOf (now (s .entry)) path) ∷ []) r ⌝ }
+{
+    let conflict = check_borrows(s, table, count, scope, p, Depth::Deep, Mode::Write, path);
+    fault_if(conflict, 3, operand)
+}
+
+// A variable's storage goes.
+fn check_storage_dead(
+    s: &[u8],
+    table: &[u16; 1024],
+    count: usize,
+    scope: &[u32; 4096],
+    p: usize,
+    v: Variable,
+) -> Fault
+    requires { ⌜ (length (now table) ≡ 1024) × (p < 1024) ⌝ }
+    ensures { λ r. ⌜ Checked (now (s .entry)) (now (table .entry)) count (now (scope .entry)) p 0 (access.Dead (record { base = v .0; steps = [] }) ∷ []) r ⌝ }
+{
+    let path = Path {
+        base: v,
+        steps: 0,
+        from: Cursor { at: 0 },
+    };
+    let conflict = check_borrows(s, table, count, scope, p, Depth::Shallow, Mode::Write, path);
+    fault_if(conflict, 4, 0)
+}
+
+// The sources of an Init, which are so many from a place on; the first of them is operand 1.
+fn check_sources(
+    s: &[u8],
+    table: &[u16; 1024],
+    count: usize,
+    scope: &[u32; 4096],
+    p: usize,
+    from: Cursor,
+    many: u8,
+) -> Fault
+    requires { ⌜ (length (now table) ≡ 1024) × (p < 1024) ⌝ }
+    ensures { λ r. ⌜ SourcesChecked (now (s .entry)) (now (table .entry)) count (now (scope .entry)) p (from .at) many r ⌝ }
+{
+    let none = Fault {
+        kind: 0,
+        operand: 0,
+    };
+    let mut c = from;
+    let mut left = many;
+    while left != 0 {
+        let PathStep::Path(q, next) = c.path(s) else {
+            return none;
+        };
+        let f = check_read(s, table, count, scope, p, q, many - left + 1);
+        if f.kind != 0 {
+            return f;
+        }
+        c = next;
+        left -= 1;
+    }
+    none
+}
+
+// The source of a Borrow.
+fn check_source(
+    s: &[u8],
+    table: &[u16; 1024],
+    count: usize,
+    scope: &[u32; 4096],
+    p: usize,
+    kind: BorrowKind,
+    source: Path,
+) -> Fault
+    requires { ⌜ (length (now table) ≡ 1024) × (p < 1024) ⌝ }
+    ensures { λ r. ⌜ Checked (now (s .entry)) (now (table .entry)) count (now (scope .entry)) p 1 (sourceAccess kind (pathOf (now (s .entry)) source) ∷ []) r ⌝ }
+{
+    match kind {
+        BorrowKind::Mut => check_mut_borrow(s, table, count, scope, p, source, 1),
+        BorrowKind::Shared => check_read(s, table, count, scope, p, source, 1),
+    }
+}
+
+// The operands of an action, the destination first; an Init's sources stand at the cursor.
+pub fn check_action(
+    s: &[u8],
+    table: &[u16; 1024],
+    count: usize,
+    scope: &[u32; 4096],
+    p: usize,
+    a: Action,
+    next: Cursor,
+) -> Fault
+    requires { ⌜ (length (now table) ≡ 1024) × (p < 1024) ⌝ }
+    ensures { λ r. ⌜ ActionChecked (now (s .entry)) (now (table .entry)) count (now (scope .entry)) p a next r ⌝ }
+{
+    match a {
+        Action::Init { dest, count: many } => {
+            let f = check_shallow_write(s, table, count, scope, p, dest, 0);
+            if f.kind != 0 {
+                return f;
+            }
+            check_sources(s, table, count, scope, p, next, many)
+        }
+        Action::Borrow {
+            dest,
+            region: _,
+            kind,
+            source,
+        } => {
+            let f = check_shallow_write(s, table, count, scope, p, dest, 0);
+            if f.kind != 0 {
+                return f;
+            }
+            check_source(s, table, count, scope, p, kind, source)
+        }
+        Action::Assign { dest, source } => {
+            let f = check_shallow_write(s, table, count, scope, p, dest, 0);
+            if f.kind != 0 {
+                return f;
+            }
+            check_read(s, table, count, scope, p, source, 1)
+        }
+        Action::Use(q) => check_read(s, table, count, scope, p, q, 0),
+        Action::Drop(q) => check_move(s, table, count, scope, p, q, 0),
+        Action::StorageDead(v) => check_storage_dead(s, table, count, scope, p, v),
+        _ => Fault {
+            kind: 0,
+            operand: 0,
+        },
+    }
+}
