@@ -1,0 +1,57 @@
+-- `regionck::constraints::relate_source`. The loop's invariant: the constraints of the first i steps are run. Assumes nothing.
+use Prim.Native.Nat.{_-_, _≤_}
+use mathlib.Core.Path.{_≡_}
+use native.Mathlib.Omega.{arith}
+use lib.ListN.{length}
+use Rattle.relate.specs.Relates.{Runs}
+use Rattle.regionck.specs.Constraining.{sourceConstraints}
+use Rattle.regionck.proofs.ConstrainLaws.{source-none, source-more}
+use borrow.Author.Needs.{needs}
+use Rattle.regionck.proofs.constraints.relate_source.Statement.{statement}
+use Rattle.regionck.proofs.constraints.relate_source.Tie as tie
+
+abbrev Inv-loop : tie.InvT-loop
+Inv-loop region kinds names supporting steps run words₀ first succ last grew₀ i₀ words grew i =
+    (i ≤ steps) × (length words ≡ length words₀) × Runs run first succ last (sourceConstraints (run .at) kinds names supporting (region .0) i) words₀ grew₀ words grew
+
+abbrev μ-loop : tie.MeasureT-loop
+μ-loop region kinds names supporting steps run words₀ first succ last grew₀ i₀ words grew i = steps - i
+
+loop-holds : tie.Need-loop-holds Inv-loop μ-loop
+loop-holds c = let a = c .before .args in (search needs, search needs, source-none (a .kinds .now) (a .names .now) (a .supporting) (a .region .0))
+
+relate-step-requires : tie.Need-relate-step-requires Inv-loop μ-loop
+relate-step-requires c κs = search needs
+
+add-i : tie.Need-add-i Inv-loop μ-loop
+add-i c = search needs
+
+loop-less : tie.Need-loop-less Inv-loop μ-loop
+loop-less c = search needs
+
+loop-again : tie.Need-loop-again Inv-loop μ-loop
+loop-again c = let a = c .before .before .before .before .before .before .before .before .args in
+    let l = c .before .before .before .before .before .before .loop in
+    (omega arith, search needs, source-more (a .kinds .now) (a .names .now) (a .supporting) (a .region .0) (l .i) (l .inv .2) (c .before .before .relate-step .ensures))
+
+same-length : tie.Need-same-length Inv-loop μ-loop
+same-length c = search needs
+
+returns : tie.Need-returns Inv-loop μ-loop
+returns c = let l = c .before .loop in
+    let e : l .i ≡ c .before .before .before .args .steps = omega arith in
+    rw (← e) (l .inv .2)
+
+pub relate-source-spec : {M : Type 1} → statement M
+relate-source-spec =
+    tie.close
+    (tie.spec
+    Inv-loop
+    μ-loop
+    loop-holds
+    relate-step-requires
+    add-i
+    loop-less
+    loop-again
+    same-length
+    returns)

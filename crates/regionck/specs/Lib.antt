@@ -1,0 +1,2 @@
+pub mod Constraining
+pub mod Rounds

@@ -1,0 +1,86 @@
+-- What rounds of a job's constraints do to the regions' sets.
+use mathlib.Core.Path.{_≡_}
+use mathlib.Core.Bool.{cond}
+use mathlib.Core.List.{List, []}
+use Prim.Native.Nat.{ℕ, _≤_, _<_}
+use lib.ListN.{length, getD, replicate}
+use Rattle.nll_spec.specs.Fixpoint.{Table}
+use Rattle.nll_spec.specs.Syntax.{Job, Point, RegionName}
+use Rattle.nll_spec.specs.Decode.{pointCount}
+use Rattle.nll_spec.specs.WellFormed.{refusal}
+use Rattle.nll_spec.specs.Graph.{graphOf, actionAt, isWalked}
+use Rattle.nll_spec.specs.Constraints.{Outlives, constraintsAt, constraintsOf}
+use Rattle.nll_spec.specs.Regions.{EndRule, seedTable, solve, isGrown}
+use Rattle.nll_spec.specs.Output.{wordCount, wordsNeeded, bit}
+use Rattle.bit_set.specs.Bits.{has}
+use Rattle.bit_set.specs.Rows.{Says}
+use Rattle.record.specs.Layout.{Layout}
+use Rattle.record.specs.declared.Head.{Head}
+use Rattle.graph.specs.Tables.{Edges}
+use Rattle.infer.specs.Search.{Marked, ruleOf}
+use Rattle.infer.specs.Ran.{Setting, Words, Given, Ran}
+use Rattle.infer.specs.declared.EndRule as declared
+use Rattle.infer.specs.declared.Shape.{Shape}
+use Rattle.relate.specs.declared.Run.{Run}
+
+-- what the constraints of a job are run in
+abbrev pub settingOf : EndRule → Job → Setting
+settingOf ends j = record { ends = ends; graph = graphOf j; regions = j .regions; width = wordCount (pointCount j) }
+
+-- the marks before a round
+abbrev pub noMarks : List ℕ
+noMarks = replicate 128 0
+
+-- the constraints of a point, if its block is walked
+abbrev pub walkedAt : Job → Point → List Outlives
+walkedAt j p = cond (isWalked (graphOf j) p) (constraintsAt j p (actionAt (graphOf j) p)) []
+
+-- The words say which points are those of walked blocks.
+abbrev pub WalkedIn : Job → List ℕ → Type 0
+WalkedIn j walked = (p : Point) → p < 1024 → has walked p ≡ isWalked (graphOf j) p
+
+-- The constraints of a point are run, if its block is walked.
+pub record PointRuns (s t : List ℕ) (run : Run) (walked first succ last ws grew ws′ grew′ : List ℕ) : Type 0 where
+  pub ran : (j : Job) → Layout s t (run .head) j → refusal j ≡ 0 → WalkedIn j walked → run .at < graphOf j .code
+      → Given (settingOf (ruleOf (run .rule)) j) (run .shape) (run .rule) first succ ws grew
+      → Ran (settingOf (ruleOf (run .rule)) j) last (walkedAt j (run .at)) ws grew ws′ grew′
+
+-- All constraints of a job are run, from no marks on.
+pub record RoundRuns (s t : List ℕ) (h : Head) (walked : List ℕ) (shape : Shape) (rule : declared.EndRule) (first succ last ws ws′ grew : List ℕ) : Type 0 where
+  pub ran : (j : Job) → Layout s t h j → refusal j ≡ 0 → WalkedIn j walked → Given (settingOf (ruleOf rule) j) shape rule first succ ws noMarks
+      → Ran (settingOf (ruleOf rule) j) last (constraintsOf j (graphOf j)) ws noMarks ws′ grew
+
+-- The first n regions have no mark.
+pub record Cleared (marks : List ℕ) (n : ℕ) : Type 0 where
+  pub sized : length marks ≡ 128
+  pub none : (r : RegionName) → r < n → getD marks r 0 ≡ 0
+
+-- The marks `grown` with 1 at each of the first n regions that `grew` marks.
+pub record Noted (grew grown grown′ : List ℕ) (n : ℕ) : Type 0 where
+  pub sized : length grown′ ≡ 128
+  pub marked : (r : RegionName) → r < n → Marked grew r → getD grown′ r 0 ≡ 1
+  pub others : (r : RegionName) → getD grew r 0 ≡ 0 → getD grown′ r 0 ≡ getD grown r 0
+
+-- What is handed in is that of an accepted job, and the words say the seeds.
+pub record Seeded (s t : List ℕ) (h : Head) (first succ walked : List ℕ) (shape : Shape) (ws : List ℕ) (j : Job) : Type 0 where
+  pub layout : Layout s t h j
+  pub accepted : refusal j ≡ 0
+  pub edges : Edges (graphOf j) first succ
+  pub reached : WalkedIn j walked
+  pub width : shape .width ≡ wordCount (pointCount j)
+  pub code : shape .code ≡ graphOf j .code
+  pub points : shape .points ≡ pointCount j
+  pub fits : Words ws
+  pub seeds : Says (wordCount (pointCount j)) (seedTable j (graphOf j)) ws
+
+-- the regions' least sets
+abbrev pub leastSets : EndRule → Job → Table
+leastSets ends j = solve ends j (graphOf j) (seedTable j (graphOf j)) (constraintsOf j (graphOf j))
+
+-- The words ws′ say the least sets, and the marks which declared regions are grown. What follows the sets is as in ws.
+pub record Solved (ends : EndRule) (j : Job) (ws ws′ marks : List ℕ) : Type 0 where
+  pub as-long : length ws′ ≡ length ws
+  pub fits : Words ws′
+  pub says : Says (wordCount (pointCount j)) (leastSets ends j) ws′
+  pub tail : (i : ℕ) → wordsNeeded j ≤ i → getD ws′ i 0 ≡ getD ws i 0
+  pub grown : (r : RegionName) → r < length (j .outlives) → getD marks r 0 ≡ bit (isGrown (graphOf j) (seedTable j (graphOf j)) (leastSets ends j) r)

@@ -1,0 +1,90 @@
+// The regions' least sets: rounds of the constraints of all actions, until no set grows.
+mod constraints;
+mod round;
+
+use infer::EndRule;
+use infer::Shape;
+use record::Head;
+use round::round;
+ghost use mathlib.Core.Path.{_≡_};
+ghost use mathlib.Core.Bool.{cond};
+ghost use lib.ListN.{length};
+ghost use lib.Dec.{eqb};
+ghost use Rattle.nll_spec.specs.Syntax.{Job};
+ghost use Rattle.infer.specs.Search.{ruleOf};
+ghost use Rattle.regionck.specs.Rounds.{Cleared, Noted, Seeded, Solved};
+
+// Each round but the last puts a point into a region's set, and 128 sets of 1024 points hold no more.
+const ROUNDS: u32 = 131073;
+
+// Takes every mark away.
+fn clear(grown: &mut [u8; 128])
+    requires { ⌜ length (now grown) ≡ 128 ⌝ }
+    ensures { λ _. ⌜ Cleared (now (grown .exit)) 128 ⌝ }
+{
+    for r in 0..128 {
+        grown[r] = 0;
+    }
+}
+
+// A region's mark in grown, with that of a round.
+fn marked(grew: u8, grown: u8) -> u8
+    ensures { λ r. ⌜ r ≡ cond (eqb grew 0) grown 1 ⌝ }
+{
+    if grew == 0 {
+        return grown;
+    }
+    1
+}
+
+// Marks in grown, by 1, each region that grew.
+fn note(grew: &[u8; 128], grown: &mut [u8; 128])
+    requires { ⌜ length (now grown) ≡ 128 ⌝ }
+    ensures { λ _. ⌜ Noted (now (grew .entry)) (now (grown .entry)) (now (grown .exit)) 128 ⌝ }
+{
+    for r in 0..128 {
+        grown[r] = marked(grew[r], grown[r]);
+    }
+}
+
+// The words hold the regions' seeds before, and their least sets after. `grown` marks, by 1, the regions whose sets exceed their seeds.
+pub fn regionck(
+    s: &[u8],
+    layout: &[u16; 1280],
+    head: Head,
+    first: &[u16; 1025],
+    succ: &[u16; 1536],
+    walked: &[u32; 32],
+    shape: Shape,
+    rule: EndRule,
+    words: &mut [u32],
+    grown: &mut [u8; 128],
+)
+    requires { ⌜ (length (now layout) ≡ 1280) × (length (now grown) ≡ 128) ⌝ }
+    ensures { λ _. ⌜ (length (now (grown .exit)) ≡ 128) × ((j : Job) → Seeded (now (s .entry)) (now (layout .entry)) head (now (first .entry)) (now (succ .entry)) (now (walked .entry)) shape (now (words .entry)) j
+        → Solved (ruleOf rule) j (now (words .entry)) (now (words .exit)) (now (grown .exit))) ⌝ }
+{
+    clear(grown);
+    let mut last = [1; 128];
+    let mut left = ROUNDS;
+    while left != 0 {
+        let grew = round(
+            s,
+            layout,
+            head,
+            walked,
+            shape,
+            rule,
+            words,
+            first,
+            succ,
+            &last,
+        );
+        if !infer::any_marked(&grew) {
+            return;
+        }
+        note(&grew, grown);
+        last = grew;
+        left -= 1;
+    }
+}
