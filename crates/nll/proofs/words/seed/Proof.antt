@@ -1,0 +1,20 @@
+-- `nll::words::seed`. Assumes nothing.
+use Rattle.nll.proofs.WordLaws.{seeds-by}
+use borrow.Author.Needs.{needs}
+use Rattle.nll.proofs.words.seed.Statement.{statement}
+use Rattle.nll.proofs.words.seed.Tie as tie
+
+liveness-requires : tie.Need-liveness-requires
+liveness-requires c κs = search needs
+
+seeds-requires : tie.Need-seeds-requires
+seeds-requires c κs = search needs
+
+same-length : tie.Need-same-length
+same-length c = search needs
+
+returns : tie.Need-returns
+returns c = seeds-by (c .before .before .before .before .before .before .liveness .ensures .2) (c .before .before .seeds .ensures)
+
+pub seed-spec : {M : Type 1} → statement M
+seed-spec = tie.close (tie.spec liveness-requires seeds-requires same-length returns)
