@@ -1,11 +1,17 @@
-//! How long the original takes for records at the limits.
+//! How long the original takes for records at the limits, and the proved call where it is linked.
 
+#[cfg(feature = "proved")]
+use crate::engine::{Engine, Proved};
+#[cfg(feature = "proved")]
+use crate::lent::Lent;
 use std::time::Instant;
 
-/// Times the original and the model on each record, and prints the mean and the worst.
+/// Times the original, the model and, where it is linked, the proved call on each record, and prints the mean and the worst.
 pub fn measure(records: &[Vec<u8>]) {
     let mut original_seconds = vec![];
     let mut model_seconds = vec![];
+    #[cfg(feature = "proved")]
+    let mut proved_seconds = vec![];
     for record in records {
         let job = model::accept(record).expect("an accepted record");
         let started = Instant::now();
@@ -23,9 +29,25 @@ pub fn measure(records: &[Vec<u8>]) {
             if answer.is_err() { " (panics)" } else { "" },
             model_seconds.last().unwrap(),
         );
+        #[cfg(feature = "proved")]
+        {
+            proved_seconds.push(proved(record));
+            println!("  proved {:.6} s", proved_seconds.last().unwrap());
+        }
     }
     print("original", &original_seconds);
     print("model", &model_seconds);
+    #[cfg(feature = "proved")]
+    print("proved", &proved_seconds);
+}
+
+/// How long the proved call takes for a record, with buffers of zeros that are an exact fit.
+#[cfg(feature = "proved")]
+fn proved(record: &[u8]) -> f64 {
+    let mut lent = Lent::exact(record);
+    let started = Instant::now();
+    Proved.call(record, &mut lent.words, &mut lent.bytes);
+    started.elapsed().as_secs_f64()
 }
 
 fn constraints(job: &model::Job) -> usize {
