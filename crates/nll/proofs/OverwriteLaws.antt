@@ -1,7 +1,7 @@
 -- Buffers that are overwritten. Assumes nothing.
 use mathlib.Core.Path.{_≡_, refl, sym, ap, _∙_}
 use mathlib.Core.List.{List, _++_}
-use Prim.Native.Nat.{ℕ, _+_, _<_, _≤_}
+use Prim.Native.Nat.{ℕ, _+_, _-_, _<_, _≤_}
 use native.Mathlib.Omega.{arith}
 use native.Mathlib.Numerals.{add-one}
 use lib.ListN.{length, getD, set, take, drop, length-set, length-append, length-drop}
@@ -12,7 +12,7 @@ use Rattle.nll_spec.specs.Output.{overwrite}
 pub same-tail : (new a b : List ℕ) → length a ≡ length b → ((i : ℕ) → length new ≤ i → getD a i 0 ≡ getD b i 0) → overwrite new a ≡ overwrite new b
 same-tail new a b e same =
     ap (λ (x : List ℕ). new ++ x)
-    (ext-getD 0 (drop (length new) a) (drop (length new) b) (rw (length-drop, length-drop, e)) λ i h.
+    (ext-getD 0 (drop (length new) a) (drop (length new) b) (length-drop (length new) a ∙ ap (λ (n : ℕ). n - length new) e ∙ sym (length-drop (length new) b)) λ i h.
     getD-drop (length new) a i 0 ∙ same (length new + i) (omega arith) ∙ sym (getD-drop (length new) b i 0))
 
 -- a second part after the first

@@ -82,7 +82,7 @@ module _ (j : Job) {ws mid ws′ grown : List ℕ} (many : length (j .outlives) 
       size = length-take-le (length (j .outlives)) grown many
 
 module _ {s t : List ℕ} {h : Head} {first succ walked ws mid : List ℕ} {shape : Shape} (e : shape ≡ shapeOf h) where
-  -- what the seeds are handed to
+  -- the seeds, as the solver is handed them
   handed : (j : Job) → JobAt s t h j → Mapped first succ walked j → Words mid → Seeded j (wordCount (pointCount j)) ws mid → regionck.Seeded s t h first succ walked shape mid j
   handed j a m fits seeded =
       record {
