@@ -105,7 +105,7 @@ sets-has n ws r p h = ap (λ (b : Bool). b && has ws (wordBits * (r * wordCount 
 -- ---- What is done to a run, done to a row
 
 -- a number of another row lies outside row r's words
-outside : (w r k p : ℕ) → (k ≡ r → ⊥) → p < wordBits * w → (wordBits * (k * w) + p < wordBits * (r * w)) ⊎ (wordBits * (r * w + w) ≤ wordBits * (k * w) + p)
+pub outside : (w r k p : ℕ) → (k ≡ r → ⊥) → p < wordBits * w → (wordBits * (k * w) + p < wordBits * (r * w)) ⊎ (wordBits * (r * w + w) ≤ wordBits * (k * w) + p)
 outside w r k p ne h = go (decLt k r)
   where
     go : Dec (k < r) → (wordBits * (k * w) + p < wordBits * (r * w)) ⊎ (wordBits * (r * w + w) ≤ wordBits * (k * w) + p)

@@ -2,9 +2,9 @@
 use mathlib.Core.Path.{_≡_, refl, sym, ap, _∙_}
 use mathlib.Core.Bool.{Bool, true, false}
 use mathlib.Core.List.{List, [], _∷_, map}
-use Prim.Native.Nat.{ℕ, zero, suc, _+_, _-_, _≤_, _<_}
+use Prim.Native.Nat.{ℕ, suc, _+_, _-_, _≤_, _<_}
 use native.Mathlib.Omega.{arith}
-use native.Mathlib.Numerals.{sub-one, add-one}
+use native.Mathlib.Numerals.{add-one}
 use lib.ListN.{drop}
 use types.Run.{OneOf, miss}
 use denote.Enum.Declared.{tagOf}
@@ -17,6 +17,7 @@ use Rattle.nll_spec.specs.Graph.{graphOf, actionAt}
 use Rattle.nll_spec.specs.Loans as spec
 use Rattle.nll_spec.specs.Loans.{loansOf}
 use Rattle.nll_spec.specs.Access.{Access, Read, Write, MutBorrow, Move, Dead, accesses, intersects, freezes, conflicts, faultKind, Verdict, noFault, firstFault, inScopeAt, verdictAt}
+use Rattle.ty.proofs.ItemLaws.{FirstOf, first-of, none-of}
 use Rattle.repr.specs.Reading.{rest, pathOf, pathSays}
 use Rattle.repr.specs.Parts.{actionSays}
 use Rattle.repr.specs.declared.Cursor.{Cursor}
@@ -123,27 +124,6 @@ module _ {s table : List ℕ} {count : ℕ} {scope : List ℕ} {p : Point} where
 
 -- ---- The sources of an Init
 
--- the first of n paths that are read, and the others
-record First (n : ℕ) (bs : List ℕ) (qs : List Path) (over : List ℕ) : Type 0 where
-  pub item : Path
-  pub others : List Path
-  pub mid : List ℕ
-  pub same : qs ≡ item ∷ others
-  pub reads : path bs ≡ read item mid
-  pub later : items (n - 1) path mid ≡ read others over
-
-first-of : (n : ℕ) (bs : List ℕ) {qs : List Path} {over : List ℕ} → (n ≡ 0 → ⊥) → items n path bs ≡ read qs over → First n bs qs over
-unfolding items done
-first-of zero bs z e = absurd (z refl)
-first-of (suc n) bs z e =
-    let w = then path _ bs e in
-    let v = then (items n path) _ (w .mid) (w .last) in
-    carry (λ ys o. First (suc n) bs ys o) (v .last) (record { item = w .got; others = v .got; mid = w .mid; same = refl; reads = w .first; later = rw (sub-one (suc n)) (v .first) })
-
-none-of : (n : ℕ) (bs : List ℕ) {qs : List Path} {over : List ℕ} → n ≡ 0 → items n path bs ≡ read qs over → qs ≡ []
-unfolding items done
-none-of n bs z e = carry (λ ys o. ys ≡ []) (rw z at e) refl
-
 module _ (s table : List ℕ) (count : ℕ) (scope : List ℕ) (p : Point) where
   -- What is left to check of these paths: so many, from a place on.
   pub record Others (qs : List Path) (many at left : ℕ) : Type 0 where
@@ -163,22 +143,22 @@ module _ {s table : List ℕ} {count : ℕ} {scope : List ℕ} {p : Point} {from
 
   module _ {at left : ℕ} (g : Sourcing s table count scope p from many at left) where
     pub sources-end : left ≡ 0 → SourcesChecked s table count scope p from many (record { kind = 0; operand = 0 })
-    sources-end z = record { says = λ qs over e. let o = g .goes qs over e in o .same _ (rw (none-of left (drop at s) z (o .reads)) checked-none) }
+    sources-end z = record { says = λ qs over e. let o = g .goes qs over e in o .same _ (rw (none-of path left (drop at s) z (o .reads) .0) checked-none) }
 
     module _ (z : left ≡ 0 → ⊥) {v : PathStep} (m : pathSays s v ≡ path (drop at s)) where
       pub sources-refused : {k : ℕ} {r : Fault} → v ≡ pathStep.Refused k → SourcesChecked s table count scope p from many r
-      sources-refused i = record { says = λ qs over e. let o = g .goes qs over e in let f = first-of left (drop at s) z (o .reads) in absurd (clash (sym (told (pathSays s) m i) ∙ f .reads)) }
+      sources-refused i = record { says = λ qs over e. let o = g .goes qs over e in let f = first-of path left (drop at s) z (o .reads) in absurd (clash (sym (told (pathSays s) m i) ∙ f .first)) }
 
       module _ {q : repr.Path} {next : Cursor} (i : v ≡ pathStep.Path q next) {r : Fault} (w : Checked s table count scope p (many - left + 1) (Read (pathOf s q) ∷ []) r) where
         -- the path that is read, as the first of those that are left
-        split : {qs : List Path} {over : List ℕ} (f : First left (drop at s) qs over) → (qs ≡ pathOf s q ∷ f .others) × (items (left - 1) path (rest s next) ≡ read (f .others) over)
-        split {qs} {over} f = carry (λ x o. (qs ≡ x ∷ f .others) × (items (left - 1) path o ≡ read (f .others) over)) (sym (f .reads) ∙ told (pathSays s) m i) (f .same, f .later)
+        split : {qs : List Path} {over : List ℕ} (f : FirstOf path left (drop at s) qs over) → (qs ≡ pathOf s q ∷ f .others) × (items (left - 1) path (rest s next) ≡ read (f .others) over)
+        split {qs} {over} f = carry (λ x o. (qs ≡ x ∷ f .others) × (items (left - 1) path o ≡ read (f .others) over)) (sym (f .first) ∙ told (pathSays s) m i) (f .same, f .reads)
 
         pub sources-stop : (r .kind ≡ 0 → ⊥) → SourcesChecked s table count scope p from many r
         sources-stop h = record {
           says = λ qs over e.
               let o = g .goes qs over e in
-              let f = first-of left (drop at s) z (o .reads) in
+              let f = first-of path left (drop at s) z (o .reads) in
               o .same r (rw (split f .0) (checked-stop (rw add-one at w) h));
         }
 
@@ -187,7 +167,7 @@ module _ {s table : List ℕ} {count : ℕ} {scope : List ℕ} {p : Point} {from
           most = omega (arith, g .most);
           goes = λ qs over e.
               let o = g .goes qs over e in
-              let f = first-of left (drop at s) z (o .reads) in
+              let f = first-of path left (drop at s) z (o .reads) in
               record {
                 others = f .others;
                 over = o .over;

@@ -1,14 +1,13 @@
 -- The fields of a struct, one after the other. Assumes nothing.
 use mathlib.Core.Path.{_≡_, refl, sym, ap, _∙_}
-use mathlib.Core.List.{List, [], _∷_}
+use mathlib.Core.List.{List, _∷_}
 use mathlib.Core.Option.{Option, none, some}
-use Prim.Native.Nat.{ℕ, zero, suc, _-_, _≤_}
+use Prim.Native.Nat.{ℕ, suc, _-_, _≤_}
 use native.Mathlib.Omega.{arith}
-use native.Mathlib.Numerals.{sub-one}
 use lib.ListN.{drop}
 use borrow.Author.Tests.{eq-eqb, ne-eqb}
 use Rattle.nll_spec.specs.Syntax.{Ty, Field}
-use Rattle.nll_spec.specs.Decode.{read, Reader, done, maxNodes, typeWithin, items, type, field}
+use Rattle.nll_spec.specs.Decode.{read, done, maxNodes, typeWithin, items, type, field}
 use Rattle.nll_spec.specs.Types.{typeNodes, fieldType}
 use Rattle.repr.specs.Reading.{rest, ended, endSays}
 use Rattle.repr.specs.Parts.{fieldSays}
@@ -21,6 +20,7 @@ use Rattle.repr.specs.declared.FieldStep.the-variants as fieldStep
 use Rattle.repr.proofs.ReadLaws.{told}
 use Rattle.record.specs.Rows.{Stands}
 use Rattle.ty.proofs.SpellLaws.{clash, carry, then, type-spelt}
+use Rattle.ty.proofs.ItemLaws.{first-of, none-of}
 use Rattle.ty.proofs.StandLaws.{type-stands}
 use Rattle.env.specs.Fields.{TypeThere}
 
@@ -31,27 +31,6 @@ type-few bs {t} {over} e =
     let w = then (typeWithin (suc maxNodes) maxNodes) _ bs e in
     let n = type-spelt (suc maxNodes) maxNodes bs (w .got) (w .mid) (w .first) .nodes in
     carry (λ u o. typeNodes u ≤ maxNodes) (w .last) (omega arith)
-
--- the first of n items, and the others
-record FirstOf {A : Type 0} (m : Reader A) (n : ℕ) (bs : List ℕ) (xs : List A) (end : List ℕ) : Type 0 where
-  pub item : A
-  pub others : List A
-  pub mid : List ℕ
-  pub same : xs ≡ item ∷ others
-  pub first : m bs ≡ read item mid
-  pub reads : items (n - 1) m mid ≡ read others end
-
-first-of : {A : Type 0} (m : Reader A) (n : ℕ) (bs : List ℕ) {xs : List A} {end : List ℕ} → (n ≡ 0 → ⊥) → items n m bs ≡ read xs end → FirstOf m n bs xs end
-unfolding items done
-first-of m zero bs z e = absurd (z refl)
-first-of m (suc n) bs z e =
-    let w = then m _ bs e in
-    let v = then (items n m) _ (w .mid) (w .last) in
-    carry (λ ys o. FirstOf m (suc n) bs ys o) (v .last) (record { item = w .got; others = v .got; mid = w .mid; same = refl; first = w .first; reads = rw (sub-one (suc n)) (v .first) })
-
-none-of : {A : Type 0} (m : Reader A) (n : ℕ) (bs : List ℕ) {xs : List A} {end : List ℕ} → n ≡ 0 → items n m bs ≡ read xs end → xs ≡ []
-unfolding items done
-none-of m n bs z e = carry (λ ys o. ys ≡ []) (rw z at e) refl
 
 -- ---- What the search keeps
 
@@ -85,7 +64,7 @@ field-later x xs {n} {f} e h = rw (ne-eqb (x .number) f (λ y. h (sym e ∙ y)),
 module _ {s : List ℕ} {from n f at left : ℕ} (g : Seeking s from n f at left) where
   pub seeking-end : left ≡ 0 → (xs : List Field) → Stands (items n field) xs (drop from s) → fieldType xs f ≡ none
   unfolding fieldType
-  seeking-end z xs w = let a = g .goes xs w in a .same ∙ rw (none-of field left (drop at s) z (a .reads))
+  seeking-end z xs w = let a = g .goes xs w in a .same ∙ rw (none-of field left (drop at s) z (a .reads) .0)
 
   module _ (z : left ≡ 0 → ⊥) {v : FieldStep} (m : fieldSays s v ≡ field (drop at s)) where
     pub seeking-refused : {k : ℕ} → v ≡ fieldStep.Refused k → (xs : List Field) → Stands (items n field) xs (drop from s) → fieldType xs f ≡ none

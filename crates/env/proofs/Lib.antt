@@ -4,3 +4,4 @@ pub mod StepLaws
 pub mod PrefixLaws
 pub mod PathLaws
 pub mod ShortestLaws
+pub mod ShortLaws

@@ -1,8 +1,7 @@
 -- The steps of a path, read byte by byte. Assumes nothing.
-use mathlib.Core.Path.{_≡_, refl, sym, ap, _∙_}
+use mathlib.Core.Path.{_≡_, ap, _∙_}
 use mathlib.Core.List.{List, [], _∷_}
-use Prim.Native.Nat.{ℕ, zero, suc, _-_}
-use native.Mathlib.Numerals.{sub-one}
+use Prim.Native.Nat.{ℕ, _-_}
 use lib.ListN.{take, drop}
 use lib.Seq.{take-nil}
 use Rattle.nll_spec.specs.Decode.{byte}
@@ -11,22 +10,8 @@ use Rattle.repr.specs.declared.Cursor.{Cursor}
 use Rattle.repr.specs.declared.ByteStep.{ByteStep}
 use Rattle.repr.specs.declared.ByteStep.the-variants as byteStep
 use Rattle.repr.proofs.ReadLaws.{told}
-use Rattle.nll_spec.specs.Decode.{refused, read}
-use Rattle.ty.proofs.SpellLaws.{clash}
-
-byte-is : {x : ℕ} {over : List ℕ} (bs : List ℕ) → byte bs ≡ read x over → bs ≡ x ∷ over
-unfolding byte
-byte-is [] e = absurd (clash e)
-byte-is (y ∷ ys) e = cc
-
-byte-none : {k : ℕ} (bs : List ℕ) → byte bs ≡ refused k → bs ≡ []
-unfolding byte
-byte-none [] e = refl
-byte-none (y ∷ ys) e = absurd (clash (sym e))
-
-take-first : (n x : ℕ) (bs : List ℕ) → (n ≡ 0 → ⊥) → take n (x ∷ bs) ≡ x ∷ take (n - 1) bs
-take-first zero x bs z = absurd (z refl)
-take-first (suc n) x bs z = rw (sub-one (suc n))
+use Rattle.ty.proofs.SpellLaws.{byte-read}
+use Rattle.ty.proofs.ItemLaws.{byte-none, take-first}
 
 module _ (s : List ℕ) (at left : ℕ) {d : ByteStep} (m : byteSays s d ≡ byte (drop at s)) where
   -- no step is left
@@ -34,4 +19,4 @@ module _ (s : List ℕ) (at left : ℕ) {d : ByteStep} (m : byteSays s d ≡ byt
   steps-out e = ap (take left) (byte-none (drop at s) (told (byteSays s) m e)) ∙ take-nil left
 
   pub steps-first : {x : ℕ} {c : Cursor} → d ≡ byteStep.Byte x c → (left ≡ 0 → ⊥) → take left (drop at s) ≡ x ∷ take (left - 1) (rest s c)
-  steps-first {x} {c} e z = ap (take left) (byte-is (drop at s) (told (byteSays s) m e)) ∙ take-first left x (rest s c) z
+  steps-first {x} {c} e z = ap (take left) (byte-read (drop at s) (told (byteSays s) m e)) ∙ take-first left x (rest s c) z

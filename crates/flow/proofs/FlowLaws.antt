@@ -1,82 +1,24 @@
 -- Why rounds until nothing changes give the least sets. Assumes nothing.
 use mathlib.Core.Path.{_≡_, refl, sym, ap, _∙_, subst}
-use mathlib.Core.Logic.{_⊎_, inl, inr}
 use mathlib.Core.Bool.{Bool, true, false}
-use mathlib.Core.List.{List, [], _∷_}
-use Prim.Native.Nat.{ℕ, zero, suc, _+_, _-_, _*_, _/_, _%_, _≤_, _<_, suc-le-suc}
-use native.Mathlib.Nat.{not-suc-le-zero, le-of-suc-le-suc, zero-lt-suc}
+use mathlib.Core.List.{List}
+use Prim.Native.Nat.{ℕ, _+_, _-_, _*_, _/_, _%_, _<_}
 use native.Mathlib.Omega.{arith}
-use native.Mathlib.Decide.{decLt}
-use lib.ListN.{length, getD, take}
-use lib.Seq.{length-slice, getD-drop, getD-take}
-use lib.Dec.{T, eqb, eqb→eq}
-use borrow.Author.Tests.{lt-ltb, le-ltb}
-use Rattle.nll_spec.specs.Lists.{contains}
+use lib.ListN.{length, getD}
 use Rattle.nll_spec.specs.Syntax.{Point}
-use Rattle.nll_spec.specs.Graph.{Graph, nextOf}
+use Rattle.nll_spec.specs.Graph.{Graph}
 use Rattle.nll_spec.specs.Output.{wordBits}
 use Rattle.nll_spec.specs.Meaning.{Next}
-use Rattle.nll_spec.proofs.Tests.{or-cases, contains-here, any-there}
 use Rattle.bit_set.specs.Bits.{has}
 use Rattle.bit_set.specs.Missing.{missing}
 use Rattle.bit_set.proofs.MissingLaws.{missing-lt}
-use Rattle.graph.specs.Tables.{rowStart, rowEnd, Edges}
+use Rattle.graph.specs.Tables.{Edges}
+use Rattle.graph.proofs.EntryLaws.{edge-next, next-edge}
 use Rattle.flow.specs.declared.Direction.{Direction}
 use Rattle.flow.specs.declared.Direction.the-variants.{Forward, Backward}
 use Rattle.flow.specs.Flows.{bitAt, Step, Flows, given, along, FlowSays}
-use Rattle.flow.specs.Running.{Comes, here, over, Since, Ran, Lanes, source, target, Turned, upTo, Row, nth, Rows}
+use Rattle.flow.specs.Running.{Comes, here, over, Since, Ran, Lanes, source, target, Turned, Row, nth, Rows}
 use Rattle.flow.proofs.RunningLaws.{since-none, since-then}
-
--- ---- A number in a list
-
-contains-at : (xs : List ℕ) (n : ℕ) → T (contains xs n) → (k : ℕ) × (k < length xs) × (getD xs k 0 ≡ n)
-contains-at (x ∷ xs) n h = go (or-cases (eqb n x) (contains xs n) h) (λ w. contains-at xs n w)
-  where
-    go : T (eqb n x) ⊎ T (contains xs n) → (T (contains xs n) → (k : ℕ) × (k < length xs) × (getD xs k 0 ≡ n)) → (k : ℕ) × (k < suc (length xs)) × (getD (x ∷ xs) k 0 ≡ n)
-    go (inl e) r = (0, zero-lt-suc (length xs), sym (eqb→eq n x e))
-    go (inr w) r = let k = r w in (suc (k .0), suc-le-suc (k .1), k .2)
-
-at-contains : (xs : List ℕ) (k : ℕ) → k < length xs → T (contains xs (getD xs k 0))
-at-contains [] k h = absurd (not-suc-le-zero h)
-at-contains (x ∷ xs) zero h = contains-here x xs
-at-contains (x ∷ xs) (suc k) h = any-there (eqb (getD xs k 0)) x xs (at-contains xs k (le-of-suc-le-suc h))
-
--- ---- What follows a point
-
-up-to-is : (e : ℕ) → e ≤ 1536 → upTo e ≡ e
-up-to-is e l = go (decLt e 1536)
-  where
-    go : Dec (e < 1536) → upTo e ≡ e
-    go (yes k) = rw (lt-ltb e 1536 k)
-    go (no k) = let q : 1536 ≡ e = omega (arith, k) in rw (le-ltb e 1536 (omega arith)) q
-
--- the tables say that q follows p
-abbrev pub Entry : List ℕ → List ℕ → Point → Point → Type 0
-Entry first succ p q = (k : ℕ) × (rowStart first p ≤ k) × (k < upTo (rowEnd first p)) × (getD succ k 0 ≡ q)
-
-module _ (g : Graph) (first succ : List ℕ) (t : Edges g first succ) where
-  length-after : (p : Point) → p < g .code → length (nextOf g p) ≡ rowEnd first p - rowStart first p
-  length-after p l = ap length (sym (t .next p l)) ∙ length-slice (rowStart first p) (rowEnd first p) succ (omega (arith, t .ends p l, t .sized))
-
-  after-at : (p : Point) (k : ℕ) → p < g .code → k < rowEnd first p - rowStart first p → getD (nextOf g p) k 0 ≡ getD succ (rowStart first p + k) 0
-  after-at p k l h =
-      ap (λ (xs : List ℕ). getD xs k 0) (sym (t .next p l)) ∙ getD-drop (rowStart first p) (take (rowEnd first p) succ) k 0
-      ∙ getD-take (rowEnd first p) succ (rowStart first p + k) 0 (omega arith)
-
-  pub entry-next : (p q : Point) → p < g .code → Entry first succ p q → Next g p q
-  entry-next p q l e =
-      let lo : rowStart first p ≤ e .0 = e .1 in
-      let hi : e .0 < rowEnd first p = rw (up-to-is (rowEnd first p) (t .ends p l)) at (e .2) in
-      let k : e .0 - rowStart first p < rowEnd first p - rowStart first p = omega arith in
-      let i : rowStart first p + (e .0 - rowStart first p) ≡ e .0 = omega arith in
-      subst (λ (x : ℕ). T (contains (nextOf g p) x)) (after-at p (e .0 - rowStart first p) l k ∙ ap (λ (x : ℕ). getD succ x 0) i ∙ e .3)
-      (at-contains (nextOf g p) (e .0 - rowStart first p) (rw (length-after p l) k))
-
-  pub next-entry : (p q : Point) → p < g .code → Next g p q → Entry first succ p q
-  next-entry p q l n =
-      let w = contains-at (nextOf g p) q n in
-      let k : w .0 < rowEnd first p - rowStart first p = rw (length-after p l) at (w .1) in
-      (rowStart first p + w .0, omega arith, rw (up-to-is (rowEnd first p) (t .ends p l)) (omega arith), sym (after-at p (w .0) l k) ∙ w .2)
 
 -- every point of the blocks has its turn in a round
 turn-of : (d : Direction) (code p : ℕ) → p < code → (i : ℕ) × (i < code) × (nth d code i ≡ p)
@@ -108,7 +50,7 @@ module _ (d : Direction) (g : Graph) (first succ : List ℕ) (t : Edges g first 
       let x = e .2 in
       let q = getD succ (x .0) 0 in
       let l : p < g .code = turn-below d (g .code) (e .0) (e .1) in
-      let n : Next g p q = entry-next g first succ t p q l (x .0, x .1, x .2, refl) in
+      let n : Next g p q = edge-next g first succ t p q l (x .0, x .1, x .2, refl) in
       go d p q l (x .3 .0) n (x .3 .1)
     where
       go : (d : Direction) (p q : Point) → p < g .code → q < g .code → Next g p q → Lanes 4 (source d p q) (target d p q) v w → Stepped d g v w
@@ -118,7 +60,7 @@ module _ (d : Direction) (g : Graph) (first succ : List ℕ) (t : Edges g first 
   next-rows : (p q k : ℕ) → p < g .code → Next g p q → k < 4 → Rows d (g .code) first succ (g .code) (4 * source d p q + k) (4 * target d p q + k)
   next-rows p q k l n h =
       let i = turn-of d (g .code) p l in
-      let e = next-entry g first succ t p q l n in (
+      let e = next-edge g first succ t p q l n in (
         i .0,
         i .1,
         subst (λ (x : ℕ). Row d (g .code) first succ x (4 * source d p q + k) (4 * target d p q + k)) (sym (i .2))

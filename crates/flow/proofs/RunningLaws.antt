@@ -9,16 +9,15 @@ use native.Mathlib.Decide.{ℕ-discrete, decLt}
 use lib.ListN.{length, getD, set}
 use lib.Dec.{eqb}
 use lib.Bits.{bitAnd, bitOr, and-zero-l, and-shr, and-mod, and-le-l}
-use borrow.Author.Tests.{lt-ltb, le-ltb}
 use Rattle.nll_spec.specs.Output.{wordBits}
 use Rattle.bit_set.specs.Bits.{has, joined, grows}
 use Rattle.bit_set.proofs.BitLaws.{digit, digit-lt, Words}
 use Rattle.bit_set.proofs.RunLaws.{both-fit, joined-yes}
 use Rattle.bit_set.proofs.SetLaws.{length-joined, has-joined, has-joined-other, grows-not, grows-new}
-use Rattle.graph.specs.Tables.{rowStart, rowEnd}
+use Rattle.graph.specs.Tables.{rowStart, rowEnd, upTo}
 use Rattle.flow.specs.declared.Direction.{Direction}
 use Rattle.flow.specs.declared.Direction.the-variants.{Forward, Backward}
-use Rattle.flow.specs.Running.{Comes, here, over, Since, Mixed, Ran, One, Lanes, Turned, upTo, Leaving, Row, nth, Rows}
+use Rattle.flow.specs.Running.{Comes, here, over, Since, Mixed, Ran, One, Lanes, Turned, Leaving, Row, nth, Rows}
 
 -- ---- The bits that two words share
 
@@ -263,11 +262,3 @@ module _ (d : Direction) (code : ℕ) (first succ pass ws : List ℕ) where
 
   pub rows-all : {u : List ℕ} {r : Bool} (i : ℕ) → i ≤ code → code ≤ i → Ran (Rows d code first succ i) pass ws u r → Ran (Rows d code first succ code) pass ws u r
   rows-all {u} {r} i a c x = let e : i ≡ code = omega arith in subst (λ (n : ℕ). Ran (Rows d code first succ n) pass ws u r) e x
-
--- ---- The end of a row, as the code goes
-
-pub up-to-less : (e k : ℕ) → k ≡ e → k < 1536 → k ≡ upTo e
-up-to-less e k q l = q ∙ sym (rw (lt-ltb e 1536 (rw q at l)))
-
-pub up-to-size : (e k : ℕ) → k ≡ e → 1536 ≤ k → 1536 ≡ upTo e
-up-to-size e k q l = sym (rw (le-ltb e 1536 (rw q at l)))

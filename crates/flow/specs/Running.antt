@@ -1,15 +1,14 @@
 -- What running edges does to the words. An edge between two points is four edges between words; E is a set of these.
 use mathlib.Core.Path.{_≡_}
-use mathlib.Core.Bool.{Bool, true, false, cond}
+use mathlib.Core.Bool.{Bool, true, false}
 use mathlib.Core.List.{List}
 use Prim.Native.Nat.{ℕ, _+_, _-_, _*_, _^_, _≤_, _<_}
 use lib.ListN.{length, getD}
-use lib.Dec.{ltb}
 use lib.Bits.{bitAnd, bitOr}
 use Rattle.nll_spec.specs.Syntax.{Point}
 use Rattle.nll_spec.specs.Output.{wordBits}
 use Rattle.bit_set.specs.Bits.{has}
-use Rattle.graph.specs.Tables.{rowStart, rowEnd}
+use Rattle.graph.specs.Tables.{rowStart, rowEnd, upTo}
 use Rattle.flow.specs.declared.Direction.{Direction}
 use Rattle.flow.specs.declared.Direction.the-variants.{Forward, Backward}
 
@@ -59,10 +58,6 @@ target Backward p q = p
 -- those of the edge from p to q, if q is a point of a block
 abbrev pub Turned : Direction → ℕ → Point → Point → ℕ → ℕ → Type 0
 Turned d code p q x y = (q < code) × Lanes 4 (source d p q) (target d p q) x y
-
--- e, or the size of the table of successors where that is less
-abbrev pub upTo : ℕ → ℕ
-upTo e = cond (ltb e 1536) e 1536
 
 -- those from p to the points of `succ` from its row's start up to entry n
 abbrev pub Leaving : Direction → ℕ → List ℕ → List ℕ → Point → ℕ → ℕ → ℕ → Type 0

@@ -1,12 +1,13 @@
 // Least sets of numbers along the edges of a graph, in four words a point: number b of point p is bit b of the words from 4 * p on.
 // The points that follow point p are succ[first[p]..first[p + 1]].
+use graph::tables::up_to;
 ghost use mathlib.Core.Path.{_≡_};
 ghost use Prim.Native.Nat.{_<_, _≤_};
 ghost use lib.ListN.{length};
 ghost use Rattle.nll_spec.specs.Graph.{Graph};
 ghost use Rattle.graph.specs.Tables.{Edges};
 ghost use Rattle.flow.specs.Flows.{FlowSays};
-ghost use Rattle.flow.specs.Running.{Mixed, Ran, One, Lanes, Turned, upTo, Row, nth, Rows};
+ghost use Rattle.flow.specs.Running.{Mixed, Ran, One, Lanes, Turned, Row, nth, Rows};
 
 // Whether numbers go from a point to those that follow it, or to those that it follows.
 pub enum Direction {
@@ -18,17 +19,6 @@ fn wide(x: u16) -> usize
     ensures { λ r. ⌜ r ≡ x ⌝ }
 {
     x as usize
-}
-
-// e, or the size of the table of successors where that is less.
-fn up_to(e: u16) -> usize
-    ensures { λ r. ⌜ (r ≡ upTo e) × (r ≤ 1536) ⌝ }
-{
-    let k = wide(e);
-    if k < 1536 {
-        return k;
-    }
-    1536
 }
 
 // A word with the bits of another one that may pass.

@@ -13,12 +13,9 @@ use lib.Dec.{T, eqb, eqb→eq}
 use borrow.Author.Tests.{eq-eqb, ne-eqb, lt-ltb, le-ltb}
 use Rattle.nll_spec.specs.Lists.{contains}
 use Rattle.nll_spec.proofs.Tests.{any-there, contains-here, or-cases}
-use Rattle.graph.specs.Search.{zeros, State, state, Roomy, visited, visits}
+use Rattle.graph.specs.Search.{zeros, State, state, Marked, Roomy, visited, visits}
 
 -- ---- Marks
-
-abbrev pub Marked : List ℕ → ℕ → Type 0
-Marked seen x = getD seen x 0 ≡ 0 → ⊥
 
 pub zeros-mark : (l : List ℕ) (i : ℕ) → i < length l → getD l i 0 ≡ 0 → zeros l ≡ zeros (set l i 1) + 1
 unfolding zeros
@@ -28,26 +25,26 @@ zeros-mark (suc x ∷ xs) zero h e = omega arith
 zeros-mark (zero ∷ xs) (suc i) h e = let r : zeros xs ≡ zeros (set xs i 1) + 1 = zeros-mark xs i (le-of-suc-le-suc h) e in omega arith
 zeros-mark (suc x ∷ xs) (suc i) h e = zeros-mark xs i (le-of-suc-le-suc h) e
 
-zeros-replicate : (n : ℕ) → zeros (replicate n 0) ≡ n
+pub zeros-replicate : (n : ℕ) → zeros (replicate n 0) ≡ n
 unfolding zeros
 zeros-replicate zero = refl
 zeros-replicate (suc n) = ap suc (zeros-replicate n)
 
-no-mark : (n x : ℕ) → getD {A = ℕ} (replicate n 0) x 0 ≡ 0
+pub no-mark : (n x : ℕ) → getD {A = ℕ} (replicate n 0) x 0 ≡ 0
 no-mark n x = elim (decLt x n) [ yes l ↦ getD-replicate n x 0 0 l | no k ↦ List·getD-eq-default (replicate n 0) 0 (rw length-replicate (omega (arith, k))) ]
 
-mark-kept : (l : List ℕ) (i x : ℕ) → i < length l → Marked l x → Marked (set l i 1) x
+pub mark-kept : (l : List ℕ) (i x : ℕ) → i < length l → Marked l x → Marked (set l i 1) x
 mark-kept l i x hl m e = go (ℕ-discrete x i)
   where
     go : Dec (x ≡ i) → ⊥
     go (yes q) = let z : 1 ≡ getD (set l i 1) x 0 = rw q (sym (getD-set-same l i 1 0 hl)) in omega arith
     go (no n) = m (sym (getD-set-other l i x 1 0 n) ∙ e)
 
-mark-new : (l : List ℕ) (i : ℕ) → i < length l → Marked (set l i 1) i
+pub mark-new : (l : List ℕ) (i : ℕ) → i < length l → Marked (set l i 1) i
 mark-new l i hl e = let z : getD (set l i 1) i 0 ≡ 1 = getD-set-same l i 1 0 hl in omega arith
 
-mark-old : (l : List ℕ) (i x : ℕ) → (x ≡ i → ⊥) → Marked (set l i 1) x → Marked l x
-mark-old l i x n m e = m (getD-set-other l i x 1 0 n ∙ e)
+pub mark-old : (l : List ℕ) (i v x : ℕ) → (x ≡ i → ⊥) → Marked (set l i v) x → Marked l x
+mark-old l i v x n m e = m (getD-set-other l i x v 0 n ∙ e)
 
 -- what is left to do
 abbrev pub work : State → ℕ
@@ -182,9 +179,9 @@ module _ (E : ℕ → ℕ → Type 0) (A : ℕ → Type 0) where
   walk-push : {X : ℕ → Type 0} {b : ℕ} {st : State} → Roomy st → Walk X st → A b → b < 64 → getD (st .seen) b 0 ≡ 0 → Walk X (pushed-to st b)
   walk-push {X} {b} {st} room w a l e =
       record {
-        sound = λ x m. elim (ℕ-discrete x b) [ yes q ↦ rw q a | no n ↦ w .sound x (mark-old (st .seen) b x n m) ];
+        sound = λ x m. elim (ℕ-discrete x b) [ yes q ↦ rw q a | no n ↦ w .sound x (mark-old (st .seen) b 1 x n m) ];
         pushed = λ i h. pushed′ i h (ℕ-discrete i (st .depth));
-        pending = λ x m. elim (ℕ-discrete x b) [ yes q ↦ inr (inl (st .depth, omega arith, top ∙ sym q)) | no n ↦ old x (w .pending x (mark-old (st .seen) b x n m)) ];
+        pending = λ x m. elim (ℕ-discrete x b) [ yes q ↦ inr (inl (st .depth, omega arith, top ∙ sym q)) | no n ↦ old x (w .pending x (mark-old (st .seen) b 1 x n m)) ];
       }
     where
       hl : b < length (st .seen)

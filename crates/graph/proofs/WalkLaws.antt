@@ -22,8 +22,8 @@ use Rattle.graph.proofs.ShapeLaws.{few-blocks}
 use Rattle.graph.specs.declared.Shape.{Shape}
 use Rattle.graph.specs.Shape.{rowOf, ShapeSays}
 use Rattle.graph.specs.Filling.{Given}
-use Rattle.graph.specs.Search.{State, state, Roomy, visited, visits, isMarked, WalkedBlocks}
-use Rattle.graph.proofs.SearchLaws.{Marked, work, visited-kept, visits-kept, Walk, walk-none, walk-visit, walk-turn, walk-closed, roomy-none, roomy-pop}
+use Rattle.graph.specs.Search.{State, state, Roomy, visited, visits, isMarked, WalkedBlocks, Marked}
+use Rattle.graph.proofs.SearchLaws.{work, visited-kept, visits-kept, Walk, walk-none, walk-visit, walk-turn, walk-closed, roomy-none, roomy-pop}
 
 -- ---- Walked blocks
 

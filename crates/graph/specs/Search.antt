@@ -18,7 +18,7 @@ zeros [] = 0
 zeros (zero ∷ xs) = suc (zeros xs)
 zeros (suc x ∷ xs) = zeros xs
 
--- the marks, the stack and how many blocks are on it
+-- the marks, the stack and how many numbers are on it
 pub record State : Type 0 where
   pub seen : List ℕ
   pub stack : List ℕ
@@ -43,8 +43,12 @@ unfoldable pub visits : List BlockIndex → State → State
 visits [] st = st
 visits (b ∷ bs) st = visits bs (visited b st)
 
-abbrev pub isMarked : List ℕ → BlockIndex → Bool
-isMarked seen b = not (eqb (getD seen b 0) 0)
+-- a mark, which is a number other than 0
+abbrev pub Marked : List ℕ → ℕ → Type 0
+Marked seen x = getD seen x 0 ≡ 0 → ⊥
+
+abbrev pub isMarked : List ℕ → ℕ → Bool
+isMarked seen x = not (eqb (getD seen x 0) 0)
 
 -- The marks are the walked blocks of a job, row 0 of the table.
 pub record MarksWalked (seen : List ℕ) (j : Job) : Type 0 where

@@ -1,6 +1,7 @@
 // The control-flow graph of an accepted job: what follows each point, and the walked blocks.
 pub mod edges;
 mod shapes;
+pub mod tables;
 pub mod walked;
 
 ghost use mathlib.Core.Path.{_≡_};

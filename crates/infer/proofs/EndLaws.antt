@@ -12,8 +12,9 @@ use lib.Seq.{getD-set-same, getD-set-other}
 use lib.Dec.{leb}
 use borrow.Author.Tests.{ne-eqb, eqb-false, not-true, leb-true, le-leb}
 use Rattle.nll_spec.specs.Regions.{EndRule}
-use Rattle.graph.specs.Tables.{rowStart, rowEnd}
-use Rattle.infer.specs.Search.{inCode, Edge, Reach, Marked, Marks, isMarked, Leaf, anyLeaf, passes, flag, flags, withEnds, Gets}
+use Rattle.graph.specs.Tables.{rowStart, rowEnd, Edge}
+use Rattle.graph.specs.Search.{Marked, isMarked}
+use Rattle.infer.specs.Search.{inCode, Reach, Marks, Leaf, anyLeaf, passes, flag, flags, withEnds, Gets}
 use Rattle.infer.proofs.SearchLaws.{reach-held, code-below}
 
 -- ---- Bool

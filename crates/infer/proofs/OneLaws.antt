@@ -20,11 +20,13 @@ use Rattle.nll_spec.proofs.Tests.{is-true}
 use Rattle.nll_spec.proofs.Members.{member-place}
 use Rattle.nll_spec.proofs.MonotoneLaws.{looser-same}
 use Rattle.bit_set.specs.Bits.{has}
-use Rattle.infer.specs.Search.{ruleOf, Marked, Gets, Spread, inBounds, inCode, Reach, Edge}
+use Rattle.graph.specs.Search.{Marked}
+use Rattle.graph.specs.Tables.{Edge}
+use Rattle.infer.specs.Search.{ruleOf, Gets, Spread, inBounds, inCode, Reach}
 use Rattle.infer.specs.Ran.{Setting, bitAt, setsOf, Met, Within, AllReady, Ran, Given, Names}
 use Rattle.infer.specs.declared.EndRule as declared
 use Rattle.infer.specs.declared.Shape.{Shape}
-use Rattle.infer.proofs.SearchLaws.{mark-kept, mark-new, mark-old}
+use Rattle.graph.proofs.SearchLaws.{mark-kept, mark-new, mark-old}
 use Rattle.infer.proofs.TableLaws.{leaf-exit, exit-leaf, reach-below, reach-walk, walk-reach}
 use Rattle.infer.proofs.RanLaws.{true-T, bit-region, sets-has, sets-below, has-sets, walk-mono}
 

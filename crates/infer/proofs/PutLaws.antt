@@ -1,7 +1,7 @@
 -- The laws of `putAll` and `grown`, and that the marked numbers, put into a set, are what `Spread` says. Assumes nothing.
 use mathlib.Core.Path.{_≡_, refl, sym, ap, _∙_}
 use mathlib.Core.Logic.{_⊎_, inl, inr}
-use mathlib.Core.Bool.{Bool, true, false, _||_, not, cond, true≢false}
+use mathlib.Core.Bool.{Bool, true, false, _||_, cond, true≢false}
 use mathlib.Core.List.{List}
 use Prim.Native.Nat.{ℕ, zero, suc, _+_, _-_, _*_, _/_, _≤_, _<_}
 use native.Mathlib.Decide.{ℕ-discrete, decLt}
@@ -13,7 +13,8 @@ use borrow.Author.Tests.{ltb-true, ltb-false}
 use Rattle.nll_spec.specs.Output.{wordBits}
 use Rattle.bit_set.specs.Bits.{has, withBit, isNew}
 use Rattle.bit_set.proofs.BitLaws.{Words, length-with, has-with, has-with-other, with-fits, with-out}
-use Rattle.infer.specs.Search.{Marks, isMarked, putAll, grown, Spread}
+use Rattle.graph.specs.Search.{isMarked}
+use Rattle.infer.specs.Search.{Marks, putAll, grown, Spread}
 use Rattle.infer.proofs.EndLaws.{is-marked, marked-is}
 
 -- a number that is new has a word, is not in the set, and is in the set with it

@@ -22,7 +22,7 @@ use Rattle.nll_spec.proofs.Members.{member-place, member-left, member-right, me
 use Rattle.nll_spec.proofs.MonotoneLaws.{looser-same}
 use Rattle.bit_set.specs.Bits.{has}
 use Rattle.bit_set.proofs.BitLaws.{words-ext}
-use Rattle.infer.specs.Search.{Marked, isMarked}
+use Rattle.graph.specs.Search.{Marked, isMarked}
 use Rattle.bit_set.specs.Missing.{missing}
 use Rattle.infer.specs.Ran.{Setting, bitAt, setsAt, setsOf, Words, Met, Ready, AllReady, Ran, Rounds, Quiet, Given, AllNamed, anyMarked}
 use Rattle.infer.specs.declared.EndRule as declared

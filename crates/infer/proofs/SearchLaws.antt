@@ -2,63 +2,26 @@
 use mathlib.Core.Path.{_≡_, refl, sym, ap, _∙_, subst}
 use mathlib.Core.Logic.{_⊎_, inl, inr}
 use mathlib.Core.Bool.{Bool, true, false, _&&_, cond, true≢false}
-use mathlib.Core.List.{List, [], _∷_}
+use mathlib.Core.List.{List}
 use Prim.Native.Nat.{ℕ, zero, suc, _+_, _-_, _*_, _≤_, _<_}
-use native.Mathlib.Nat.{not-suc-le-zero, le-of-suc-le-suc}
-use native.Mathlib.Decide.{ℕ-discrete, decLt}
-use native.Mathlib.Numerals.{add-one}
+use native.Mathlib.Nat.{not-suc-le-zero}
+use native.Mathlib.Decide.{ℕ-discrete}
 use native.Mathlib.Omega.{arith}
-use lib.ListN.{length, getD, set, replicate, length-set, getD-replicate, length-replicate, List·getD-eq-default}
+use lib.ListN.{length, getD, set, replicate, length-set, length-replicate}
 use lib.Seq.{getD-set-same, getD-set-other}
 use lib.Dec.{eqb, ltb}
 use borrow.Author.Tests.{eqb-true, eqb-false, eq-eqb, ne-eqb, ltb-true, lt-ltb, le-ltb}
 use Rattle.nll_spec.specs.Output.{wordBits}
 use Rattle.bit_set.specs.Bits.{has}
-use Rattle.graph.specs.Tables.{rowStart, rowEnd}
-use Rattle.infer.specs.Search.{inCode, upTo, Edge, Reach, here, step, zeros, State, state, pushed, visited, nexts, row, Roomy, Marked, Marks}
-
--- ---- Counting marks
-
-pub zeros-mark : (l : List ℕ) (i : ℕ) → i < length l → getD l i 0 ≡ 0 → zeros l ≡ zeros (set l i 1) + 1
-unfolding zeros
-zeros-mark [] i h e = absurd (not-suc-le-zero h)
-zeros-mark (zero ∷ xs) zero h e = sym (add-one (zeros xs))
-zeros-mark (suc x ∷ xs) zero h e = omega arith
-zeros-mark (zero ∷ xs) (suc i) h e = let r : zeros xs ≡ zeros (set xs i 1) + 1 = zeros-mark xs i (le-of-suc-le-suc h) e in omega arith
-zeros-mark (suc x ∷ xs) (suc i) h e = zeros-mark xs i (le-of-suc-le-suc h) e
-
-zeros-replicate : (n : ℕ) → zeros (replicate n 0) ≡ n
-unfolding zeros
-zeros-replicate zero = refl
-zeros-replicate (suc n) = ap suc (zeros-replicate n)
-
-pub no-mark : (n x : ℕ) → getD {A = ℕ} (replicate n 0) x 0 ≡ 0
-no-mark n x = elim (decLt x n) [ yes l ↦ getD-replicate n x 0 0 l | no k ↦ List·getD-eq-default (replicate n 0) 0 (rw length-replicate (omega (arith, k))) ]
-
--- ---- Marks in a list
-
--- a mark stays
-pub mark-kept : (l : List ℕ) (i x : ℕ) → i < length l → Marked l x → Marked (set l i 1) x
-mark-kept l i x hl m e = go (ℕ-discrete x i)
-  where
-    go : Dec (x ≡ i) → ⊥
-    go (yes q) = let z : 1 ≡ getD (set l i 1) x 0 = rw q (sym (getD-set-same l i 1 0 hl)) in omega arith
-    go (no n) = m (sym (getD-set-other l i x 1 0 n) ∙ e)
-
-pub mark-new : (l : List ℕ) (i : ℕ) → i < length l → Marked (set l i 1) i
-mark-new l i hl e = let z : getD (set l i 1) i 0 ≡ 1 = getD-set-same l i 1 0 hl in omega arith
-
-pub mark-old : (l : List ℕ) (i v x : ℕ) → (x ≡ i → ⊥) → Marked (set l i v) x → Marked l x
-mark-old l i v x n m e = m (getD-set-other l i x v 0 n ∙ e)
+use Rattle.graph.specs.Tables.{rowStart, rowEnd, Edge, upTo}
+use Rattle.graph.specs.Search.{Marked, State, state, zeros}
+use Rattle.graph.proofs.SearchLaws.{mark-kept, mark-new, mark-old, no-mark, work, zeros-mark, zeros-replicate}
+use Rattle.infer.specs.Search.{inCode, Reach, here, step, pushed, visited, nexts, row, Roomy, Marks}
 
 -- ---- The invariant
 
 abbrev pub OnStack : State → ℕ → Type 0
 OnStack st x = (i : ℕ) × (i < st .depth) × (getD (st .stack) i 0 ≡ x)
-
--- what is left to do
-abbrev pub work : State → ℕ
-work st = 2 * zeros (st .seen) + st .depth
 
 module _ (E : ℕ → ℕ → Type 0) (h : ℕ → Bool) where
   -- each point after x that h holds is marked
@@ -251,13 +214,6 @@ nexts-more h succ lo k st l =
     let e : k + 1 - lo ≡ suc (k - lo) = omega arith in
     let q : lo + (k - lo) ≡ k = omega arith in
     rw (e, q)
-
--- the end of a row, as the code goes
-pub up-to-less : (e k : ℕ) → k ≡ e → k < 1536 → k ≡ upTo e
-up-to-less e k q l = q ∙ sym (rw (lt-ltb e 1536 (rw q at l)))
-
-pub up-to-size : (e k : ℕ) → k ≡ e → 1536 ≤ k → 1536 ≡ upTo e
-up-to-size e k q l = sym (rw (le-ltb e 1536 (rw q at l)))
 
 -- ---- Points of blocks
 

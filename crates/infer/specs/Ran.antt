@@ -15,7 +15,8 @@ use Rattle.nll_spec.specs.Output.{wordBits}
 use Rattle.nll_spec.specs.Meaning.{Sets, Meets}
 use Rattle.bit_set.specs.Bits.{has}
 use Rattle.graph.specs.Tables.{Edges}
-use Rattle.infer.specs.Search.{Marked, isMarked, ruleOf}
+use Rattle.graph.specs.Search.{Marked, isMarked}
+use Rattle.infer.specs.Search.{ruleOf}
 use Rattle.infer.specs.declared.EndRule as declared
 use Rattle.infer.specs.declared.Shape.{Shape}
 

@@ -1,15 +1,16 @@
 -- What the search of one constraint computes, from the tables, the words and the marks that it is handed.
 use mathlib.Core.Path.{_≡_}
 use mathlib.Core.Logic.{_⊎_}
-use mathlib.Core.Bool.{Bool, true, false, _&&_, _||_, not, cond}
-use mathlib.Core.List.{List, [], _∷_}
+use mathlib.Core.Bool.{Bool, true, false, _&&_, _||_, cond}
+use mathlib.Core.List.{List}
 use Prim.Native.Nat.{ℕ, zero, suc, _+_, _-_, _*_, _^_, _≤_, _<_}
 use lib.ListN.{length, getD, set}
 use lib.Dec.{eqb, leb, ltb}
 use Rattle.nll_spec.specs.Regions.{EndRule, everyEnd, heldEnds, passesEnd}
 use Rattle.nll_spec.specs.Output.{wordBits}
 use Rattle.bit_set.specs.Bits.{has, withBit, isNew}
-use Rattle.graph.specs.Tables.{rowStart, rowEnd}
+use Rattle.graph.specs.Tables.{rowStart, rowEnd, upTo, Edge}
+use Rattle.graph.specs.Search.{zeros, State, state, Marked, isMarked}
 use Rattle.infer.specs.declared.EndRule as declared
 use Rattle.infer.specs.declared.EndRule.the-variants.{EveryEnd, HeldEnds}
 
@@ -24,33 +25,10 @@ ruleOf HeldEnds = heldEnds
 abbrev pub inCode : List ℕ → ℕ → ℕ → ℕ → Bool
 inCode ws from code s = ltb s code && has ws (wordBits * from + s)
 
--- e, or the size of the table of successors where that is less
-abbrev pub upTo : ℕ → ℕ
-upTo e = cond (ltb e 1536) e 1536
-
--- the tables say that s follows q
-abbrev pub Edge : List ℕ → List ℕ → ℕ → ℕ → Type 0
-Edge first succ q s = (k : ℕ) × (rowStart first q ≤ k) × (k < upTo (rowEnd first q)) × (getD succ k 0 ≡ s)
-
 -- the points that are reached from p by steps of E through points that h holds, p too
 pub data Reach (E : ℕ → ℕ → Type 0) (h : ℕ → Bool) (p : ℕ) : ℕ → Type 0 where
   here : h p ≡ true → Reach E h p p
   step : {q s : ℕ} → Reach E h p q → E q s → h s ≡ true → Reach E h p s
-
--- how many marks are 0
-unfoldable pub zeros : List ℕ → ℕ
-zeros [] = 0
-zeros (zero ∷ xs) = suc (zeros xs)
-zeros (suc x ∷ xs) = zeros xs
-
--- the marks, the stack and how many points are on it
-pub record State : Type 0 where
-  pub seen : List ℕ
-  pub stack : List ℕ
-  pub depth : ℕ
-
-abbrev pub state : List ℕ → List ℕ → ℕ → State
-state a b d = record { seen = a; stack = b; depth = d }
 
 -- s with a mark and on the stack
 abbrev pub pushed : ℕ → State → State
@@ -73,13 +51,6 @@ row h first succ q st = nexts h succ (rowStart first q) (upTo (rowEnd first q) -
 pub record Roomy (seen : List ℕ) (depth : ℕ) : Type 0 where
   pub room : depth + zeros seen ≤ 1024
   pub sized : length seen ≡ 1024
-
--- a mark, which is a number other than 0
-abbrev pub Marked : List ℕ → ℕ → Type 0
-Marked seen x = getD seen x 0 ≡ 0 → ⊥
-
-abbrev pub isMarked : List ℕ → ℕ → Bool
-isMarked seen x = not (eqb (getD seen x 0) 0)
 
 -- the marked points are those of A
 pub record Marks (A : ℕ → Type 0) (seen : List ℕ) : Type 0 where

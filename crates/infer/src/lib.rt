@@ -1,12 +1,15 @@
 // "S outlives T at p": the points that a walk from p through T reaches are put into S, and, where it comes to a point without successors, so are the
 // declared ends that the end rule passes on.
 // The points that follow point p are succ[first[p]..first[p + 1]]. Region r's set starts at word r * width.
+use graph::tables::up_to;
 ghost use mathlib.Core.Path.{_≡_};
 ghost use mathlib.Core.Bool.{true};
 ghost use mathlib.Core.List.{[], _∷_};
 ghost use Prim.Native.Nat.{_-_, _<_, _≤_};
 ghost use Rattle.nll_spec.specs.Regions.{passesEnd};
-ghost use Rattle.infer.specs.Search.{ruleOf, inCode, upTo, Edge, Reach, state, visited, row, Roomy, Marks, isMarked, anyLeaf, passes, flag, flags, putAll, grown, Gets, Spread, inBounds};
+ghost use Rattle.graph.specs.Search.{isMarked, state};
+ghost use Rattle.graph.specs.Tables.{Edge};
+ghost use Rattle.infer.specs.Search.{ruleOf, inCode, Reach, visited, row, Roomy, Marks, anyLeaf, passes, flag, flags, putAll, grown, Gets, Spread, inBounds};
 ghost use Rattle.infer.specs.Ran.{Setting, Given, Names, Ran, constraint, anyMarked};
 
 // A region's number.
@@ -35,17 +38,6 @@ fn wide(x: u16) -> usize
     ensures { λ r. ⌜ r ≡ x ⌝ }
 {
     x as usize
-}
-
-// e, or the size of the table of successors where that is less.
-fn up_to(e: u16) -> usize
-    ensures { λ r. ⌜ (r ≡ upTo e) × (r ≤ 1536) ⌝ }
-{
-    let k = wide(e);
-    if k < 1536 {
-        return k;
-    }
-    1536
 }
 
 // Marks and pushes s, where it is a point of a block, has no mark and is in the set from word from. Returns the stack's new depth.

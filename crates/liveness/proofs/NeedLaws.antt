@@ -4,7 +4,6 @@ use mathlib.Core.Bool.{Bool, true, false, _||_, or-false}
 use mathlib.Core.List.{List, [], _∷_, map}
 use Prim.Native.Nat.{ℕ, zero, suc, _-_, _<_}
 use native.Mathlib.Omega.{arith}
-use native.Mathlib.Numerals.{sub-one}
 use native.Mathlib.Decide.{decLt}
 use lib.ListN.{length, take, drop, drop-of-length-le}
 use lib.Seq.{drop-cons}
@@ -12,7 +11,7 @@ use lib.Dec.{leb}
 use borrow.Author.Tests.{le-leb, lt-leb}
 use Rattle.nll_spec.specs.Syntax as syntax
 use Rattle.nll_spec.specs.Syntax.{Variable}
-use Rattle.nll_spec.specs.Decode.{read, Reader, done, items, path}
+use Rattle.nll_spec.specs.Decode.{read, done, items, path}
 use Rattle.nll_spec.specs.Liveness.{isPlain, writeDef, writeUse, defs, uses, drops}
 use Rattle.repr.specs.Reading.{rest, borrowKindOf, pathOf, pathSays}
 use Rattle.repr.specs.declared.Cursor.{Cursor}
@@ -25,6 +24,7 @@ use Rattle.repr.specs.declared.Variable as variables
 use Rattle.repr.specs.declared.Action.the-variants as actions
 use Rattle.repr.proofs.ReadLaws.{told}
 use Rattle.ty.proofs.SpellLaws.{clash, carry, then}
+use Rattle.ty.proofs.ItemLaws.{FirstOf, first-of, none-of}
 use Rattle.liveness.specs.Needs.{inHalf, inEither, neededBy, Added, Removed, Sourced, Needed, Defined}
 use Rattle.liveness.proofs.HalfLaws.{half-append, half-none, added-as, added-none, added-then, removed-none}
 
@@ -56,27 +56,6 @@ module _ (x : ℕ) (p : syntax.Path) (ws : List ℕ) {b : Bool} (is : b ≡ isPl
 
 -- ---- Sources
 
--- the first of n items, and the others
-record FirstOf {A : Type 0} (m : Reader A) (n : ℕ) (bs : List ℕ) (xs : List A) (end : List ℕ) : Type 0 where
-  item : A
-  others : List A
-  mid : List ℕ
-  same : xs ≡ item ∷ others
-  first : m bs ≡ read item mid
-  reads : items (n - 1) m mid ≡ read others end
-
-first-of : {A : Type 0} (m : Reader A) (n : ℕ) (bs : List ℕ) {xs : List A} {end : List ℕ} → (n ≡ 0 → ⊥) → items n m bs ≡ read xs end → FirstOf m n bs xs end
-unfolding items done
-first-of m zero bs z e = absurd (z refl)
-first-of m (suc n) bs z e =
-    let w = then m _ bs e in
-    let v = then (items n m) _ (w .mid) (w .last) in
-    carry (λ ys o. FirstOf m (suc n) bs ys o) (v .last) (record { item = w .got; others = v .got; mid = w .mid; same = refl; first = w .first; reads = rw (sub-one (suc n)) (v .first) })
-
-none-of : {A : Type 0} (m : Reader A) (n : ℕ) (bs : List ℕ) {xs : List A} {end : List ℕ} → n ≡ 0 → items n m bs ≡ read xs end → xs ≡ []
-unfolding items done
-none-of m n bs z e = carry (λ ys o. ys ≡ []) (rw z at e) refl
-
 abbrev bases : List syntax.Path → List Variable
 bases qs = map (λ q. q .base) qs
 
@@ -101,7 +80,7 @@ module _ {s : List ℕ} {from : Cursor} {n : ℕ} {c : Cursor} {left x : ℕ} {w
         size = g .size;
         added = λ qs over e.
             let w = g .goes qs over e in
-            let k : w .others ≡ [] = none-of path left (drop (c .at) s) z (w .reads) in
+            let k : w .others ≡ [] = none-of path left (drop (c .at) s) z (w .reads) .0 in
             w .onward ws (subst (λ (l : List syntax.Path). Added x (inHalf 0 (bases l)) ws ws) (sym k) (added-none x ws (λ b. half-none 0 b)));
       }
 

@@ -15,9 +15,8 @@ use Rattle.nll_spec.specs.Output.{wordBits}
 use Rattle.bit_set.specs.Bits.{has, withBit, joined}
 use Rattle.bit_set.proofs.BitLaws.{digit, length-with, has-with, has-with-other}
 use Rattle.bit_set.proofs.SetLaws.{length-joined, has-joined, has-joined-other}
-use Rattle.graph.specs.Tables.{rowStart, rowEnd}
+use Rattle.graph.specs.Tables.{rowStart, rowEnd, upTo}
 use Rattle.flow.specs.Flows.{bitAt}
-use Rattle.flow.specs.Running.{upTo}
 use Rattle.flow.proofs.RunningLaws.{digit-and, has-word}
 use Rattle.loans_in_scope.specs.Gains.{Gains, Tables, Bits, Filled, Cell, If, Cells, Below, Onto, Leaving, Row, Rows, Masked}
 

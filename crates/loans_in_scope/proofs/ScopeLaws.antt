@@ -26,7 +26,7 @@ use Rattle.graph.specs.Tables.{Edges}
 use Rattle.flow.specs.Flows.{bitAt, FlowSays}
 use Rattle.flow.specs.declared.Direction.the-variants.{Forward}
 use Rattle.flow.proofs.RunningLaws.{has-word}
-use Rattle.flow.proofs.FlowLaws.{entry-next, next-entry}
+use Rattle.graph.proofs.EntryLaws.{edge-next, next-edge}
 use Rattle.loans_in_scope.specs.Gains.{Gains, tables, Sized, Filled, Below, Rows, Masked}
 use Rattle.loans_in_scope.specs.Scope.{killed, jobBits, Given, PointsFilled, ScopeSays}
 use Rattle.loans_in_scope.proofs.GainsLaws.{masked-has}
@@ -126,11 +126,11 @@ module _ {s t : List ℕ} {h : Head} {first succ words : List ℕ} {width : ℕ}
               absurd (true≢false (sym z ∙ ap₂ has empty (sym y) ∙ has-cleared ws 0 4096 (omega arith) (bitAt q i) (omega (arith, e .ordered, e .few, few))))
           from (inr (p, m, (k, lo, hi, (c, x, a)))) =
               let n : p < graphOf j .code = omega (arith, same-code) in
-              (p, n, entry-next (graphOf j) first succ e p q n (k, lo, hi, sym x), a)
+              (p, n, edge-next (graphOf j) first succ e p q n (k, lo, hi, sym x), a)
 
       to-scoped : (q : Point) → q < graphOf j .code → Reached q → has scope (bitAt q i) ≡ true
       to-scoped q m ((p, n, next, a), r) =
-          let (k, lo, hi, x) = next-entry (graphOf j) first succ e p q n next in
+          let (k, lo, hi, x) = next-edge (graphOf j) first succ e p q n next in
           let w : has u (bitAt q i) ≡ true = gathered .new q i few (p, omega (arith, same-code), (k, lo, hi, (omega (arith, x, same-code), sym x, a))) in
           both q m ∙ ap₂ (λ (x y : Bool). x && y) w (regions q m ∙ is-true _ r)
 

@@ -8,9 +8,8 @@ use lib.ListN.{length, getD}
 use lib.Bits.{bitAnd}
 use Rattle.nll_spec.specs.Syntax.{Point}
 use Rattle.bit_set.specs.Bits.{has}
-use Rattle.graph.specs.Tables.{rowStart, rowEnd}
+use Rattle.graph.specs.Tables.{rowStart, rowEnd, upTo}
 use Rattle.flow.specs.Flows.{bitAt}
-use Rattle.flow.specs.Running.{upTo}
 
 -- The words ws became ws′: number i came to the set of point p where F p i says so, and nowhere else.
 pub record Gains (F : Point → ℕ → Type 0) (ws ws′ : List ℕ) : Type 0 where

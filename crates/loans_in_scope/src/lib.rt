@@ -2,6 +2,7 @@
 // The points that follow point p are succ[first[p]..first[p + 1]]. Region r's set starts at word r * width.
 use env::prefixes::is_prefix;
 use flow::Direction;
+use graph::tables::up_to;
 use loans::Loan;
 use loans::loan_at;
 use record::Head;
@@ -19,7 +20,6 @@ ghost use Rattle.nll_spec.specs.Graph.{graphOf, actionAt};
 ghost use Rattle.nll_spec.specs.Loans.{overwritten};
 ghost use Rattle.record.specs.Layout.{Layout};
 ghost use Rattle.record.specs.declared.Head as heads;
-ghost use Rattle.flow.specs.Running.{upTo};
 ghost use Rattle.loans.specs.Loans.{loanOf};
 ghost use Rattle.loans_in_scope.specs.Gains.{Gains, tables, Sized, Filled, Cell, If, always, Onto, Row, Rows, Masked};
 ghost use Rattle.loans_in_scope.specs.Scope.{overwrittenBy, pathsOf, killed, bitsOf, insideOf, PointFilled, PointsFilled, ScopeSays};
@@ -40,17 +40,6 @@ fn wide8(x: u8) -> usize
     ensures { λ r. ⌜ (r ≡ x) × (r ≤ 255) ⌝ }
 {
     x as usize
-}
-
-// e, or the size of the table of successors where that is less.
-fn up_to(e: u16) -> usize
-    ensures { λ r. ⌜ (r ≡ upTo e) × (r ≤ 1536) ⌝ }
-{
-    let k = wide(e);
-    if k < 1536 {
-        return k;
-    }
-    1536
 }
 
 fn overwrites(a: Action) -> Overwritten

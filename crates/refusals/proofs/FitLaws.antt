@@ -39,12 +39,12 @@ use Rattle.record.specs.Rows.{Stands}
 use Rattle.record.specs.Layout.{Layout}
 use Rattle.record.specs.Access.{Declared}
 use Rattle.record.specs.declared.Head.{Head}
-use Rattle.ty.proofs.SpellLaws.{clash, carry, then}
+use Rattle.ty.proofs.SpellLaws.{clash, carry}
+use Rattle.ty.proofs.ItemLaws.{first-of, items-length}
 use Rattle.refusals.specs.Fits.{ParamsAt, Within, TypeFit, ArgumentsFit}
 use Rattle.refusals.specs.declared.fits.Params.{Params}
 use Rattle.refusals.proofs.WalkLaws as walks
 use Rattle.refusals.proofs.WalkLaws.{fewer-still, rest-fewer}
-use Rattle.refusals.proofs.RowLaws.{first-of}
 
 -- ---- A row, by number
 
@@ -63,14 +63,6 @@ item-at m n (suc k) bs x h e =
     let w = first-of m n bs (omega arith) e in
     let v = item-at m (n - 1) k (w .mid) x (omega arith) (w .reads) in
     record { before = w .item ∷ v .before; mid = v .mid; over = v .over; first = step m _ bs (w .first) ∙ step (items k m) _ (w .mid) (v .first); item = v .item ∙ ap (λ ys. read (getD ys (suc k) x) (v .over)) (sym (w .same)) }
-
-items-length : {A : Type 0} (m : Reader A) (n : ℕ) (bs : List ℕ) {xs : List A} {end : List ℕ} → items n m bs ≡ read xs end → length xs ≡ n
-unfolding items done
-items-length m zero bs e = carry (λ ys o. length ys ≡ 0) e refl
-items-length m (suc n) bs e =
-    let w = then m _ bs e in
-    let v = then (items n m) _ (w .mid) (w .last) in
-    carry (λ ys o. length ys ≡ suc n) (v .last) (ap suc (items-length m n (w .mid) (v .first)))
 
 -- ---- A bound
 

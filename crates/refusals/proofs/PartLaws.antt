@@ -4,7 +4,6 @@ use mathlib.Core.Bool.{Bool, true, false, _&&_, not}
 use mathlib.Core.List.{List, [], _∷_, _++_}
 use Prim.Native.Nat.{ℕ, zero, suc, _+_, _-_, _≤_, _<_}
 use native.Mathlib.Omega.{arith}
-use native.Mathlib.Numerals.{sub-one}
 use native.Mathlib.Decide.{decLt}
 use lib.ListN.{length, take, drop}
 use lib.Dec.{ltb, leb}
@@ -37,7 +36,8 @@ use Rattle.repr.specs.declared.BlockStep.the-variants as blockStep
 use Rattle.repr.proofs.ReadLaws.{told, step, bytes-at, bytes-short}
 use Rattle.record.specs.Layout.{Layout}
 use Rattle.record.specs.declared.Head.{Head}
-use Rattle.ty.proofs.SpellLaws.{clash, carry, then}
+use Rattle.ty.proofs.SpellLaws.{clash, carry, then, byte-read}
+use Rattle.ty.proofs.ItemLaws.{byte-none, take-first}
 use Rattle.refusals.specs.Tests.{Sized, pass, passSays, Passes, Tested, allBelow, ownNamed, blockNamed, blocksNamed}
 
 -- ---- What was read
@@ -91,20 +91,6 @@ module _ (j : Job) (n : ℕ) (t : Ty) where
 pub record Below (limit : ℕ) (all s : List ℕ) (at left : ℕ) : Type 0 where
   pub same : allBelow limit all ≡ allBelow limit (take left (drop at s))
 
-byte-is : {x : ℕ} {over : List ℕ} (bs : List ℕ) → byte bs ≡ read x over → bs ≡ x ∷ over
-unfolding byte
-byte-is [] e = absurd (clash e)
-byte-is (y ∷ ys) e = cc
-
-byte-none : {k : ℕ} (bs : List ℕ) → byte bs ≡ refused k → bs ≡ []
-unfolding byte
-byte-none [] e = refl
-byte-none (y ∷ ys) e = absurd (clash (sym e))
-
-take-first : (n x : ℕ) (bs : List ℕ) → (n ≡ 0 → ⊥) → take n (x ∷ bs) ≡ x ∷ take (n - 1) bs
-take-first zero x bs z = absurd (z refl)
-take-first (suc n) x bs z = rw (sub-one (suc n))
-
 below-nothing : (limit n : ℕ) → allBelow limit (take n []) ≡ true
 below-nothing limit zero = refl
 below-nothing limit (suc n) = refl
@@ -122,7 +108,7 @@ module _ {limit : ℕ} {all s : List ℕ} {at left : ℕ} (g : Below limit all s
 
     module _ {x : ℕ} {c : Cursor} (e : d ≡ byteStep.Byte x c) (z : left ≡ 0 → ⊥) where
       first : allBelow limit all ≡ ltb x limit && allBelow limit (take (left - 1) (rest s c))
-      first = rw (g .same, byte-is (drop at s) (told (byteSays s) m e), take-first left x (rest s c) z)
+      first = rw (g .same, byte-read (drop at s) (told (byteSays s) m e), take-first left x (rest s c) z)
 
       pub below-fails : limit ≤ x → false ≡ allBelow limit all
       below-fails h = rw (first, le-ltb x limit h)

@@ -1,15 +1,15 @@
 -- Items in a row, tested one by one: a row that a cursor goes along, and a row of the table. Assumes nothing.
 use mathlib.Core.Path.{_≡_, refl, sym, ap, _∙_}
 use mathlib.Core.Bool.{Bool, true, false, _&&_}
-use mathlib.Core.List.{List, [], _∷_}
-use Prim.Native.Nat.{ℕ, zero, suc, _+_, _-_, _≤_, _<_}
+use mathlib.Core.List.{List, []}
+use Prim.Native.Nat.{ℕ, suc, _+_, _-_, _≤_, _<_}
 use native.Mathlib.Omega.{arith}
-use native.Mathlib.Numerals.{add-one, sub-one}
+use native.Mathlib.Numerals.{add-one}
 use lib.ListN.{length, getD, drop, drop-of-length-le}
 use lib.Seq.{drop-cons}
 use Rattle.nll_spec.specs.Lists.{every}
 use Rattle.nll_spec.specs.Syntax.{UnitTy, Field, StructDecl, Job}
-use Rattle.nll_spec.specs.Decode.{read, Reader, done, byte, items, counted, maxOutlived, field, type, block}
+use Rattle.nll_spec.specs.Decode.{read, Reader, byte, items, counted, maxOutlived, field, type, block}
 use Rattle.repr.specs.declared.Cursor.{Cursor}
 use Rattle.repr.specs.declared.StructDecl as declared
 use Rattle.repr.specs.declared.EndStep.{EndStep}
@@ -19,7 +19,7 @@ use Rattle.record.specs.Layout.{Layout}
 use Rattle.record.specs.Access.{entryIn, Declared}
 use Rattle.record.specs.declared.Head.{Head}
 use Rattle.record.proofs.AccessLaws.{outlives-at, variable-at, block-at}
-use Rattle.ty.proofs.SpellLaws.{carry, then}
+use Rattle.ty.proofs.ItemLaws.{first-of, none-of}
 use Rattle.refusals.specs.Tests.{Sized, over, fails, pass, passSays, isEnded, Passes, Tested}
 
 -- ---- What the answer tells of the test
@@ -45,27 +45,6 @@ only-test {f = f} {s = s} {d = d} {r = r} v i = record { says = λ x bs e. i ∙
     go (Refused k) z bs e = sym (told-fails z bs e)
 
 -- ---- A row that a cursor goes along
-
--- the first of n items, and the others
-pub record FirstOf {A : Type 0} (m : Reader A) (n : ℕ) (bs : List ℕ) (xs : List A) (end : List ℕ) : Type 0 where
-  pub item : A
-  pub others : List A
-  pub mid : List ℕ
-  pub same : xs ≡ item ∷ others
-  pub first : m bs ≡ read item mid
-  pub reads : items (n - 1) m mid ≡ read others end
-
-pub first-of : {A : Type 0} (m : Reader A) (n : ℕ) (bs : List ℕ) {xs : List A} {end : List ℕ} → (n ≡ 0 → ⊥) → items n m bs ≡ read xs end → FirstOf m n bs xs end
-unfolding items done
-first-of m zero bs z e = absurd (z refl)
-first-of m (suc n) bs z e =
-    let w = then m _ bs e in
-    let v = then (items n m) _ (w .mid) (w .last) in
-    carry (λ ys o. FirstOf m (suc n) bs ys o) (v .last) (record { item = w .got; others = v .got; mid = w .mid; same = refl; first = w .first; reads = rw (sub-one (suc n)) (v .first) })
-
-none-of : {A : Type 0} (m : Reader A) (n : ℕ) (bs : List ℕ) {xs : List A} {end : List ℕ} → n ≡ 0 → items n m bs ≡ read xs end → (xs ≡ []) × (bs ≡ end)
-unfolding items done
-none-of m n bs z e = carry (λ ys o. (ys ≡ []) × (bs ≡ o)) (rw z at e) (refl, refl)
 
 -- Items that are still to be read, and the test of all is that of these.
 pub record ToGo {A : Type 0} (m : Reader A) (f : A → Bool) (bs : List ℕ) (left : ℕ) (all : Bool) (end : List ℕ) : Type 0 where

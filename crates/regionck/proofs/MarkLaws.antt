@@ -10,7 +10,7 @@ use lib.Seq.{getD-set-same, getD-set-other}
 use lib.Dec.{eqb}
 use borrow.Author.Tests.{eq-eqb, ne-eqb}
 use Rattle.nll_spec.specs.Syntax.{RegionName}
-use Rattle.infer.specs.Search.{Marked}
+use Rattle.graph.specs.Search.{Marked}
 use Rattle.regionck.specs.Rounds.{Cleared, Noted}
 
 pub cleared-none : (marks : List ℕ) → length marks ≡ 128 → Cleared marks 0

@@ -17,7 +17,8 @@ use Rattle.bit_set.specs.Rows.{Says}
 use Rattle.record.specs.Layout.{Layout}
 use Rattle.record.specs.declared.Head.{Head}
 use Rattle.graph.specs.Tables.{Edges}
-use Rattle.infer.specs.Search.{Marked, ruleOf}
+use Rattle.graph.specs.Search.{Marked}
+use Rattle.infer.specs.Search.{ruleOf}
 use Rattle.infer.specs.Ran.{Setting, Words, Given, Ran}
 use Rattle.infer.specs.declared.EndRule as declared
 use Rattle.infer.specs.declared.Shape.{Shape}

@@ -1,11 +1,10 @@
--- Items in a row, the first and the others; numbers put into words one after the other. Assumes nothing.
+-- Numbers put into words one after the other. Assumes nothing.
 use mathlib.Core.Path.{_≡_, refl, sym, ap, ap₂, _∙_}
 use mathlib.Core.Bool.{Bool, _||_, or-assoc, or-true, or-false}
 use mathlib.Core.List.{List, [], _∷_, _++_}
-use Prim.Native.Nat.{ℕ, zero, suc, _+_, _-_, _*_, _/_, _<_}
+use Prim.Native.Nat.{ℕ, _+_, _-_, _*_, _/_, _<_}
 use native.Mathlib.Omega.{arith}
 use native.Mathlib.Decide.{ℕ-discrete}
-use native.Mathlib.Numerals.{sub-one}
 use lib.ListN.{length, drop}
 use lib.Dec.{eqb}
 use borrow.Author.Tests.{eq-eqb, ne-eqb}
@@ -13,37 +12,14 @@ use Rattle.nll_spec.specs.Lists.{any, contains}
 use Rattle.nll_spec.specs.Output.{wordBits}
 use Rattle.bit_set.specs.Bits.{has, withBit}
 use Rattle.bit_set.proofs.BitLaws.{length-with, has-with, has-with-other}
-use Rattle.nll_spec.specs.Decode.{read, Reader, done, byte, items}
+use Rattle.nll_spec.specs.Decode.{read, byte, items}
 use Rattle.repr.specs.Reading.{byteSays}
 use Rattle.repr.specs.declared.ByteStep.{ByteStep}
 use Rattle.repr.specs.declared.ByteStep.the-variants as byteStep
 use Rattle.repr.specs.declared.Cursor.{Cursor}
 use Rattle.record.specs.Rows.{Stands}
-use Rattle.ty.proofs.SpellLaws.{carry, then}
+use Rattle.ty.proofs.ItemLaws.{first-of, none-of}
 use Rattle.seeds.specs.Chosen.{addAll}
-
--- ---- Items in a row
-
-pub none-of : {A : Type 0} (m : Reader A) {n : ℕ} {bs : List ℕ} {xs : List A} → n ≡ 0 → Stands (items n m) xs bs → xs ≡ []
-unfolding items done
-none-of {A} m z p = carry (λ (ys : List A) o. ys ≡ []) (rw z at (p .reads)) refl
-
--- the first of n items, and the others
-pub record FirstOf {A : Type 0} (m : Reader A) (n : ℕ) (bs : List ℕ) (xs : List A) : Type 0 where
-  pub item : A
-  pub others : List A
-  pub mid : List ℕ
-  pub same : xs ≡ item ∷ others
-  pub first : m bs ≡ read item mid
-  pub stand : Stands (items (n - 1) m) others mid
-
-pub first-of : {A : Type 0} (m : Reader A) (n : ℕ) (bs : List ℕ) {xs : List A} → (n ≡ 0 → ⊥) → Stands (items n m) xs bs → FirstOf m n bs xs
-unfolding items done
-first-of m zero bs z p = absurd (z refl)
-first-of {A} m (suc n) bs z p =
-    let w = then m _ bs (p .reads) in
-    let v = then (items n m) _ (w .mid) (w .last) in
-    carry (λ (ys : List A) o. FirstOf m (suc n) bs ys) (v .last) (record { item = w .got; others = v .got; mid = w .mid; same = refl; first = w .first; stand = record { over = v .mid; reads = rw (sub-one (suc n)) (v .first) } })
 
 -- ---- Numbers that are put in
 
@@ -98,22 +74,22 @@ adding-start s from n r ws = record { goes = λ xs p. record { others = xs; stan
 
 module _ {s : List ℕ} {from n r : ℕ} {before : List ℕ} {at left : ℕ} {ws : List ℕ} (g : Adding s from n r before at left ws) where
   pub adding-end : left ≡ 0 → (xs : List ℕ) → Stands (items n byte) xs (drop from s) → ws ≡ addAll before r xs
-  adding-end z xs p = let w = g .goes xs p in sym (w .same ∙ ap (addAll ws r) (none-of byte z (w .stand)))
+  adding-end z xs p = let w = g .goes xs p in sym (w .same ∙ ap (addAll ws r) (none-of byte left (drop at s) z (w .stand .reads) .0))
 
   module _ {d : ByteStep} (z : left ≡ 0 → ⊥) (m : byteSays s d ≡ byte (drop at s)) where
     pub adding-stop : {k : ℕ} → d ≡ byteStep.Refused k → (xs : List ℕ) → Stands (items n byte) xs (drop from s) → ws ≡ addAll before r xs
     adding-stop e xs p =
         let w = g .goes xs p in
-        let u = first-of byte left (drop at s) z (w .stand) in
+        let u = first-of byte left (drop at s) z (w .stand .reads) in
         absurd (let f = sym (ap (byteSays s) e) ∙ m ∙ u .first in let q : _≡_ {A = ℕ} 0 1 = cc in omega arith)
 
     pub adding-more : {x y : ℕ} {c : Cursor} {vs : List ℕ} → d ≡ byteStep.Byte x c → y ≡ x → vs ≡ withBit ws (wordBits * r + y) → Adding s from n r before (c .at) (left - 1) vs
     adding-more {x} {y} {c} {vs} e i q = record {
       goes = λ xs p.
           let w = g .goes xs p in
-          let u = first-of byte left (drop at s) z (w .stand) in
+          let u = first-of byte left (drop at s) z (w .stand .reads) in
           let f : read x (drop (c .at) s) ≡ read (u .item) (u .mid) = sym (ap (byteSays s) e) ∙ m ∙ u .first in
           let a : x ≡ u .item = cc in
           let b : drop (c .at) s ≡ u .mid = cc in
-          record { others = u .others; stand = rw b (u .stand); same = w .same ∙ ap (addAll ws r) (u .same) ∙ rw (q, i, a) };
+          record { others = u .others; stand = record { over = w .stand .over; reads = rw b (u .reads) }; same = w .same ∙ ap (addAll ws r) (u .same) ∙ rw (q, i, a) };
     }

@@ -31,6 +31,7 @@ use Rattle.record.specs.Access.{Declared}
 use Rattle.record.specs.declared.Head.{Head}
 use Rattle.ty.specs.Stands.{TypeTo, ArgsTo}
 use Rattle.ty.proofs.SpellLaws.{carry, then}
+use Rattle.ty.proofs.ItemLaws.{first-of, none-of}
 use Rattle.ty.proofs.StandLaws.{NodeIs, LeafIs, node-is, ArgumentIs, argument-is, none-is, type-bytes}
 use Rattle.ty.proofs.ShapeLaws.{type-nodes}
 use Rattle.seeds.specs.declared.Which.{Which}
@@ -38,7 +39,7 @@ use Rattle.seeds.specs.declared.Which.the-variants.{Every, Dropped, Noth
 use Rattle.seeds.specs.declared.Rest.{Rest}
 use Rattle.seeds.specs.declared.First.{First}
 use Rattle.seeds.specs.Chosen.{addAll, inRef, inArgument, chosenRegion, chosen, chosenArgs, FirstIs, TypeAdds, ArgumentsAdd}
-use Rattle.seeds.proofs.AddLaws.{none-of, first-of, add-append}
+use Rattle.seeds.proofs.AddLaws.{add-append}
 
 -- ---- What is taken of each node
 
@@ -99,20 +100,20 @@ chosen-type Nothing ss ds t g = refl
 module _ (s : List ℕ) (declared : Cursor) (n : ℕ) where
   pub first-none : (c : Cursor) → n ≡ 0 → (ds : List Param) → Stands (items n param) ds (rest s declared) → FirstIs s ds (record { dangles = false; count = 0; declared = c })
   unfolding items done
-  first-none c z ds p = let e = none-of param z p in record { dangles = rw e; others = record { over = rest s c; reads = rw e } }
+  first-none c z ds p = let e = none-of param n (rest s declared) z (p .reads) .0 in record { dangles = rw e; others = record { over = rest s c; reads = rw e } }
 
   module _ {d : ParameterStep} (m : parameterSays s d ≡ param (rest s declared)) (z : n ≡ 0 → ⊥) where
     pub first-refused : {k : ℕ} (r : First) → d ≡ parameterStep.Refused k → (ds : List Param) → Stands (items n param) ds (rest s declared) → FirstIs s ds r
-    first-refused r e ds p = let w = first-of param n (rest s declared) z p in absurd (let f = sym (ap (parameterSays s) e) ∙ m ∙ w .first in let q : _≡_ {A = ℕ} 0 1 = cc in omega arith)
+    first-refused r e ds p = let w = first-of param n (rest s declared) z (p .reads) in absurd (let f = sym (ap (parameterSays s) e) ∙ m ∙ w .first in let q : _≡_ {A = ℕ} 0 1 = cc in omega arith)
 
     pub first-is : {p : StructParameter} {c : Cursor} → d ≡ parameterStep.Parameter p c → (ds : List Param) → Stands (items n param) ds (rest s declared)
         → FirstIs s ds (record { dangles = p .«may_dangle»; count = n - 1; declared = c })
     first-is {p} {c} e ds q =
-        let w = first-of param n (rest s declared) z q in
+        let w = first-of param n (rest s declared) z (q .reads) in
         let f = sym (ap (parameterSays s) e) ∙ m ∙ w .first in
         carry (λ (x : Param) o. (item : Param) (others : List Param) → ds ≡ item ∷ others → x ≡ item → Stands (items (n - 1) param) others o → FirstIs s ds (record { dangles = p .«may_dangle»; count = n - 1; declared = c })) f
         (λ item others i k l. record { dangles = rw i (ap (λ (x : Param). x .mayDangle) k); others = rw i l })
-        (w .item) (w .others) (w .same) refl (w .stand)
+        (w .item) (w .others) (w .same) refl (record { over = q .over; reads = w .reads })
 
 -- ---- The nodes of parts
 

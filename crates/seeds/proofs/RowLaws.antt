@@ -1,9 +1,9 @@
 -- Points that are put into rows of words, step by step. Assumes nothing.
 use mathlib.Core.Path.{_≡_, refl, sym, ap, ap₂, subst, _∙_}
-use mathlib.Core.Logic.{_⊎_, inl, inr, ⊎-elim}
+use mathlib.Core.Logic.{_⊎_, inr, ⊎-elim}
 use mathlib.Core.Bool.{Bool, true, false, _&&_, _||_, cond, or-false, or-assoc}
 use mathlib.Core.List.{List}
-use Prim.Native.Nat.{ℕ, suc, _+_, _-_, _*_, _/_, _≤_, _<_}
+use Prim.Native.Nat.{ℕ, _+_, _-_, _*_, _/_, _≤_, _<_}
 use native.Mathlib.Nat.{suc-mul, mul-le-mul-right}
 use native.Mathlib.Omega.{arith}
 use native.Mathlib.Decide.{ℕ-discrete, decLt}
@@ -15,6 +15,7 @@ use Rattle.nll_spec.specs.Output.{wordBits}
 use Rattle.bit_set.specs.Bits.{has, withBit, joined}
 use Rattle.bit_set.proofs.BitLaws.{length-with}
 use Rattle.bit_set.proofs.SetLaws.{length-joined, joined-outside, has-joined, has-joined-other}
+use Rattle.bit_set.proofs.TableLaws.{outside}
 use Rattle.record.specs.declared.Head.{Head}
 use Rattle.seeds.specs.Seeded.{Room, Adds, lent, ended, endSeed, declaredSeed, spreads}
 use Rattle.seeds.proofs.AddLaws.{has-one}
@@ -31,14 +32,6 @@ row-fits r w hr hw = omega (arith, mul-le-mul-right w hr)
 -- row r's words are among those of n rows
 row-inside : (w n r : ℕ) → r < n → r * w + w ≤ n * w
 row-inside w n r h = omega (arith, mul-le-mul-right w h, suc-mul r w)
-
--- a point of another row lies outside row r's words
-outside : (w r k p : ℕ) → (k ≡ r → ⊥) → p < wordBits * w → (wordBits * (k * w) + p < wordBits * (r * w)) ⊎ (wordBits * (r * w + w) ≤ wordBits * (k * w) + p)
-outside w r k p ne h = go (decLt k r)
-  where
-    go : Dec (k < r) → (wordBits * (k * w) + p < wordBits * (r * w)) ⊎ (wordBits * (r * w + w) ≤ wordBits * (k * w) + p)
-    go (yes l) = inl (omega (arith, mul-le-mul-right w l, suc-mul k w))
-    go (no m) = let l : suc r ≤ k = omega (arith, m, ne) in inr (omega (arith, mul-le-mul-right w l, suc-mul r w))
 
 -- ---- Steps
 

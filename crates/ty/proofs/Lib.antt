@@ -1,4 +1,5 @@
 pub mod SpellLaws
+pub mod ItemLaws
 pub mod StandLaws
 pub mod ShapeLaws
 pub mod PutLaws

@@ -39,7 +39,7 @@ then {A} {B} m f bs {y} {over} e = go (m bs) refl e
 
 -- ---- Items that hold no other
 
-byte-read : {b : ℕ} {over : List ℕ} (bs : List ℕ) → byte bs ≡ read b over → bs ≡ b ∷ over
+pub byte-read : {b : ℕ} {over : List ℕ} (bs : List ℕ) → byte bs ≡ read b over → bs ≡ b ∷ over
 unfolding byte
 byte-read [] e = absurd (clash e)
 byte-read (c ∷ cs) e = cc

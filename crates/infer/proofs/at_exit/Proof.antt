@@ -2,7 +2,8 @@
 use Prim.Native.Nat.{_-_, _≤_}
 use mathlib.Core.Path.{_≡_}
 use native.Mathlib.Omega.{arith}
-use Rattle.infer.specs.Search.{isMarked, anyLeaf}
+use Rattle.graph.specs.Search.{isMarked}
+use Rattle.infer.specs.Search.{anyLeaf}
 use Rattle.infer.proofs.EndLaws.{any-none, any-more}
 use borrow.Author.Needs.{needs}
 use Rattle.infer.proofs.at_exit.Statement.{statement}

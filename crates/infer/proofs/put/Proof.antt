@@ -10,7 +10,8 @@ use borrow.Author.Tests.{ne-eqb, eq-eqb}
 use Rattle.nll_spec.specs.Output.{wordBits}
 use Rattle.bit_set.specs.Bits.{withBit, isNew}
 use Rattle.bit_set.proofs.BitLaws.{length-with}
-use Rattle.infer.specs.Search.{isMarked, putAll, grown}
+use Rattle.graph.specs.Search.{isMarked}
+use Rattle.infer.specs.Search.{putAll, grown}
 use Rattle.infer.proofs.PutLaws.{put-none, put-yes, put-no, grown-yes, grown-no}
 use borrow.Author.Needs.{needs}
 use Rattle.infer.proofs.put.Statement.{statement}

@@ -3,8 +3,11 @@ use Prim.Native.Nat.{_-_, _<_}
 use mathlib.Core.Path.{_≡_}
 use native.Mathlib.Omega.{arith}
 use lib.ListN.{replicate, length-replicate}
-use Rattle.infer.specs.Search.{inCode, Edge, state, row, Marked}
-use Rattle.infer.proofs.SearchLaws.{Searching, work, Turn, begin, turn, finish, mark-new, reach-held, code-small}
+use Rattle.graph.specs.Search.{Marked, state}
+use Rattle.graph.specs.Tables.{Edge}
+use Rattle.infer.specs.Search.{inCode, row}
+use Rattle.graph.proofs.SearchLaws.{mark-new, work}
+use Rattle.infer.proofs.SearchLaws.{Searching, Turn, begin, turn, finish, reach-held, code-small}
 use borrow.Author.Needs.{needs}
 use Rattle.infer.proofs.reach.Statement.{statement}
 use Rattle.infer.proofs.reach.Tie as tie

@@ -1,8 +1,9 @@
 -- `infer::visit`: each return is a way that a visit goes. The stack has a place, since the point had no mark. Assumes nothing.
 use borrow.Author.Tests.{not-true, not-false}
 use native.Mathlib.Omega.{arith}
-use Rattle.infer.specs.Search.{state}
-use Rattle.infer.proofs.SearchLaws.{zeros-mark, visit-far, visit-seen, visit-out, visit-new}
+use Rattle.graph.specs.Search.{state}
+use Rattle.graph.proofs.SearchLaws.{zeros-mark}
+use Rattle.infer.proofs.SearchLaws.{visit-far, visit-seen, visit-out, visit-new}
 use borrow.Author.Needs.{needs}
 use Rattle.infer.proofs.visit.Statement.{statement}
 use Rattle.infer.proofs.visit.Tie as tie

@@ -3,7 +3,8 @@ use Prim.Native.Nat.{_-_, _≤_}
 use mathlib.Core.Path.{_≡_, sym, ap, _∙_, subst}
 use native.Mathlib.Omega.{arith}
 use lib.ListN.{getD}
-use Rattle.infer.specs.Search.{inCode, State, state, visited, nexts, Roomy}
+use Rattle.graph.specs.Search.{State, state}
+use Rattle.infer.specs.Search.{inCode, visited, nexts, Roomy}
 use Rattle.infer.proofs.SearchLaws.{visited-roomy, nexts-none, nexts-more, code-below}
 use borrow.Author.Needs.{needs}
 use Rattle.infer.proofs.visit_next.Statement.{statement}

@@ -1,0 +1,5 @@
+pub mod ReadLaws
+pub mod WriteLaws
+pub mod PlaceLaws
+pub mod AnswerLaws
+pub mod ListingLaws

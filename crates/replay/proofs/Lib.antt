@@ -1,0 +1,4 @@
+pub mod SameLaws
+pub mod FileLaws
+pub mod AgreeLaws
+pub mod RunLaws
