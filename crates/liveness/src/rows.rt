@@ -11,7 +11,7 @@ fn column(sets: &[u32; 4096], p: usize, from: usize, many: usize, rows: &mut [u3
 {
     let mut v = 0;
     while v < many {
-        if bit_set::test(sets, 4 * p, from + v) {
+        if bit_slice::is_set(sets, 4 * p, from + v) {
             bit_set::add(rows, 32 * v, p);
         }
         v += 1;

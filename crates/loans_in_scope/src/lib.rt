@@ -201,7 +201,7 @@ fn onto(code: usize, from: &[u32; 4096], p: usize, q: u16, scope: &mut [u32; 409
     if code <= at {
         return;
     }
-    bit_set::union_from(scope, 4 * at, from, 4 * p, 4);
+    bit_slice::insert_bits_from_slice(scope, 4 * at, from, 4 * p, 4);
 }
 
 // The same for each point that follows p.

@@ -11,22 +11,22 @@ returns : tie.Need-returns
 returns c = let a = c .before .before .args in
     rw (← (c .before .wide .ensures)) (gains-out (a .scope .now) (a .from .now) (a .code) (a .p) _ (c .if1 .taken))
 
-mul-union-from : tie.Need-mul-union-from
-mul-union-from c = search needs
+mul-insert-bits-from-slice : tie.Need-mul-insert-bits-from-slice
+mul-insert-bits-from-slice c = search needs
 
-mul-union-from-2 : tie.Need-mul-union-from-2
-mul-union-from-2 c = search needs
+mul-insert-bits-from-slice-2 : tie.Need-mul-insert-bits-from-slice-2
+mul-insert-bits-from-slice-2 c = search needs
 
-union-from-requires : tie.Need-union-from-requires
-union-from-requires c κs = search needs
+insert-bits-from-slice-requires : tie.Need-insert-bits-from-slice-requires
+insert-bits-from-slice-requires c κs = search needs
 
 returns-2 : tie.Need-returns-2
 returns-2 c = let a = c .before .before .before .before .before .args in
     let r = c .before .before .before .before .before .pre in
-    rw (← (c .before .before .before .before .wide .ensures), c .union-from .ensures .0)
+    rw (← (c .before .before .before .before .wide .ensures), c .insert-bits-from-slice .ensures .0)
     (gains-joined (a .scope .now) (a .from .now) (a .code) (a .p) _ (r .3) (r .1) (r .0) (r .2) (c .before .before .before .if1 .left))
 
 pub onto-spec : {M : Type 1} → statement M
 onto-spec =
     tie.close
-    (tie.spec wide-requires returns mul-union-from mul-union-from-2 union-from-requires returns-2)
+    (tie.spec wide-requires returns mul-insert-bits-from-slice mul-insert-bits-from-slice-2 insert-bits-from-slice-requires returns-2)

@@ -18,14 +18,14 @@ abbrev μ-loop : tie.MeasureT-loop
 loop-holds : tie.Need-loop-holds Inv-loop μ-loop
 loop-holds c = let a = c .args in (omega arith, column-none (a .from) (a .p) (a .sets .now) (a .rows .now) (c .pre .3))
 
-mul-test : tie.Need-mul-test Inv-loop μ-loop
-mul-test c = search needs
+mul-is-set : tie.Need-mul-is-set Inv-loop μ-loop
+mul-is-set c = search needs
 
-add-test : tie.Need-add-test Inv-loop μ-loop
-add-test c = search needs
+add-is-set : tie.Need-add-is-set Inv-loop μ-loop
+add-is-set c = search needs
 
-test-requires : tie.Need-test-requires Inv-loop μ-loop
-test-requires c κs = search needs
+is-set-requires : tie.Need-is-set-requires Inv-loop μ-loop
+is-set-requires c κs = search needs
 
 mul-add : tie.Need-mul-add Inv-loop μ-loop
 mul-add c = search needs
@@ -42,7 +42,7 @@ loop-less c = search needs
 loop-again : tie.Need-loop-again Inv-loop μ-loop
 loop-again c = let a = c .before .before .before .before .before .args in
     let l = c .before .before .before .before .loop in
-    let t = c .before .test in (
+    let t = c .before .is-set in (
       omega arith,
       ⊎-elim
           (λ w. column-held (a .from) (a .p) (a .sets .now) (a .rows .now) (l .inv .1) (t .ensures) (w .0 .taken) (omega arith) (c .before .before .before .before .before .pre .0) (w .3 ∙ w .2 .ensures .0))
@@ -60,9 +60,9 @@ column-spec =
     Inv-loop
     μ-loop
     loop-holds
-    mul-test
-    add-test
-    test-requires
+    mul-is-set
+    add-is-set
+    is-set-requires
     mul-add
     add-requires
     add-v

@@ -1,0 +1,2 @@
+pub mod LentLaws
+mod Cited
