@@ -1,4 +1,8 @@
 -- Laws of verdicts.
+pub mod Walk
+pub mod LentArray
+pub mod SearchValues
 pub mod SearchLaws
+pub mod ScopeLaws
 pub mod FaultLaws
 pub mod WriteLaws

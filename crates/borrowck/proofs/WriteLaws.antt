@@ -1,6 +1,6 @@
 -- The bytes of the verdicts, point by point. Assumes nothing.
 use mathlib.Core.Path.{_≡_, refl, sym, ap, subst, _∙_}
-use mathlib.Core.List.{List, [], _∷_, _++_, map, append-assoc}
+use mathlib.Core.List.{List, [], _∷_, _++_, map, map-append, append-assoc}
 use Prim.Native.Nat.{ℕ, zero, suc, _+_, _-_, _*_, _≤_, _<_}
 use native.Mathlib.Omega.{arith}
 use lib.ListN.{length, getD, set, drop, length-append, length-set, List·getD-eq-default}
@@ -40,10 +40,6 @@ module _ {s layout : List ℕ} {h : Head} {table : List ℕ} {count : ℕ} {scop
   judged-there l f = record { says = λ j t z b. let i : p < codeCount (j .blocks) = omega (arith, same, z .code) in f h j t z i (b i) }
 
 -- ---- Two bytes more
-
-map-append : {A B : Type 0} (f : A → B) (xs ys : List A) → map f (xs ++ ys) ≡ map f xs ++ map f ys
-map-append f [] ys = refl
-map-append f (x ∷ xs) ys = ap (λ l. f x ∷ l) (map-append f xs ys)
 
 bytes-more : (v : Point → Verdict) (n : ℕ) → bytesTo v (n + 1) ≡ bytesTo v n ++ (v n .kind ∷ v n .operand ∷ [])
 bytes-more v n =

@@ -1,6 +1,6 @@
 -- Faults, as `nll_spec` has the verdicts.
 use mathlib.Core.Path.{_≡_}
-use mathlib.Core.Bool.{Bool, cond}
+use mathlib.Core.Bool.{Bool, true, false, cond}
 use mathlib.Core.List.{List, [], _∷_, map}
 use Prim.Native.Nat.{ℕ, _+_, _*_, _<_}
 use lib.ListN.{drop}
@@ -10,8 +10,9 @@ use Rattle.nll_spec.specs.Syntax as syntax
 use Rattle.nll_spec.specs.Syntax.{Point, Path, Job}
 use Rattle.nll_spec.specs.Decode.{read, items, path, codeCount}
 use Rattle.nll_spec.specs.Graph.{graphOf}
+use Rattle.nll_spec.specs.Loans as spec
 use Rattle.nll_spec.specs.Loans.{loansOf}
-use Rattle.nll_spec.specs.Access.{Access, Read, MutBorrow, accesses, Verdict, firstFault, inScopeAt, verdictAt}
+use Rattle.nll_spec.specs.Access.{Access, Read, MutBorrow, accesses, Verdict, firstFault, verdictAt}
 use Rattle.repr.specs.Reading.{pathOf}
 use Rattle.repr.specs.Parts.{actionSays}
 use Rattle.repr.specs.declared.Cursor.{Cursor}
@@ -19,12 +20,15 @@ use Rattle.repr.specs.declared.BorrowKind.{BorrowKind}
 use Rattle.repr.specs.declared.BorrowKind.the-variants.{Mut, Shared}
 use Rattle.repr.specs.declared.Path as repr
 use Rattle.repr.specs.declared.Action.{Action}
+use Rattle.repr.specs.declared.Action.the-variants as action
 use Rattle.repr.specs.declared.ActionStep.the-variants as actionStep
 use Rattle.record.specs.Layout.{Layout}
 use Rattle.record.specs.declared.Head.{Head}
 use Rattle.bit_set.specs.Bits.{has}
 use Rattle.loans.specs.Loans.{LoansAt}
+use Rattle.loans.specs.declared.Loan.{Loan}
 use Rattle.borrowck.specs.Search.{meets}
+use Rattle.borrowck.specs.Scope.{Lent}
 use Rattle.borrowck.specs.declared.Depth.{Depth}
 use Rattle.borrowck.specs.declared.Mode.{Mode}
 use Rattle.borrowck.specs.declared.Fault.{Fault}
@@ -40,14 +44,14 @@ pub record Scoped (s : List ℕ) (j : Job) (table : List ℕ) (count : ℕ) (sco
   pub loans : LoansAt s j table count
   pub bits : (i : ℕ) → i < count → has scope (128 * p + i) ≡ holds t i p
 
-module _ (s table : List ℕ) (count : ℕ) (scope : List ℕ) (p : Point) where
-  -- The answer is whether a loan in scope conflicts with an access to the path.
+module _ (s : List ℕ) (loans : List Loan) where
+  -- The answer is whether one of the loans conflicts with an access to the path.
   pub record Meets (depth : Depth) (mode : Mode) (q : repr.Path) (r : Bool) : Type 0 where
-    pub says : (j : Job) (t : Table) → Scoped s j table count scope p t → r ≡ any (meets j depth mode (pathOf s q)) (inScopeAt t (loansOf (graphOf j)) p)
+    pub says : (j : Job) (xs : List spec.Loan) → Lent s j loans xs → r ≡ any (meets j depth mode (pathOf s q)) xs
 
   -- The answer is the first fault of these accesses, the first of which is operand i.
-  pub record Checked (i : ℕ) (xs : List Access) (r : Fault) : Type 0 where
-    pub says : (j : Job) (t : Table) → Scoped s j table count scope p t → verdictOf r ≡ firstFault j (inScopeAt t (loansOf (graphOf j)) p) i xs
+  pub record Checked (i : ℕ) (accs : List Access) (r : Fault) : Type 0 where
+    pub says : (j : Job) (xs : List spec.Loan) → Lent s j loans xs → verdictOf r ≡ firstFault j xs i accs
 
   -- The answer is the first fault of the paths that are read there.
   pub record SourcesChecked (from many : ℕ) (r : Fault) : Type 0 where
@@ -56,6 +60,16 @@ module _ (s table : List ℕ) (count : ℕ) (scope : List ℕ) (p : Point) where
   -- The answer is the first fault of the action.
   pub record ActionChecked (a : Action) (next : Cursor) (r : Fault) : Type 0 where
     pub says : (x : syntax.Action) (over : List ℕ) → actionSays s (actionStep.Action a next) ≡ read x over → Checked 0 (accesses x) r
+
+abbrev pub hasOperand : Action → Bool
+hasOperand action.Noop = false
+hasOperand (action.Init d n) = true
+hasOperand (action.Borrow d r k q) = true
+hasOperand (action.Assign d q) = true
+hasOperand (action.Constraint sup sub) = false
+hasOperand (action.Use q) = true
+hasOperand (action.Drop q) = true
+hasOperand (action.StorageDead v) = true
 
 -- what a Borrow does to its source
 abbrev pub sourceAccess : BorrowKind → Path → Access

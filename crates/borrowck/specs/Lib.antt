@@ -1,3 +1,4 @@
 -- Accesses, conflicts and verdicts.
 pub mod Search
+pub mod Scope
 pub mod Faults

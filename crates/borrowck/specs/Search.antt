@@ -1,20 +1,21 @@
--- The search for a loan in scope that conflicts with an access.
+-- The search for a loan that conflicts with an access.
 use mathlib.Core.Path.{_≡_}
 use mathlib.Core.Bool.{Bool, true, false, _&&_, _||_}
 use mathlib.Core.List.{List}
-use Prim.Native.Nat.{ℕ, _+_, _*_, _≤_, _<_}
+use Prim.Native.Nat.{ℕ, _≤_, _<_}
+use lib.ListN.{length, getD}
 use lib.Dec.{eqb}
-use Rattle.nll_spec.specs.Syntax.{Point, BorrowKind, Path, Job}
+use Rattle.nll_spec.specs.Syntax.{BorrowKind, Path, Job}
 use Rattle.nll_spec.specs.Syntax as syntax
 use Rattle.nll_spec.specs.Types.{isPrefix, isSupporting, isFrozen, sameKind}
-use Rattle.nll_spec.specs.Graph.{graphOf}
 use Rattle.nll_spec.specs.Loans as spec
-use Rattle.nll_spec.specs.Loans.{loansOf, loanNumber}
-use Rattle.nll_spec.specs.Output.{wordBits}
 use Rattle.repr.specs.Reading.{borrowKindOf, pathOf}
+use Rattle.repr.specs.declared.BorrowKind.the-variants as kinds
 use Rattle.repr.specs.declared.Path as repr
-use Rattle.bit_set.specs.Bits.{has}
+use Rattle.env.specs.Prefixes.{ShortestOf}
+use Rattle.loans.specs.Loans.{loanOf}
 use Rattle.loans.specs.declared.Loan.{Loan}
+use Rattle.borrowck.specs.declared.Access.{Access}
 use Rattle.borrowck.specs.declared.Depth.{Depth}
 use Rattle.borrowck.specs.declared.Depth.the-variants.{Shallow, Deep}
 use Rattle.borrowck.specs.declared.Mode.{Mode}
@@ -46,31 +47,41 @@ lentAt j s loan q k = eqb k (loan .path .steps) && isPrefix j (pathOf s (loan .p
 abbrev pub ownAt : Job → List ℕ → Depth → Loan → repr.Path → ℕ → Bool
 ownAt j s depth loan q k = eqb k (q .steps) && near j depth (pathOf s q) (pathOf s (loan .path))
 
+-- The answer is whether one of the two prefixes of k steps conflicts.
+pub record Touches (s : List ℕ) (loan : Loan) (x : Access) (k : ℕ) (r : Bool) : Type 0 where
+  pub says : (j : Job) → ShortestOf j (pathOf s (loan .path)) (loan .shortest) → r ≡ lentAt j s loan (x .path) k || ownAt j s (x .depth) loan (x .path) k
+
 -- How many prefixes are to be looked at.
-pub record Prefixes (mode : Mode) (loan : Loan) (q : repr.Path) (n : ℕ) : Type 0 where
-  pub none : counts mode (borrowKindOf (loan .kind)) ≡ false → n ≡ 0
-  pub some : 0 < n → counts mode (borrowKindOf (loan .kind)) ≡ true
-  pub lent : counts mode (borrowKindOf (loan .kind)) ≡ true → loan .path .steps < n
-  pub own : counts mode (borrowKindOf (loan .kind)) ≡ true → q .steps < n
+pub record Prefixes (loan : Loan) (x : Access) (n : ℕ) : Type 0 where
+  pub none : counts (x .mode) (borrowKindOf (loan .kind)) ≡ false → n ≡ 0
+  pub some : 0 < n → counts (x .mode) (borrowKindOf (loan .kind)) ≡ true
+  pub lent : counts (x .mode) (borrowKindOf (loan .kind)) ≡ true → loan .path .steps < n
+  pub own : counts (x .mode) (borrowKindOf (loan .kind)) ≡ true → x .path .steps < n
   pub few : n ≤ 256
 
 -- ---- All loans
-
--- the first number from i on that is in the set that starts at word `start`, or else n
-pub record NextIs (words : List ℕ) (start i n r : ℕ) : Type 0 where
-  pub most : r ≤ n
-  pub past : i ≤ n → i ≤ r
-  pub here : r < n → has words (wordBits * start + r) ≡ true
-  pub before : (k : ℕ) → i ≤ k → k < r → has words (wordBits * start + k) ≡ false
-
--- loan i is in scope at p and conflicts with an access to the path
-abbrev pub hit : Job → List ℕ → Point → Depth → Mode → Path → ℕ → Bool
-hit j scope p depth mode q i = has scope (128 * p + i) && meets j depth mode q (loanNumber (loansOf (graphOf j)) i)
 
 -- the first number below n that passes the test, or nothing
 abbrev pub FirstIs : (ℕ → Bool) → ℕ → Found → Type 0
 FirstIs f n (At i) = (i < n) × (f i ≡ true) × ((k : ℕ) → k < i → f k ≡ false)
 FirstIs f n Nothing = (k : ℕ) → k < n → f k ≡ false
 
-pub record FoundSays (f : ℕ → Bool) (n : ℕ) (r : Found) : Type 0 where
-  pub says : FirstIs f n r
+-- what is read past the end of a list of loans
+abbrev pub noLoan : Loan
+noLoan =
+    record {
+      point = 0;
+      region = record { 0 = 0 };
+      kind = kinds.Mut;
+      path = record { base = record { 0 = 0 }; steps = 0; from = record { at = 0 } };
+      shortest = record { supporting = 0; frozen = 0 };
+    }
+
+-- loan number i of a list
+abbrev pub nthLoan : List Loan → ℕ → Loan
+nthLoan loans i = getD loans i noLoan
+
+-- The answer is the first of the loans that conflicts with the access, where each loan's shortest prefixes are known.
+pub record FoundIn (s : List ℕ) (x : Access) (loans : List Loan) (r : Found) : Type 0 where
+  pub says : (j : Job) → ((i : ℕ) → i < length loans → ShortestOf j (pathOf s (nthLoan loans i .path)) (nthLoan loans i .shortest))
+      → FirstIs (λ i. meets j (x .depth) (x .mode) (pathOf s (x .path)) (loanOf s (nthLoan loans i))) (length loans) r

@@ -1,11 +1,16 @@
 // The verdict at each point: the first operand whose access conflicts with a loan in scope.
 mod checks;
+mod scope;
 mod search;
 
 use checks::check_action;
+use checks::has_operand;
 use record::Head;
 use record::access::action_at;
 use repr::ActionStep;
+use repr::Path;
+use scope::in_scope;
+use scope::some_in_scope;
 ghost use mathlib.Core.Path.{_≡_};
 ghost use Prim.Native.Nat.{_*_, _+_, _<_, _≤_};
 ghost use lib.ListN.{length};
@@ -31,6 +36,13 @@ pub enum Depth {
 pub enum Mode {
     Read,
     Write,
+}
+
+// What is done to a path: how far it reaches, whether it reads or writes.
+pub struct Access {
+    pub depth: Depth,
+    pub mode: Mode,
+    pub path: Path,
 }
 
 // The first loan that conflicts, if one does.
@@ -73,12 +85,18 @@ pub fn verdict(
         kind: 0,
         operand: 0,
     };
-    if 1024 <= p {
-        return none;
-    }
     match action_at(s, layout, p) {
         ActionStep::Refused(_) => none,
-        ActionStep::Action(a, next) => check_action(s, table, count, scope, p, a, next),
+        ActionStep::Action(a, next) => {
+            if !has_operand(a) {
+                return none;
+            }
+            if !some_in_scope(count, scope, p) {
+                return none;
+            }
+            let lent = in_scope(table, count, scope, p);
+            check_action(s, lent, a, next)
+        }
     }
 }
 

@@ -1,4 +1,5 @@
-// The search for a loan in scope that conflicts with an access.
+// The search for a loan that conflicts with an access.
+use super::Access;
 use super::Depth;
 use super::Found;
 use super::Mode;
@@ -7,17 +8,15 @@ use env::prefixes::is_frozen;
 use env::prefixes::is_prefix;
 use env::prefixes::is_supporting;
 use loans::Loan;
-use loans::loan_at;
 use repr::BorrowKind;
 use repr::Path;
 ghost use mathlib.Core.Path.{_≡_};
-ghost use Prim.Native.Nat.{_*_, _+_, _<_};
-ghost use lib.ListN.{length};
+ghost use Prim.Native.Nat.{_≤_};
+ghost use lib.ListN.{take};
 ghost use Rattle.nll_spec.specs.Syntax.{Job};
 ghost use Rattle.repr.specs.Reading.{borrowKindOf, pathOf};
 ghost use Rattle.env.specs.Prefixes.{ShortestOf};
-ghost use Rattle.loans.specs.Loans.{LoansAt};
-ghost use Rattle.borrowck.specs.Search.{counts, near, lentAt, ownAt, Prefixes, NextIs, hit, FoundSays};
+ghost use Rattle.borrowck.specs.Search.{counts, near, lentAt, ownAt, Touches, Prefixes, FoundIn};
 
 // Whether an access minds a loan of this kind: reading minds Mut loans only.
 fn minds(mode: Mode, kind: BorrowKind) -> bool
@@ -65,64 +64,57 @@ fn is_own(s: &[u8], depth: Depth, loan: Loan, path: Path, k: usize) -> bool
     leads_to(s, depth, path, loan)
 }
 
-// How many prefixes the longer of the two paths has; none where the access does not mind the loan.
-fn prefixes(mode: Mode, loan: Loan, path: Path) -> usize
-    ensures { λ r. ⌜ Prefixes mode loan path r ⌝ }
+// Whether the prefix of k steps of the path is the loan's, or that of the loan's path is the path and leads to the loan.
+fn touches(s: &[u8], loan: Loan, access: Access, k: usize) -> bool
+    ensures { λ r. ⌜ Touches (now (s .entry)) loan access k r ⌝ }
 {
+    let depth = access.depth;
+    let path = access.path;
+    is_lent(s, loan, path, k) | is_own(s, depth, loan, path, k)
+}
+
+// How many prefixes the longer of the two paths has; none where the access does not mind the loan.
+fn prefixes(loan: Loan, access: Access) -> usize
+    ensures { λ r. ⌜ Prefixes loan access r ⌝ }
+{
+    let mode = access.mode;
     let kind = loan.kind;
     if !minds(mode, kind) {
         return 0;
     }
     let lent = loan.path;
+    let path = access.path;
     let m = wide(lent.steps);
     let n = wide(path.steps);
     if m < n { n + 1 } else { m + 1 }
 }
 
-// The first loan from i on that is in scope, or else the number of loans.
-fn next_in_scope(scope: &[u32; 4096], start: usize, i: usize, count: usize) -> usize
-    ensures { λ r. ⌜ NextIs (now (scope .entry)) start i count r ⌝ }
+// The first of the loans that conflicts with the access.
+pub fn search(s: &[u8], loans: &[Loan], access: Access) -> Found
+    ensures { λ r. ⌜ FoundIn (now (s .entry)) access (now (loans .entry)) r ⌝ }
 {
-    let mut k = i;
-    while k < count {
-        if bit_set::test(scope, start, k) {
-            return k;
-        }
-        k += 1;
-    }
-    count
-}
-
-// The first loan in scope at point p that conflicts with an access to the path.
-pub fn search(
-    s: &[u8],
-    table: &[u16; 1024],
-    count: usize,
-    scope: &[u32; 4096],
-    p: usize,
-    depth: Depth,
-    mode: Mode,
-    path: Path,
-) -> Found
-    requires { ⌜ (length (now table) ≡ 1024) × (p < 1024) ⌝ }
-    ensures { λ r. ⌜ ((j : Job) → LoansAt (now (s .entry)) j (now (table .entry)) count → FoundSays (hit j (now (scope .entry)) p depth mode (pathOf (now (s .entry)) path)) count r) ⌝ }
-{
-    let start = 4 * p;
-    let mut i = next_in_scope(scope, start, 0, count);
-    let found = 'search: loop {
-        if count <= i {
+    let mut i = 0;
+    'search: loop {
+        if loans.len() <= i {
             break 'search Found::Nothing;
         }
-        let loan = loan_at(table, i);
-        let many = prefixes(mode, loan, path);
+        let loan = loans[i];
+        let many = prefixes(loan, access);
         let mut k = 0;
         while k < many {
-            if is_lent(s, loan, path, k) | is_own(s, depth, loan, path, k) {
+            if touches(s, loan, access, k) {
                 break 'search Found::At(i);
             }
             k += 1;
         }
-        i = next_in_scope(scope, start, i + 1, count);
-    };
-    found
+        i += 1;
+    }
+}
+
+// The bridge from an array by value: its callers have plain values only.
+pub fn search_in(s: &[u8], loans: [Loan; 128], n: usize, access: Access) -> Found
+    requires { ⌜ n ≤ 128 ⌝ }
+    ensures { λ r. ⌜ FoundIn (now (s .entry)) access (take n loans) r ⌝ }
+{
+    search(s, &loans[..n], access)
 }

@@ -1,15 +1,16 @@
 -- `borrowck::checks::check_sources` meets its contract. Assumes nothing.
 use borrow.Author.Needs.{needs}
 use native.Mathlib.Omega.{arith}
+use Rattle.borrowck.specs.Scope.{loansIn}
 use Rattle.borrowck.proofs.FaultLaws.{Sourcing, sourcing-all, sources-refused, sources-stop, sourcing-more, sources-end}
 use Rattle.borrowck.proofs.checks.check_sources.Statement.{statement}
 use Rattle.borrowck.proofs.checks.check_sources.Tie as tie
 
 abbrev Inv-loop : tie.InvT-loop
-Inv-loop s table count scope p many none c₀ left₀ c left = Sourcing s table count scope p (c₀ .at) many (c .at) left
+Inv-loop s lent many none c₀ left₀ c left = Sourcing s (loansIn lent) (c₀ .at) many (c .at) left
 
 abbrev μ-loop : tie.MeasureT-loop
-μ-loop s table count scope p many none c₀ left₀ c left = left
+μ-loop s lent many none c₀ left₀ c left = left
 
 loop-holds : tie.Need-loop-holds Inv-loop μ-loop
 loop-holds c = sourcing-all

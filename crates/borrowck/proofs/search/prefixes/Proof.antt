@@ -10,7 +10,7 @@ minds-requires : tie.Need-minds-requires
 minds-requires c κs = search needs
 
 returns : tie.Need-returns
-returns c = prefixes-none _ _ _ (c .before .minds .ensures) (not-true _ (c .if1 .taken))
+returns c = prefixes-none _ _ (c .before .minds .ensures) (not-true _ (c .if1 .taken))
 
 wide-requires : tie.Need-wide-requires
 wide-requires c κs = search needs
@@ -25,10 +25,10 @@ add-result-2 : tie.Need-add-result-2
 add-result-2 c = search needs
 
 returns-2 : tie.Need-returns-2
-returns-2 c = let a = c .before .before .wide .ensures in let b = c .before .wide2 .ensures in prefixes-some _ _ _ (c .before .before .before .before .before .minds .ensures) (not-false _ (c .before .before .before .before .if1 .left)) (omega arith) (omega arith) (omega arith)
+returns-2 c = let a = c .before .before .wide .ensures in let b = c .before .wide2 .ensures in prefixes-some _ _ (c .before .before .before .before .before .before .minds .ensures) (not-false _ (c .before .before .before .before .before .if1 .left)) (omega arith) (omega arith) (omega arith)
 
 returns-3 : tie.Need-returns-3
-returns-3 c = let a = c .before .before .wide .ensures in let b = c .before .wide2 .ensures in prefixes-some _ _ _ (c .before .before .before .before .before .minds .ensures) (not-false _ (c .before .before .before .before .if1 .left)) (omega arith) (omega arith) (omega arith)
+returns-3 c = let a = c .before .before .wide .ensures in let b = c .before .wide2 .ensures in prefixes-some _ _ (c .before .before .before .before .before .before .minds .ensures) (not-false _ (c .before .before .before .before .before .if1 .left)) (omega arith) (omega arith) (omega arith)
 
 pub prefixes-spec : {M : Type 1} → statement M
 prefixes-spec =
