@@ -9,6 +9,7 @@ pub mod paths;
 pub mod rng;
 pub mod short;
 pub mod types;
+pub mod worst;
 
 use rng::Rng;
 

@@ -37,11 +37,36 @@ pub enum Failure {
 
 /// What the original says of a record, its blocks visited in the order given.
 pub fn analyse(record: &[u8], order: Order) -> Result<Answer, Failure> {
-    let text: String = record.iter().map(|byte| format!("{:02x}", byte)).collect();
-    let func = repr::Func::parse(&text).map_err(Failure::Unread)?;
+    let parsed = parse(&text_of(record))?;
     let regions = record[4] as usize;
     order::ask(order);
-    caught(|| answer(func, regions)).map_err(Failure::Panicked)
+    caught(|| answer(parsed.func, regions)).map_err(Failure::Panicked)
+}
+
+/// A record as the text that the parser's stand-in reads.
+pub fn text_of(record: &[u8]) -> String {
+    record.iter().map(|byte| format!("{:02x}", byte)).collect()
+}
+
+/// A function that was read, for `check`.
+pub struct Parsed {
+    func: repr::Func,
+}
+
+/// Reads the text of a record.
+pub fn parse(text: &str) -> Result<Parsed, Failure> {
+    repr::Func::parse(text).map(|func| Parsed { func: func }).map_err(Failure::Unread)
+}
+
+/// The original's own code alone, from the function to the last error that it reports; its answer is dropped. For the benchmark.
+pub fn check(parsed: Parsed, order: Order) -> Result<(), Failure> {
+    order::ask(order);
+    let run = || {
+        let graph = FuncGraph::new(parsed.func);
+        let env = Environment::new(&graph);
+        regionck::checked(&env);
+    };
+    caught(run).map_err(Failure::Panicked)
 }
 
 fn answer(func: repr::Func, regions: usize) -> Answer {

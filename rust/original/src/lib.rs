@@ -37,5 +37,5 @@ mod regionck {
     }
 }
 
-pub use answer::{analyse, Answer, Failure, Verdict};
+pub use answer::{analyse, check, parse, text_of, Answer, Failure, Parsed, Verdict};
 pub use order::Order;
