@@ -44,7 +44,7 @@ use Rattle.ty.proofs.SpellLaws.{clash, carry, then}
 use Rattle.loans.specs.Loans.{loanOf}
 use Rattle.loans.specs.declared.Loan.{Loan}
 use Rattle.borrowck.specs.Search.{meets, noLoan, nthLoan, FirstIs, FoundIn}
-use Rattle.borrowck.specs.Scope.{loansIn, SomeIn, Gathered, Lent}
+use Rattle.borrowck.specs.Scope.{loansIn, SomeIn, Gathered}
 use Rattle.borrowck.specs.Faults.{verdictOf, faultFor, Scoped, Meets, Checked, SourcesChecked, ActionChecked, sourceAccess, hasOperand}
 use Rattle.borrowck.specs.declared.Access as own
 use Rattle.borrowck.specs.declared.Found.{Found}

@@ -22,10 +22,10 @@ use Rattle.repr.specs.Reading.{pathOf}
 use Rattle.bit_set.specs.Bits.{has}
 use Rattle.env.specs.Prefixes.{ShortestOf}
 use Rattle.loans.specs.Table.{entryOf}
-use Rattle.loans.specs.Loans.{loanOf, LoansAt}
+use Rattle.loans.specs.Loans.{loanOf}
 use Rattle.loans.specs.declared.Loan.{Loan}
 use Rattle.loans.proofs.ListLaws.{count-split, select-append}
-use Rattle.borrowck.specs.Search.{noLoan, nthLoan}
+use Rattle.borrowck.specs.Search.{noLoan}
 use Rattle.borrowck.specs.Scope.{loansIn, isIn, SomeIn, Gathered, Lent}
 use Rattle.borrowck.specs.Faults.{Scoped}
 use Rattle.borrowck.specs.declared.scope.InScope.{InScope}
@@ -127,6 +127,7 @@ module _ {scope : List ℕ} {p : Point} where
 
 -- ---- The loans in scope of a job
 
+-- nothing is selected where nothing passes the test
 select-none : (f : ℕ → Bool) (xs : List ℕ) → any f xs ≡ false → select f xs ≡ []
 select-none f [] e = refl
 select-none f (x ∷ xs) e = go (f x) e (select-none f xs)

@@ -61,6 +61,7 @@ module _ (s : List ℕ) (loans : List Loan) where
   pub record ActionChecked (a : Action) (next : Cursor) (r : Fault) : Type 0 where
     pub says : (x : syntax.Action) (over : List ℕ) → actionSays s (actionStep.Action a next) ≡ read x over → Checked 0 (accesses x) r
 
+-- the action has operands
 abbrev pub hasOperand : Action → Bool
 hasOperand action.Noop = false
 hasOperand (action.Init d n) = true
