@@ -3,5 +3,6 @@ pub mod EndLaws
 pub mod PutLaws
 pub mod TableLaws
 pub mod RanLaws
+pub mod SubsetLaws
 pub mod OneLaws
 pub mod Cases

@@ -22,12 +22,13 @@ use Rattle.nll_spec.proofs.MonotoneLaws.{looser-same}
 use Rattle.bit_set.specs.Bits.{has}
 use Rattle.graph.specs.Search.{Marked}
 use Rattle.graph.specs.Tables.{Edge}
-use Rattle.infer.specs.Search.{ruleOf, Gets, Spread, inBounds, inCode, Reach}
+use Rattle.infer.specs.Search.{ruleOf, Gets, Spread, addsNothing, inBounds, inCode, Reach}
 use Rattle.infer.specs.Ran.{Setting, bitAt, setsOf, Met, Within, AllReady, Ran, Given, Names}
 use Rattle.infer.specs.declared.EndRule as declared
 use Rattle.infer.specs.declared.Shape.{Shape}
 use Rattle.graph.proofs.SearchLaws.{mark-kept, mark-new, mark-old}
 use Rattle.infer.proofs.TableLaws.{leaf-exit, exit-leaf, reach-below, reach-walk, walk-reach}
+use Rattle.infer.proofs.SubsetLaws.{nothing-new}
 use Rattle.infer.proofs.RanLaws.{true-T, bit-region, sets-has, sets-below, has-sets, walk-mono}
 
 -- ---- The bounds
@@ -158,6 +159,15 @@ module _ (s : Setting) (shape : Shape) (rule : declared.EndRule) (first succ ws 
                 (q, back w, exit-leaf (s .graph) first succ (given .edges) q x),
               )));
         }
+
+  -- what it puts into its outer set is there
+  pub ran-nothing : (last : List ℕ) (a b : ℕ) → a ≡ c .sup → b ≡ c .sub
+      → addsNothing (ruleOf rule) ws (shape .width) (shape .code) (shape .points) (a * shape .width) (b * shape .width) ≡ true → Ran s last (c ∷ []) ws grew ws grew
+  ran-nothing last a b ea eb e =
+      let n : addsNothing (s .ends) ws (s .width) (s .graph .code) (s .graph .points) (c .sup * s .width) (c .sub * s .width) ≡ true = rw (ea, eb, given .ends, given .width, given .code, given .points) at e in
+      ran-same s last ws grew c λ ready.
+      inl (met-in ws (λ q h. h)
+      (nothing-new (s .ends) first succ ws (s .width) (s .graph .code) (s .graph .points) (c .sup * s .width) (c .sub * s .width) (c .point) n (given .edges .ordered) (given .wide)))
 
   module _ (last ws′ : List ℕ) (r : Bool) (x : Spread Got (s .graph .points) ws ws′ (c .sup * s .width) r) where
     -- a new point of a set is one that the constraint put into its outer set

@@ -1,14 +1,14 @@
 -- What the search of one constraint computes, from the tables, the words and the marks that it is handed.
 use mathlib.Core.Path.{_≡_}
 use mathlib.Core.Logic.{_⊎_}
-use mathlib.Core.Bool.{Bool, true, false, _&&_, _||_, cond}
+use mathlib.Core.Bool.{Bool, true, false, not, _&&_, _||_, cond}
 use mathlib.Core.List.{List}
 use Prim.Native.Nat.{ℕ, zero, suc, _+_, _-_, _*_, _^_, _≤_, _<_}
 use lib.ListN.{length, getD, set}
 use lib.Dec.{eqb, leb, ltb}
 use Rattle.nll_spec.specs.Regions.{EndRule, everyEnd, heldEnds, passesEnd}
 use Rattle.nll_spec.specs.Output.{wordBits}
-use Rattle.bit_set.specs.Bits.{has, withBit, isNew}
+use Rattle.bit_set.specs.Bits.{has, withBit, isNew, orGrows, bothFit}
 use Rattle.graph.specs.Tables.{rowStart, rowEnd, upTo, Edge}
 use Rattle.graph.specs.Search.{zeros, State, state, Marked, isMarked}
 use Rattle.infer.specs.declared.EndRule as declared
@@ -115,6 +115,25 @@ pub record Spread (A : ℕ → Type 0) (n : ℕ) (ws ws′ : List ℕ) (to : ℕ
   pub only : (j : ℕ) → has ws′ j ≡ true → (has ws j ≡ true) ⊎ ((q : ℕ) × (j ≡ wordBits * to + q) × (q < n) × A q)
   pub same : r ≡ false → (j : ℕ) → has ws′ j ≡ has ws j
   pub grew : r ≡ true → (q : ℕ) × (q < n) × A q × (has ws (wordBits * to + q) ≡ false) × (has ws′ (wordBits * to + q) ≡ true)
+
+-- ---- Nothing is put
+
+-- both runs of n words are among the words, and that from `from` has no number that the run from `to` lacks
+abbrev pub isSubset : List ℕ → ℕ → ℕ → ℕ → Bool
+isSubset ws from to n = bothFit ws to ws from n && not (orGrows ws to ws from n)
+
+-- the set that starts at word `to` has each of the n numbers from a on
+unfoldable pub hasRun : List ℕ → ℕ → ℕ → ℕ → Bool
+hasRun ws to a zero = true
+hasRun ws to a (suc n) = hasRun ws to a n && has ws (wordBits * to + (a + n))
+
+-- it has each end that the end rule passes on whether or not the inner set has it
+abbrev pub hasEnds : EndRule → List ℕ → ℕ → ℕ → ℕ → Bool
+hasEnds rule ws to code points = not (passesEnd rule false) || hasRun ws to code (points - code)
+
+-- the words show that what a constraint puts into the set from word `to` is there, where the inner set starts at word `from`
+abbrev pub addsNothing : EndRule → List ℕ → ℕ → ℕ → ℕ → ℕ → ℕ → Bool
+addsNothing rule ws width code points to from = isSubset ws from to width && hasEnds rule ws to code points
 
 -- ---- The bounds that are tested
 

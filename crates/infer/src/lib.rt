@@ -9,7 +9,7 @@ ghost use Prim.Native.Nat.{_-_, _<_, _≤_};
 ghost use Rattle.nll_spec.specs.Regions.{passesEnd};
 ghost use Rattle.graph.specs.Search.{isMarked, state};
 ghost use Rattle.graph.specs.Tables.{Edge};
-ghost use Rattle.infer.specs.Search.{ruleOf, inCode, Reach, visited, row, Roomy, Marks, anyLeaf, passes, flag, flags, putAll, grown, Gets, Spread, inBounds};
+ghost use Rattle.infer.specs.Search.{ruleOf, inCode, Reach, visited, row, Roomy, Marks, anyLeaf, passes, flag, flags, putAll, grown, Gets, Spread, isSubset, hasEnds, addsNothing, inBounds};
 ghost use Rattle.infer.specs.Ran.{Setting, Given, Names, Ran, constraint, anyMarked};
 
 // A region's number.
@@ -218,6 +218,50 @@ fn spread(
     put(words, to, points, &seen)
 }
 
+// Whether the run of n words from word from has no number that the run from word to lacks. False where a run is not among the words.
+fn is_subset(words: &[u32], from: usize, to: usize, n: usize) -> bool
+    ensures { λ r. ⌜ r ≡ isSubset (now (words .entry)) from to n ⌝ }
+{
+    let count = words.len();
+    if count < n {
+        return false;
+    }
+    let last = count - n;
+    if (last < to) | (last < from) {
+        return false;
+    }
+    let mut lacks = false;
+    for k in 0..n {
+        let w = words[to + k];
+        lacks = lacks | (w != (w | words[from + k]));
+    }
+    !lacks
+}
+
+// Whether the set from word to has each end that the end rule passes on whether or not the inner region holds it.
+fn has_ends(words: &[u32], to: usize, code: usize, points: usize, rule: EndRule) -> bool
+    ensures { λ r. ⌜ r ≡ hasEnds (ruleOf rule) (now (words .entry)) to code points ⌝ }
+{
+    if !passes_end(rule, false) {
+        return true;
+    }
+    let mut held = true;
+    for i in code..points {
+        held = held & bit_set::test(words, to, i);
+    }
+    held
+}
+
+// Whether the words show that no constraint with these sets puts a point into the set from word to, where the inner set starts at word from.
+fn adds_nothing(words: &[u32], shape: Shape, rule: EndRule, to: usize, from: usize) -> bool
+    ensures { λ r. ⌜ r ≡ addsNothing (ruleOf rule) (now (words .entry)) (shape .width) (shape .code) (shape .points) to from ⌝ }
+{
+    if !is_subset(words, from, to, shape.width) {
+        return false;
+    }
+    has_ends(words, to, shape.code, shape.points, rule)
+}
+
 // Whether the numbers are in bounds, so that no sum, product or index below goes wrong.
 fn in_bounds(shape: Shape, s: usize, t: usize, p: usize) -> bool
     ensures { λ r. ⌜ r ≡ inBounds (shape .width) (shape .code) (shape .points) s t p ⌝ }
@@ -231,7 +275,7 @@ fn in_bounds(shape: Shape, s: usize, t: usize, p: usize) -> bool
 }
 
 // Runs the constraint "sup outlives sub at point". It is passed by where neither the last round nor this one marks sub, so that nothing is new in it,
-// and where sub does not hold the point. If the set of sup grows, sup is marked.
+// where sub does not hold the point, and where the words show that it adds nothing. If the set of sup grows, sup is marked.
 pub fn outlives(
     words: &mut [u32],
     first: &[u16; 1025],
@@ -261,6 +305,9 @@ pub fn outlives(
         return;
     }
     let to = s * shape.width;
+    if adds_nothing(words, shape, rule, to, from) {
+        return;
+    }
     if spread(words, first, succ, shape, rule, to, from, point) {
         grew[s] = 1;
     }

@@ -32,7 +32,7 @@ pub fn classes() -> Vec<Class> {
         Class::new("far", || vec![worst::far()]),
         Class::new("live", || vec![worst::live()]),
         Class::new("dense", || of_nodes(dense, &[2, 3, 4, 6, 8])),
-        Class::new("clock", || clocks(&[1, 2, 3])),
+        Class::new("clock", || clocks(&[1, 2, 3].map(|assignments| Clock { ticks: 300, ..Clock::of(assignments) }))),
         Class::new("slow", || of_nodes(slow, &[2])),
     ]
 }
@@ -41,7 +41,7 @@ pub fn classes() -> Vec<Class> {
 pub fn long_classes() -> Vec<Class> {
     vec![
         Class::new("dense, long", || of_nodes(dense, &[16, 32])),
-        Class::new("clock, long", || clocks(&[20, 60])),
+        Class::new("clock, long", || clocks(&[3, 20].map(Clock::of))),
         Class::new("slow, long", || of_nodes(slow, &[3, 8])),
     ]
 }
@@ -59,8 +59,8 @@ fn of_nodes(record: fn(&mut Rng, usize) -> Vec<u8>, nodes: &[usize]) -> Vec<Vec<
     nodes.iter().map(|&nodes| record(&mut Rng::new(1), nodes)).collect()
 }
 
-fn clocks(assignments: &[usize]) -> Vec<Vec<u8>> {
-    assignments.iter().map(|&assignments| worst::clock(&Clock::of(assignments))).collect()
+fn clocks(clocks: &[Clock]) -> Vec<Vec<u8>> {
+    clocks.iter().map(worst::clock).collect()
 }
 
 /// The records that are the most work for the proved call, of those that were found.

@@ -1,6 +1,6 @@
 //! The benchmark. `rust/README.md` has the commands.
 
-use bench::classes::{classes, long_classes, slowest};
+use bench::classes::{classes, long_classes, slowest, Class};
 use bench::measure::proved_seconds;
 use bench::search::climb;
 use bench::table::{print, shown};
@@ -13,6 +13,7 @@ use std::time::{Duration, Instant};
 
 const USAGE: &str = "usage:
   bench                      a table: the original and the proved call on each class of records
+  bench only CLASS           the same on one class
   bench long                 the same on records that take the original minutes
   bench slowest              the proved call alone, on the records that take it longest of those known
   bench search SECONDS SEED  climbs from known records to slower ones, for so long from each
@@ -23,6 +24,7 @@ fn main() {
     let words: Vec<&str> = words.iter().map(String::as_str).collect();
     match words[..] {
         [] => end(print(&classes(), &mut Proved)),
+        ["only", class] => end(print(&[named(class)], &mut Proved)),
         ["long"] => end(print(&long_classes(), &mut Proved)),
         ["slowest"] => print_slowest(),
         ["search", seconds, seed] => search(number(seconds), number(seed)),
@@ -44,6 +46,10 @@ fn number(word: &str) -> u64 {
     word.parse().unwrap_or_else(|_| usage())
 }
 
+fn named(name: &str) -> Class {
+    classes().into_iter().find(|class| class.name == name).unwrap_or_else(|| usage())
+}
+
 fn print_slowest() {
     for (name, record) in slowest() {
         println!("{name}: {} bytes, {}", record.len(), shown(proved_seconds(&record, &mut Proved)));
@@ -51,8 +57,7 @@ fn print_slowest() {
 }
 
 fn call_over_and_over(name: &str, seconds: u64) {
-    let class = classes().into_iter().find(|class| class.name == name).unwrap_or_else(|| usage());
-    let records = class.records();
+    let records = named(name).records();
     let mut lent: Vec<Lent> = records.iter().map(|record| Lent::exact(record)).collect();
     let (mut calls, started) = (0u64, Instant::now());
     while started.elapsed() < Duration::from_secs(seconds) {

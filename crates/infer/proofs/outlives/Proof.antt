@@ -5,7 +5,7 @@ use mathlib.Core.Path.{sym, _∙_}
 use mathlib.Core.Bool.{true, false, true≢false}
 use native.Mathlib.Omega.{arith}
 use Rattle.infer.specs.Ran.{constraint}
-use Rattle.infer.proofs.OneLaws.{Bounds, bounds-in, start-fits, given-bounds, quiet-tests, absent-test, here-test, spread-got, ran-quiet, ran-absent, ran-still, ran-grew}
+use Rattle.infer.proofs.OneLaws.{Bounds, bounds-in, start-fits, given-bounds, quiet-tests, absent-test, here-test, spread-got, ran-quiet, ran-absent, ran-nothing, ran-still, ran-grew}
 use borrow.Author.Needs.{needs}
 use Rattle.infer.proofs.outlives.Statement.{statement}
 use Rattle.infer.proofs.outlives.Tie as tie
@@ -60,40 +60,54 @@ returns-3 c = λ s given names.
 mul-to : tie.Need-mul-to
 mul-to c = let a = c .before .before .before .before .before .before .before .before .before .before .before .before .before .args in omega (arith, start-fits (a .shape .width) (a .shape .code) (a .shape .points) (c .before .before .before .before .before .before .before .before .before .before .before .wide8 .result) (c .before .before .before .before .before .before .before .before .before .before .wide82 .result) (a .point) (bounded (c .before .before .before .before .before .before .before .before)) .0)
 
-spread-requires : tie.Need-spread-requires
-spread-requires c κs = let a = c .before .before .before .before .before .before .before .before .before .before .before .before .before .before .args in
-    let b = bounded (c .before .before .before .before .before .before .before .before .before) in
-    (b .ordered, b .few, here-test (a .words .now) (c .before .before .before .before .before .before .before .before .before .before .before .wide82 .result * a .shape .width) (a .shape .code) (a .point) (c .before .before .before .test .result) (b .point) (c .before .before .before .test .ensures) (not-false _ (c .before .before .if3 .left)))
-
-element-write-grew : tie.Need-element-write-grew
-element-write-grew c = bounded (c .before .before .before .before .before .before .before .before .before .before .before .before .before) .sup
+adds-nothing-requires : tie.Need-adds-nothing-requires
+adds-nothing-requires c κs = search needs
 
 same-length-2 : tie.Need-same-length-2
 same-length-2 c = search needs
 
 returns-4 : tie.Need-returns-4
 returns-4 c = λ s given names.
-    let a = c .before .before .before .before .before .before .before .before .before .before .before .before .before .before .before .before .before .before .args in
-    let ws = a .words .now in
-    let d = constraint (a .sup .0) (a .sub .0) (a .point) in
-    let x = c .before .before .before .spread in
-    rw (c .before .before .before .before .before .before .before .before .before .before .before .before .before .before .before .before .wide8 .ensures)
-    (ran-grew s (a .shape) (a .rule) (a .first .now) (a .succ .now) ws (a .grew .now) given d names (a .last .now) (x .last .0) (x .result)
-    (spread-got s (a .shape) (a .rule) (a .first .now) (a .succ .now) ws (a .grew .now) given d names (c .before .before .before .before .before .before .before .before .before .before .before .before .before .before .before .before .wide8 .result) (c .before .before .before .before .before .before .before .before .before .before .before .before .before .before .before .wide82 .result) (c .before .before .before .before .before .before .before .before .before .before .before .before .before .before .before .before .wide8 .ensures) (c .before .before .before .before .before .before .before .before .before .before .before .before .before .before .before .wide82 .ensures) (x .last .0) (x .result) (x .ensures))
-    (c .if4 .taken))
+    let a = c .before .before .before .before .before .before .before .before .before .before .before .before .before .before .before .before .args in
+    let sup = c .before .before .before .before .before .before .before .before .before .before .before .before .before .before .wide8 in
+    let sub = c .before .before .before .before .before .before .before .before .before .before .before .before .before .wide82 in
+    ran-nothing s (a .shape) (a .rule) (a .first .now) (a .succ .now) (a .words .now) (a .grew .now) given (constraint (a .sup .0) (a .sub .0) (a .point)) names (a .last .now) (sup .result) (sub .result) (sup .ensures) (sub .ensures)
+    (sym (c .before .adds-nothing .ensures) ∙ c .if4 .taken)
+
+spread-requires : tie.Need-spread-requires
+spread-requires c κs = let a = c .before .before .before .before .before .before .before .before .before .before .before .before .before .before .before .before .before .args in
+    let b = bounded (c .before .before .before .before .before .before .before .before .before .before .before .before) in
+    (b .ordered, b .few, here-test (a .words .now) (c .before .before .before .before .before .before .before .before .before .before .before .before .before .before .wide82 .result * a .shape .width) (a .shape .code) (a .point) (c .before .before .before .before .before .before .test .result) (b .point) (c .before .before .before .before .before .before .test .ensures) (not-false _ (c .before .before .before .before .before .if3 .left)))
+
+element-write-grew : tie.Need-element-write-grew
+element-write-grew c = bounded (c .before .before .before .before .before .before .before .before .before .before .before .before .before .before .before .before) .sup
 
 same-length-3 : tie.Need-same-length-3
 same-length-3 c = search needs
 
 returns-5 : tie.Need-returns-5
 returns-5 c = λ s given names.
-    let a = c .before .before .before .before .before .before .before .before .before .before .before .before .before .before .before .before .before .before .args in
+    let a = c .before .before .before .before .before .before .before .before .before .before .before .before .before .before .before .before .before .before .before .before .before .args in
+    let ws = a .words .now in
+    let d = constraint (a .sup .0) (a .sub .0) (a .point) in
+    let x = c .before .before .before .spread in
+    rw (c .before .before .before .before .before .before .before .before .before .before .before .before .before .before .before .before .before .before .before .wide8 .ensures)
+    (ran-grew s (a .shape) (a .rule) (a .first .now) (a .succ .now) ws (a .grew .now) given d names (a .last .now) (x .last .0) (x .result)
+    (spread-got s (a .shape) (a .rule) (a .first .now) (a .succ .now) ws (a .grew .now) given d names (c .before .before .before .before .before .before .before .before .before .before .before .before .before .before .before .before .before .before .before .wide8 .result) (c .before .before .before .before .before .before .before .before .before .before .before .before .before .before .before .before .before .before .wide82 .result) (c .before .before .before .before .before .before .before .before .before .before .before .before .before .before .before .before .before .before .before .wide8 .ensures) (c .before .before .before .before .before .before .before .before .before .before .before .before .before .before .before .before .before .before .wide82 .ensures) (x .last .0) (x .result) (x .ensures))
+    (c .if5 .taken))
+
+same-length-4 : tie.Need-same-length-4
+same-length-4 c = search needs
+
+returns-6 : tie.Need-returns-6
+returns-6 c = λ s given names.
+    let a = c .before .before .before .before .before .before .before .before .before .before .before .before .before .before .before .before .before .before .before .before .before .args in
     let ws = a .words .now in
     let d = constraint (a .sup .0) (a .sub .0) (a .point) in
     let x = c .before .before .before .spread in
     ran-still s (a .shape) (a .rule) (a .first .now) (a .succ .now) ws (a .grew .now) given d names (a .last .now) (x .last .0) (x .result)
-    (spread-got s (a .shape) (a .rule) (a .first .now) (a .succ .now) ws (a .grew .now) given d names (c .before .before .before .before .before .before .before .before .before .before .before .before .before .before .before .before .wide8 .result) (c .before .before .before .before .before .before .before .before .before .before .before .before .before .before .before .wide82 .result) (c .before .before .before .before .before .before .before .before .before .before .before .before .before .before .before .before .wide8 .ensures) (c .before .before .before .before .before .before .before .before .before .before .before .before .before .before .before .wide82 .ensures) (x .last .0) (x .result) (x .ensures))
-    (c .if4 .left)
+    (spread-got s (a .shape) (a .rule) (a .first .now) (a .succ .now) ws (a .grew .now) given d names (c .before .before .before .before .before .before .before .before .before .before .before .before .before .before .before .before .before .before .before .wide8 .result) (c .before .before .before .before .before .before .before .before .before .before .before .before .before .before .before .before .before .before .wide82 .result) (c .before .before .before .before .before .before .before .before .before .before .before .before .before .before .before .before .before .before .before .wide8 .ensures) (c .before .before .before .before .before .before .before .before .before .before .before .before .before .before .before .before .before .before .wide82 .ensures) (x .last .0) (x .result) (x .ensures))
+    (c .if5 .left)
 
 pub outlives-spec : {M : Type 1} → statement M
 outlives-spec =
@@ -111,9 +125,12 @@ outlives-spec =
     same-length
     returns-3
     mul-to
-    spread-requires
-    element-write-grew
+    adds-nothing-requires
     same-length-2
     returns-4
+    spread-requires
+    element-write-grew
     same-length-3
-    returns-5)
+    returns-5
+    same-length-4
+    returns-6)
