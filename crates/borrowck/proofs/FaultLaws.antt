@@ -20,7 +20,7 @@ use Rattle.nll_spec.specs.Loans.{loansOf}
 use Rattle.nll_spec.specs.Access.{Access, Read, Write, MutBorrow, Move, Dead, accesses, intersects, freezes, conflicts, faultKind, Verdict, noFault, firstFault, inScopeAt, verdictAt}
 use Rattle.nll_spec.proofs.Tests.{is-true, is-false}
 use Rattle.nll_spec.proofs.Members.{any-member, any-element, place-member, member-place}
-use Rattle.ty.proofs.ItemLaws.{FirstOf, first-of, none-of}
+use Rattle.repr.proofs.ItemLaws.{FirstOf, first-of, none-of}
 use Rattle.repr.specs.Reading.{rest, pathOf, pathSays}
 use Rattle.repr.specs.Parts.{actionSays}
 use Rattle.repr.specs.declared.Cursor.{Cursor}
@@ -40,7 +40,7 @@ use Rattle.repr.proofs.ReadLaws.{told}
 use Rattle.record.specs.Layout.{Layout}
 use Rattle.record.specs.Access.{Acts}
 use Rattle.record.specs.declared.Head.{Head}
-use Rattle.ty.proofs.SpellLaws.{clash, carry, then}
+use Rattle.repr.proofs.SpellLaws.{clash, carry, then}
 use Rattle.loans.specs.Loans.{loanOf}
 use Rattle.loans.specs.declared.Loan.{Loan}
 use Rattle.borrowck.specs.Search.{meets, noLoan, nthLoan, FirstIs, FoundIn}

@@ -18,10 +18,10 @@ use Rattle.repr.specs.declared.EndStep.the-variants as endStep
 use Rattle.repr.specs.declared.FieldStep.{FieldStep}
 use Rattle.repr.specs.declared.FieldStep.the-variants as fieldStep
 use Rattle.repr.proofs.ReadLaws.{told}
-use Rattle.record.specs.Rows.{Stands}
-use Rattle.ty.proofs.SpellLaws.{clash, carry, then, type-spelt}
-use Rattle.ty.proofs.ItemLaws.{first-of, none-of}
-use Rattle.ty.proofs.StandLaws.{type-stands}
+use Rattle.repr.specs.Stands.{Stands}
+use Rattle.repr.proofs.SpellLaws.{clash, carry, then, type-spelt}
+use Rattle.repr.proofs.ItemLaws.{first-of, none-of}
+use Rattle.repr.proofs.StandLaws.{type-stands}
 use Rattle.env.specs.Fields.{TypeThere}
 
 -- a type that is read has no more nodes than it may have

@@ -36,12 +36,12 @@ use Rattle.record.specs.Layout.{Layout}
 use Rattle.record.specs.Access.{entryIn, Declared}
 use Rattle.record.specs.declared.Head.{Head}
 use Rattle.record.proofs.AccessLaws.{variable-at}
-use Rattle.ty.specs.Stands.{TypeAt}
+use Rattle.repr.specs.Stands.{TypeAt}
 use Rattle.ty.specs.Written.{Stood, StoodBy, WholeSays}
 use Rattle.ty.specs.Written as written
 use Rattle.ty.specs.declared.write.Whole.{Whole}
 use Rattle.ty.specs.declared.write.Whole.the-variants as whole
-use Rattle.ty.proofs.StandLaws.{NodeIs, node-is, type-stands}
+use Rattle.repr.proofs.StandLaws.{NodeIs, node-is, on-node, type-stands}
 use Rattle.env.specs.Fields.{TypeThere, FieldIs, FieldSays}
 use Rattle.env.specs.Prefixes.{kindCode, Leaves}
 use Rattle.env.specs.Paths.{PathResult, PathSays, kindNumber, Named, Noted, small, Moves, FieldStepSays, StepIs, StepSays, BackIs, BackSays, CopyIs, CopiedSays, Stage, Reached, OnwardIs, OnwardSays}
@@ -138,9 +138,6 @@ no-bound : (ss : List StructDecl) (b f : ℕ) → small (stepType ss (BoundTy b)
 unfolding stepType
 no-bound ss b f = refl
 
-is : {from : List ℕ} {at : ℕ} {d x : NodeStep} → NodeSays node from at d → d ≡ x → {u : Ty} (p : TypeAt from at u) → NodeIs from u (p .over) x
-is {from} v e {u} p = transport (λ (y : NodeStep). NodeIs from u (p .over) y) e (node-is v (p .stands))
-
 ref-few : {u x : Ty} {k : BorrowKind} {r : syntax.Region} → u ≡ RefTy k r x → typeNodes u ≤ maxNodes → typeNodes x ≤ maxNodes
 unfolding typeNodes
 ref-few y z = let n = ap typeNodes y in omega arith
@@ -166,12 +163,12 @@ module _ {s t : List ℕ} {h : Head} {from : List ℕ} {at f i : ℕ} {to kinds 
 
   module _ {k : Kind} {r : Region} {c : Cursor} (e : d ≡ nodeStep.Ref k r c) where
     pub step-other : (f ≡ 0 → ⊥) → StepSays s t h from at f i to kinds names kinds names stepped.Refused
-    step-other z = record { says = λ j l u p few. let w = is v e p in ap (λ (x : Ty). small (stepType (j .structs) x f)) (w .same) ∙ ap small (other-step (j .structs) (borrowKindOf k) (regionOf r) (w .referent) f z); kindSize = refl; nameSize = refl }
+    step-other z = record { says = λ j l u p few. let w = on-node v e (p .stands) in ap (λ (x : Ty). small (stepType (j .structs) x f)) (w .same) ∙ ap small (other-step (j .structs) (borrowKindOf k) (regionOf r) (w .referent) f z); kindSize = refl; nameSize = refl }
 
     pub step-star : {kinds′ names′ : List ℕ} {m n : ℕ} → f ≡ 0 → m ≡ kindNumber (borrowKindOf k) → Named (regionOf r) n → (kinds′ ≡ set kinds i m) × (names′ ≡ set names i n) → StepSays s t h from at f i to kinds names kinds′ names′ (stepped.Inside c)
     step-star {m = m} {n = n} z a b o = record {
       says = λ j l u p few.
-          let w = is v e p in
+          let w = on-node v e (p .stands) in
           let q = ref-few (w .same) few in (
             record { type = w .referent; same = ap (λ (x : Ty). stepType (j .structs) x f) (w .same) ∙ star-step (j .structs) (borrowKindOf k) (regionOf r) (w .referent) f z; stands = record { over = p .over; stands = w .stands }; few = q },
             record { kind = o .0 ∙ ap (λ (x : ℕ). set kinds i x) (a ∙ kind-of-ref (borrowKindOf k) (regionOf r) (w .referent) ∙ sym (ap kindCode (w .same))); name = n; named = o .1; same = λ y. rw (w .same) b },
@@ -183,7 +180,7 @@ module _ {s t : List ℕ} {h : Head} {from : List ℕ} {at f i : ℕ} {to kinds 
   pub step-struct : {kinds′ names′ : List ℕ} {name : StructName} {count : ℕ} {c : Cursor} {r : Stepped} → d ≡ nodeStep.Struct name count c → (kinds′ ≡ set kinds i 0) × (names′ ≡ set names i 0) → FieldStepSays s t h (name .0) f from (c .at) count to r → StepSays s t h from at f i to kinds names kinds′ names′ r
   step-struct {r = r} e o m = record {
     says = λ j l u p few.
-        let w = is v e p in
+        let w = on-node v e (p .stands) in
         let q = m .says j l (w .given) (record { over = p .over; stands = w .stands }) (struct-few (w .same) few) in
         noting from to (stepType (j .structs) u f) (record { kind = o .0 ∙ ap (λ (x : Ty). set kinds i (kindCode x)) (sym (w .same)); name = 0; named = o .1; same = λ y. absurd (not-ref (w .same) y) }) r (rw (w .same) q);
     kindSize = ap length (o .0) ∙ length-set kinds i 0;

@@ -190,7 +190,7 @@ shared-kind (RefTy Shared r t) = refl
 shared-kind (StructTy s given) = refl
 shared-kind (BoundTy b) = refl
 
-ref-kind : (t : Ty) → not (isRef t) ≡ notRef (kindCode t)
+pub ref-kind : (t : Ty) → not (isRef t) ≡ notRef (kindCode t)
 ref-kind UnitTy = refl
 ref-kind (RefTy Mut r t) = refl
 ref-kind (RefTy Shared r t) = refl

@@ -18,8 +18,8 @@ use Rattle.record.specs.Rows as rows
 use Rattle.record.specs.Blocks.{Coded}
 use Rattle.record.specs.Blocks as blocks
 use Rattle.record.proofs.LayoutLaws.{count-most}
-use Rattle.ty.proofs.SpellLaws.{clash, carry, then}
-use Rattle.ty.proofs.ItemLaws.{items-length}
+use Rattle.repr.proofs.SpellLaws.{clash, carry, then}
+use Rattle.repr.proofs.ItemLaws.{items-length}
 
 abbrev pub short : Path → Bool
 short q = leb (length (q .steps)) maxSteps

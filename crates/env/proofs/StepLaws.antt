@@ -10,8 +10,8 @@ use Rattle.repr.specs.declared.Cursor.{Cursor}
 use Rattle.repr.specs.declared.ByteStep.{ByteStep}
 use Rattle.repr.specs.declared.ByteStep.the-variants as byteStep
 use Rattle.repr.proofs.ReadLaws.{told}
-use Rattle.ty.proofs.SpellLaws.{byte-read}
-use Rattle.ty.proofs.ItemLaws.{byte-none, take-first}
+use Rattle.repr.proofs.SpellLaws.{byte-read}
+use Rattle.repr.proofs.ItemLaws.{byte-none, take-first}
 
 module _ (s : List ℕ) (at left : ℕ) {d : ByteStep} (m : byteSays s d ≡ byte (drop at s)) where
   -- no step is left

@@ -9,7 +9,7 @@ use Rattle.nll_spec.specs.Decode.{maxNodes}
 use Rattle.nll_spec.specs.Types.{typeNodes, fieldType}
 use Rattle.repr.specs.declared.StructDecl.{StructDecl}
 use Rattle.record.specs.Access.{Declared}
-use Rattle.ty.specs.Stands.{TypeAt}
+use Rattle.repr.specs.Stands.{TypeAt}
 use Rattle.env.specs.declared.fields.FieldType.{FieldType}
 use Rattle.env.specs.declared.fields.FieldType.the-variants.{At, Absent}
 

@@ -14,7 +14,7 @@ use Rattle.repr.specs.Reading.{pathOf}
 use Rattle.repr.specs.declared.Path as repr
 use Rattle.record.specs.Layout.{Layout}
 use Rattle.record.specs.declared.Head.{Head}
-use Rattle.ty.specs.Stands.{TypeAt, ArgsAt}
+use Rattle.repr.specs.Stands.{TypeAt, ArgsAt}
 use Rattle.env.specs.Fields.{TypeThere}
 use Rattle.env.specs.Prefixes.{kindCode, Leaves}
 use Rattle.env.specs.declared.paths.PathType.{PathType}

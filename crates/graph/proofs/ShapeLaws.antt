@@ -1,19 +1,21 @@
 -- What a block that is read says of its counts. Assumes nothing.
-use mathlib.Core.Path.{_≡_, refl, sym, ap, subst, _∙_}
-use mathlib.Core.List.{List, []}
-use Prim.Native.Nat.{ℕ, zero, suc, _-_, _≤_, _<_}
+use mathlib.Core.Path.{_≡_, sym, ap, subst, _∙_}
+use mathlib.Core.List.{List}
+use Prim.Native.Nat.{ℕ, _-_, _≤_, _<_}
 use native.Mathlib.Omega.{arith}
 use lib.ListN.{length, take, drop, length-take, length-drop, drop-of-length-le}
 use lib.Seq.{take-all, take-nil}
 use Rattle.nll_spec.specs.Syntax.{Block, Job}
-use Rattle.nll_spec.specs.Decode.{Reading, refused, read, Reader, done, _>>=_, byte, count, items, counted, action, block, maxSuccessors, maxActions}
+use Rattle.nll_spec.specs.Decode.{read, byte, count, items, counted, action, block, maxSuccessors, maxActions}
 use Rattle.repr.specs.Reading.{rest}
 use Rattle.repr.specs.Parts.{blockOf, blockSays}
 use Rattle.repr.specs.declared.BasicBlockData.{BasicBlockData}
 use Rattle.repr.specs.declared.BlockStep.{BlockStep}
 use Rattle.repr.specs.declared.BlockStep.the-variants as blockStep
 use Rattle.repr.proofs.ReadLaws.{told}
-use Rattle.record.specs.Rows.{Stands}
+use Rattle.repr.proofs.SpellLaws.{clash, done-back, then}
+use Rattle.repr.proofs.ItemLaws.{items-length}
+use Rattle.repr.specs.Stands.{Stands}
 use Rattle.record.specs.Layout.{Layout}
 use Rattle.record.specs.declared.Head.{Head}
 use Rattle.record.proofs.LayoutLaws.{count-most}
@@ -47,59 +49,30 @@ module _ (s : List ℕ) (d : BasicBlockData) {many n : ℕ} (i : many ≡ d .act
   pub listed-whole : d .targets .at < length s → n ≤ length s - d .targets .at → Listed s d (record { actions = many; count = n; from = d .targets .at })
   listed-whole k m = record { fits = record { inside = omega arith; few = h; actions = l }; many = i; row = rw e }
 
--- ---- What a reading that goes on was
-
-clash : {A : Type 0} {a : A} {k : ℕ} {bs : List ℕ} → refused k ≡ read a bs → ⊥
-clash e = let z : _≡_ {A = ℕ} 0 1 = cc in omega arith
-
-pub record Step {A B : Type 0} (m : Reader A) (f : A → Reader B) (bs : List ℕ) (b : B) (over : List ℕ) : Type 0 where
-  pub item : A
-  pub mid : List ℕ
-  pub reads : m bs ≡ read item mid
-  pub on : f item mid ≡ read b over
-
-pub step-back : {A B : Type 0} (m : Reader A) (f : A → Reader B) (bs : List ℕ) {b : B} {over : List ℕ} → _>>=_ m f bs ≡ read b over → Step m f bs b over
-unfolding _>>=_
-step-back {A} {B} m f bs {b} {over} e = go (m bs) refl e
-  where
-    go : (x : Reading A) → m bs ≡ x → elim x as (λ y. Reading B) [ refused n ↦ refused n | read a rest ↦ f a rest ] ≡ read b over → Step m f bs b over
-    go (refused k) i h = absurd (clash h)
-    go (read a rest) i h = record { item = a; mid = rest; reads = i; on = h }
-
-pub done-back : {A : Type 0} (a : A) (bs : List ℕ) {b : A} {over : List ℕ} → done a bs ≡ read b over → a ≡ b
-unfolding done
-done-back a bs e = cc
-
-pub items-length : {A : Type 0} (n : ℕ) (m : Reader A) (bs : List ℕ) {xs : List A} {over : List ℕ} → items n m bs ≡ read xs over → length xs ≡ n
-unfolding items
-items-length zero m bs e = ap length (sym (done-back [] bs e))
-items-length (suc n) m bs e =
-    let x = step-back m _ bs e in
-    let y = step-back (items n m) _ (x .mid) (x .on) in
-    ap length (sym (done-back _ _ (y .on))) ∙ ap suc (items-length n m (x .mid) (y .reads))
+-- ---- A block that was read
 
 -- a block has at most eight successors
 block-few : (bs : List ℕ) {b : Block} {over : List ℕ} → block bs ≡ read b over → length (b .successors) ≤ 8
 unfolding block counted
 block-few bs e =
-    let x = step-back (counted maxSuccessors byte) _ bs e in
-    let y = step-back (counted maxActions action) _ (x .mid) (x .on) in
-    let n = step-back (count 0 maxSuccessors) _ bs (x .reads) in
-    let k = count-most 0 maxSuccessors bs (n .reads) in
-    let l = items-length (n .item) byte (n .mid) (n .on) in
-    let m = ap (λ (d : Block). length (d .successors)) (done-back _ _ (y .on)) in
+    let x = then (counted maxSuccessors byte) _ bs e in
+    let y = then (counted maxActions action) _ (x .mid) (x .last) in
+    let n = then (count 0 maxSuccessors) _ bs (x .first) in
+    let k = count-most 0 maxSuccessors bs (n .first) in
+    let l = items-length byte (n .got) (n .mid) (n .last) in
+    let m = ap (λ (d : Block). length (d .successors)) (done-back _ _ (y .last)) in
     omega arith
 
 module _ (s : List ℕ) (d : BasicBlockData) {b : Block} {over : List ℕ} where
   block-row : blockOf s d ≡ read b over → take (d .successors) (rest s (d .targets)) ≡ b .successors
   unfolding blockOf
-  block-row e = let x = step-back (items (d .actions) action) _ (rest s (d .code)) e in ap (λ (c : Block). c .successors) (done-back _ _ (x .on))
+  block-row e = let x = then (items (d .actions) action) _ (rest s (d .code)) e in ap (λ (c : Block). c .successors) (done-back _ _ (x .last))
 
   block-many : blockOf s d ≡ read b over → d .actions ≡ length (b .actions)
   unfolding blockOf
   block-many e =
-      let x = step-back (items (d .actions) action) _ (rest s (d .code)) e in
-      sym (items-length (d .actions) action (rest s (d .code)) (x .reads)) ∙ ap (λ (c : Block). length (c .actions)) (done-back _ _ (x .on))
+      let x = then (items (d .actions) action) _ (rest s (d .code)) e in
+      sym (items-length action (d .actions) (rest s (d .code)) (x .first)) ∙ ap (λ (c : Block). length (c .actions)) (done-back _ _ (x .last))
 
 -- ---- The answer
 

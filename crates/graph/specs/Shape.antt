@@ -6,7 +6,7 @@ use lib.ListN.{length, take, drop}
 use Rattle.nll_spec.specs.Syntax.{Block}
 use Rattle.nll_spec.specs.Decode.{block}
 use Rattle.repr.specs.declared.BasicBlockData.{BasicBlockData}
-use Rattle.record.specs.Rows.{Stands}
+use Rattle.repr.specs.Stands.{Stands}
 use Rattle.graph.specs.declared.Shape.{Shape}
 
 -- the bytes of a row of successors

@@ -79,13 +79,13 @@ module _ (from x : ℕ) (sets rows : List ℕ) where
 -- ---- All points
 
 module _ (many from : ℕ) (small : many ≤ 64) (walked sets : List ℕ) where
-  pub columns-none : (rows : List ℕ) {u : List ℕ} → length rows ≡ 2048 → u ≡ cleared rows 0 2048 → Columns many 0 from walked sets u
+  pub columns-none : (rows : List ℕ) {u : List ℕ} → length rows ≡ 2048 → u ≡ cleared rows 0 (32 * many) → Columns many 0 from walked sets u
   columns-none rows {u} l e =
       record {
-        size = ap length e ∙ length-cleared rows 0 2048 ∙ l;
+        size = ap length e ∙ length-cleared rows 0 (32 * many) ∙ l;
         bits = λ v p h k.
             let z : wordBits * 0 + rowBit v p ≡ rowBit v p = omega arith in
-            ap (λ (w : List ℕ). has w (rowBit v p)) e ∙ ap (has (cleared rows 0 2048)) (sym z) ∙ has-cleared rows 0 2048 (omega arith) (rowBit v p) (omega arith)
+            ap (λ (w : List ℕ). has w (rowBit v p)) e ∙ ap (has (cleared rows 0 (32 * many))) (sym z) ∙ has-cleared rows 0 (32 * many) (omega arith) (rowBit v p) (omega arith)
             ∙ sym (ap (λ (c : Bool). c && (has walked p && has sets (bitAt p (from + v)))) (le-ltb p 0 (omega arith)));
       }
 

@@ -25,7 +25,7 @@ use Rattle.repr.specs.declared.ActionStep.the-variants as actionStep
 use Rattle.record.specs.Layout.{Layout}
 use Rattle.record.specs.Access.{Acts}
 use Rattle.record.specs.declared.Head.{Head}
-use Rattle.ty.proofs.SpellLaws.{clash}
+use Rattle.repr.proofs.SpellLaws.{clash}
 use Rattle.bit_set.proofs.BitLaws.{digit}
 use Rattle.flow.specs.Flows.{bitAt}
 use Rattle.liveness.specs.Needs.{inEither, neededBy, Added, Removed, Needed, Defined, Filled, Sized, Blank, Acted, AllActed}

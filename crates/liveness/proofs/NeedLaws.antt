@@ -23,8 +23,8 @@ use Rattle.repr.specs.declared.RegionName.{RegionName}
 use Rattle.repr.specs.declared.Variable as variables
 use Rattle.repr.specs.declared.Action.the-variants as actions
 use Rattle.repr.proofs.ReadLaws.{told}
-use Rattle.ty.proofs.SpellLaws.{clash, carry, then}
-use Rattle.ty.proofs.ItemLaws.{FirstOf, first-of, none-of}
+use Rattle.repr.proofs.SpellLaws.{clash, carry, then}
+use Rattle.repr.proofs.ItemLaws.{FirstOf, first-of, none-of}
 use Rattle.liveness.specs.Needs.{inHalf, inEither, neededBy, Added, Removed, Sourced, Needed, Defined}
 use Rattle.liveness.proofs.HalfLaws.{half-append, half-none, added-as, added-none, added-then, removed-none}
 

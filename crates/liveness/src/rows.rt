@@ -30,7 +30,7 @@ pub fn rows(
     requires { ⌜ (code ≤ 1024) × (from ≤ 64) × (many ≤ 64) × (length (now rows) ≡ 2048) ⌝ }
     ensures { λ _. ⌜ Columns many code from (now (walked .entry)) (now (sets .entry)) (now (rows .exit)) ⌝ }
 {
-    bit_set::clear(rows, 0, 2048);
+    bit_set::clear(rows, 0, 32 * many);
     let mut p = 0;
     while p < code {
         if bit_set::test(walked, 0, p) {

@@ -31,7 +31,7 @@ use Rattle.record.specs.Layout.{Layout}
 use Rattle.record.specs.Access.{Acts}
 use Rattle.record.specs.declared.Head.{Head}
 use Rattle.bit_set.specs.Bits.{has}
-use Rattle.ty.proofs.SpellLaws.{clash, carry, then}
+use Rattle.repr.proofs.SpellLaws.{clash, carry, then}
 use Rattle.env.specs.Prefixes.{ShortestOf}
 use Rattle.env.specs.declared.Shortest.{Shortest}
 use Rattle.loans.specs.Table.{Put}

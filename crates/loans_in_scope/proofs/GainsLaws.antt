@@ -235,8 +235,8 @@ module _ (by ws : List ℕ) where
   pub masked-all : {u : List ℕ} (w n : ℕ) → w ≤ n → n ≤ w → Masked by ws w u → Masked by ws n u
   masked-all {u} w n a c x = let e : w ≡ n = omega arith in subst (λ (m : ℕ). Masked by ws m u) e x
 
-  pub masked-has : {u : List ℕ} → Masked by ws 4096 u → (p i : ℕ) → p < 1024 → i < 128 → has u (bitAt p i) ≡ (has ws (bitAt p i) && has by (bitAt p i))
-  masked-has {u} a p i l m =
+  pub masked-has : {u : List ℕ} {n : ℕ} → Masked by ws n u → (p i : ℕ) → 4 * p + 4 ≤ n → i < 128 → has u (bitAt p i) ≡ (has ws (bitAt p i) && has by (bitAt p i))
+  masked-has {u} {n} a p i l m =
       let z : wordBits * (4 * p + i / wordBits) + i % wordBits ≡ bitAt p i = omega arith in
       let b : i % wordBits < wordBits = omega arith in
       let w : ℕ = 4 * p + i / wordBits in

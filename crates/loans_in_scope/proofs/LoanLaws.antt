@@ -32,7 +32,7 @@ use Rattle.repr.proofs.ReadLaws.{told}
 use Rattle.record.specs.Access.{Acts}
 use Rattle.record.specs.Layout.{Layout}
 use Rattle.record.specs.declared.Head.{Head}
-use Rattle.graph.proofs.ShapeLaws.{step-back, done-back}
+use Rattle.repr.proofs.SpellLaws.{done-back, then}
 use Rattle.loans.specs.Loans.{loanOf}
 use Rattle.loans.specs.Table.{entryOf}
 use Rattle.loans.specs.declared.Loan.{Loan}
@@ -53,7 +53,7 @@ same-item e = cc
 overwritten-is : (s : List ℕ) (a : Action) (c : Cursor) {x : syntax.Action} {over : List ℕ} → actionSays s (actionStep.Action a c) ≡ read x over → pathsOf s (overwrittenBy a) ≡ overwritten x
 unfolding overwritten
 overwritten-is s Noop c e = ap overwritten (same-item e)
-overwritten-is s (Init dest n) c e = ap overwritten (done-back _ _ (step-back (items n path) _ (rest s c) e .on))
+overwritten-is s (Init dest n) c e = ap overwritten (done-back _ _ (then (items n path) _ (rest s c) e .last))
 overwritten-is s (Borrow dest r k source) c e = ap overwritten (same-item e)
 overwritten-is s (Assign dest source) c e = ap overwritten (same-item e)
 overwritten-is s (Constraint sup sub) c e = ap overwritten (same-item e)

@@ -3,7 +3,7 @@ use mathlib.Core.Path.{_≡_, refl, sym, ap, ap₂, _∙_, subst}
 use mathlib.Core.Logic.{_⊎_, inl, inr}
 use mathlib.Core.Bool.{Bool, true, false, not, _&&_, true≢false}
 use mathlib.Core.List.{List}
-use Prim.Native.Nat.{ℕ, zero, suc, _+_, _*_, _/_, _%_, _^_, _<_}
+use Prim.Native.Nat.{ℕ, zero, suc, _+_, _*_, _/_, _%_, _^_, _<_, _≤_}
 use native.Mathlib.Nat.{zero-div}
 use native.Mathlib.Omega.{arith}
 use lib.ListN.{length, getD, replicate, length-replicate}
@@ -54,8 +54,8 @@ no-bit p i l e =
 pub sized-zeros : Sized (tables zeros zeros zeros)
 sized-zeros = record { start = length-replicate {A = ℕ} 4096 0; pass = length-replicate {A = ℕ} 4096 0; region = length-replicate {A = ℕ} 4096 0 }
 
-pub cleared-size : (ws : List ℕ) {u : List ℕ} → length ws ≡ 4096 → u ≡ cleared ws 0 4096 → length u ≡ 4096
-cleared-size ws l e = ap length e ∙ length-cleared ws 0 4096 ∙ l
+pub cleared-size : (ws : List ℕ) (n : ℕ) {u : List ℕ} → length ws ≡ 4096 → u ≡ cleared ws 0 n → length u ≡ 4096
+cleared-size ws n l e = ap length e ∙ length-cleared ws 0 n ∙ l
 
 pub gathered-size : {F : Point → ℕ → Type 0} {ws u : List ℕ} → length ws ≡ 4096 → Gains F ws u → length u ≡ 4096
 gathered-size l g = g .as-long ∙ l
@@ -83,9 +83,13 @@ module _ {s t : List ℕ} {h : Head} {first succ words : List ℕ} {width : ℕ}
   pub says-none : {scope : List ℕ} → length scope ≡ 4096 → ((j : Job) (sets : Table) → Given s t h words width table count j sets → ⊥) → ScopeSays s t h first succ words width table count scope
   says-none z n = record { size = z; bits = λ j sets g e p i l m. absurd (n j sets g) }
 
-  module _ {code : ℕ} (is-code : code ≡ h .code) {start pass region leaves none u scope : List ℕ} (filled : PointsFilled s t words width table count code (tables zeros zeros zeros) (tables start pass region))
-      (flows : (g : Graph) → Edges g first succ → code ≡ g .code → FlowSays g Forward pass start leaves) (ws : List ℕ) (size : length ws ≡ 4096) (empty : none ≡ cleared ws 0 4096) (gathered : Gains (Rows leaves code first succ code) none u)
-      (masked : Masked region u 4096 scope) where
+  -- no loan, so that nothing is said of the words
+  pub says-empty : {scope : List ℕ} → length scope ≡ 4096 → count ≡ 0 → ScopeSays s t h first succ words width table count scope
+  says-empty z n = record { size = z; bits = λ j sets g e p i l m. absurd (omega arith) }
+
+  module _ {code : ℕ} (few-points : code ≤ 1024) (is-code : code ≡ h .code) {start pass region leaves none u scope : List ℕ} (filled : PointsFilled s t words width table count code (tables zeros zeros zeros) (tables start pass region))
+      (flows : (g : Graph) → Edges g first succ → code ≡ g .code → FlowSays g Forward pass start leaves) (ws : List ℕ) (size : length ws ≡ 4096) (empty : none ≡ cleared ws 0 (4 * code)) (gathered : Gains (Rows leaves code first succ code) none u)
+      (masked : Masked region u (4 * code) scope) where
     module _ (j : Job) (sets : Table) (g : Given s t h words width table count j sets) (e : Edges (graphOf j) first succ) (i : ℕ) (l : i < count) where
       same-code : code ≡ graphOf j .code
       same-code = is-code ∙ g .layout .code ∙ sym (code-count j)
@@ -111,7 +115,7 @@ module _ {s t : List ℕ} {h : Head} {first succ words : List ℕ} {width : ℕ}
       Reached q = ((p : Point) × (p < graphOf j .code) × Next (graphOf j) p q × (has leaves (bitAt p i) ≡ true)) × T (holds sets (loanNumber (loansOf (graphOf j)) i .region) q)
 
       both : (q : Point) → q < graphOf j .code → has scope (bitAt q i) ≡ (has u (bitAt q i) && has region (bitAt q i))
-      both q m = masked-has region u masked q i (omega (arith, e .ordered, e .few)) few
+      both q m = masked-has region u masked q i (omega (arith, same-code)) few
 
       scoped-to : (q : Point) → q < graphOf j .code → has scope (bitAt q i) ≡ true → Reached q
       scoped-to q m k =
@@ -123,7 +127,7 @@ module _ {s t : List ℕ} {h : Head} {first succ words : List ℕ} {width : ℕ}
           from : (has none (bitAt q i) ≡ true) ⊎ Rows leaves code first succ code q i → (p : Point) × (p < graphOf j .code) × Next (graphOf j) p q × (has leaves (bitAt p i) ≡ true)
           from (inl z) =
               let y : wordBits * 0 + bitAt q i ≡ bitAt q i = omega arith in
-              absurd (true≢false (sym z ∙ ap₂ has empty (sym y) ∙ has-cleared ws 0 4096 (omega arith) (bitAt q i) (omega (arith, e .ordered, e .few, few))))
+              absurd (true≢false (sym z ∙ ap₂ has empty (sym y) ∙ has-cleared ws 0 (4 * code) (omega (arith, few-points, size)) (bitAt q i) (omega (arith, same-code, few))))
           from (inr (p, m, (k, lo, hi, (c, x, a)))) =
               let n : p < graphOf j .code = omega (arith, same-code) in
               (p, n, edge-next (graphOf j) first succ e p q n (k, lo, hi, sym x), a)
@@ -152,6 +156,6 @@ module _ {s t : List ℕ} {h : Head} {first succ words : List ℕ} {width : ℕ}
     pub scope-says : ScopeSays s t h first succ words width table count scope
     scope-says =
         record {
-          size = masked .as-long ∙ gathered-size (cleared-size ws size empty) gathered;
+          size = masked .as-long ∙ gathered-size (cleared-size ws (4 * code) size empty) gathered;
           bits = λ j sets g e p i l m. scope-is j sets g e i m p (omega (arith, code-count j));
         }

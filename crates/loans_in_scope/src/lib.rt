@@ -243,16 +243,53 @@ fn gather(
     }
 }
 
-// Leaves in each set only the numbers that the other table has there too.
-fn mask(by: &[u32; 4096], sets: &mut [u32; 4096])
-    requires { ⌜ length (now sets) ≡ 4096 ⌝ }
-    ensures { λ _. ⌜ Masked (now (by .entry)) (now (sets .entry)) 4096 (now (sets .exit)) ⌝ }
+// Leaves in each of the first n words only the numbers that the other table has there too.
+fn mask(by: &[u32; 4096], n: usize, sets: &mut [u32; 4096])
+    requires { ⌜ (n ≤ 4096) × (length (now sets) ≡ 4096) ⌝ }
+    ensures { λ _. ⌜ Masked (now (by .entry)) (now (sets .entry)) n (now (sets .exit)) ⌝ }
 {
     let mut w = 0;
-    while w < 4096 {
+    while w < n {
         sets[w] = sets[w] & by[w];
         w += 1;
     }
+}
+
+// The loans in scope at each of the first `code` points.
+fn compute(
+    s: &[u8],
+    layout: &[u16; 1280],
+    first: &[u16; 1025],
+    succ: &[u16; 1536],
+    words: &[u32],
+    width: usize,
+    table: &[u16; 1024],
+    count: usize,
+    code: usize,
+    scope: &mut [u32; 4096],
+)
+    requires { ⌜ (length (now layout) ≡ 1280) × (length (now table) ≡ 1024) × (length (now scope) ≡ 4096) × (width ≤ 32) × (count ≤ 128) × (code ≤ 1024) ⌝ }
+    ensures { λ _. ⌜ ((h : heads.Head) → code ≡ h .code → ScopeSays (now (s .entry)) (now (layout .entry)) h (now (first .entry)) (now (succ .entry)) (now (words .entry)) width (now (table .entry)) count (now (scope .exit))) ⌝ }
+{
+    let mut leaves = [0; 4096];
+    let mut pass = [0; 4096];
+    let mut region = [0; 4096];
+    fill(
+        s,
+        layout,
+        words,
+        width,
+        table,
+        count,
+        code,
+        &mut leaves,
+        &mut pass,
+        &mut region,
+    );
+    flow::flow(&mut leaves, &pass, first, succ, code, Direction::Forward);
+    bit_set::clear(scope, 0, 4 * code);
+    gather(first, succ, code, &leaves, scope);
+    mask(&region, 4 * code, scope);
 }
 
 // The loans in scope at each point.
@@ -281,23 +318,19 @@ pub fn loans_in_scope(
     if 128 < count {
         return;
     }
-    let mut leaves = [0; 4096];
-    let mut pass = [0; 4096];
-    let mut region = [0; 4096];
-    fill(
+    if count == 0 {
+        return;
+    }
+    compute(
         s,
         layout,
+        first,
+        succ,
         words,
         width,
         table,
         count,
         code,
-        &mut leaves,
-        &mut pass,
-        &mut region,
+        scope,
     );
-    flow::flow(&mut leaves, &pass, first, succ, code, Direction::Forward);
-    bit_set::clear(scope, 0, 4096);
-    gather(first, succ, code, &leaves, scope);
-    mask(&region, scope);
 }

@@ -26,7 +26,8 @@ use Rattle.repr.specs.declared.Action.the-variants as actions
 use Rattle.repr.specs.declared.ActionStep.{ActionStep}
 use Rattle.repr.specs.declared.ActionStep.the-variants as actionStep
 use Rattle.repr.proofs.ReadLaws.{step, stop, told}
-use Rattle.record.specs.Rows.{Stands, Standing, none, more}
+use Rattle.repr.specs.Stands.{Stands}
+use Rattle.record.specs.Rows.{Standing, none, more}
 use Rattle.record.specs.Blocks.{blockEnd, firsts, Coded}
 use Rattle.record.specs.Blocks as blocks
 use Rattle.record.specs.Layout.{Layout}

@@ -12,7 +12,8 @@ use Rattle.nll_spec.specs.Decode.{Reading, refused, read, Reader, done, _>>=_, 
 use Rattle.repr.specs.Reading.{ended, endSays, bytesSay}
 use Rattle.repr.proofs.ReadLaws.{step, stop}
 use Rattle.repr.proofs.PartLaws.{end-readable, end-refused, end-over}
-use Rattle.record.specs.Rows.{Stands, Standing, none, more, Row, reader}
+use Rattle.repr.specs.Stands.{Stands}
+use Rattle.record.specs.Rows.{Standing, none, more, Row, reader}
 use Rattle.record.specs.declared.Part.{Part}
 use Rattle.repr.specs.declared.Cursor.{Cursor}
 use Rattle.repr.specs.declared.EndStep.{EndStep}

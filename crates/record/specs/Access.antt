@@ -11,7 +11,7 @@ use Rattle.repr.specs.Reading.{rest}
 use Rattle.repr.specs.Parts.{actionSays}
 use Rattle.repr.specs.declared.StructDecl.{StructDecl}
 use Rattle.repr.specs.declared.ActionStep.{ActionStep}
-use Rattle.record.specs.Rows.{Stands}
+use Rattle.repr.specs.Stands.{Stands}
 use Rattle.record.specs.Blocks.{blockEnd}
 use Rattle.record.specs.declared.PointStep.{PointStep}
 use Rattle.record.specs.declared.PointStep.the-variants.{Action, End}

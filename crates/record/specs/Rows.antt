@@ -5,16 +5,12 @@ use Prim.Native.Nat.{ℕ}
 use lib.ListN.{length, take, drop}
 use Rattle.nll_spec.specs.Syntax.{StructDecl, Ty, RegionName}
 use Rattle.nll_spec.specs.Decode.{refused, read, Reader, byte, items, counted, maxOutlived, structDecl, type}
+use Rattle.repr.specs.Stands.{Stands}
 use Rattle.repr.specs.declared.Cursor.{Cursor}
 use Rattle.repr.specs.declared.EndStep.{EndStep}
 use Rattle.repr.specs.declared.EndStep.the-variants as endStep
 use Rattle.record.specs.declared.Part.{Part}
 use Rattle.record.specs.declared.Part.the-variants.{Struct, Outlives, Variable}
-
--- m reads x there.
-pub record Stands {A : Type 0} (m : Reader A) (x : A) (bs : List ℕ) : Type 0 where
-  pub over : List ℕ
-  pub reads : m bs ≡ read x over
 
 -- Each of these offsets of s is where m reads the item at the same place of the list.
 pub data Standing {A : Type 0} (m : Reader A) (s : List ℕ) : List ℕ → List A → Type 0 where

@@ -35,12 +35,12 @@ use Rattle.repr.specs.declared.ArgumentStep.{ArgumentStep}
 use Rattle.repr.specs.declared.ArgumentStep.the-variants as argumentStep
 use Rattle.repr.proofs.ReadLaws.{told, step}
 use Rattle.repr.proofs.PartLaws.{end-over}
-use Rattle.record.specs.Rows.{Stands}
+use Rattle.repr.specs.Stands.{Stands}
 use Rattle.record.specs.Layout.{Layout}
 use Rattle.record.specs.Access.{Declared}
 use Rattle.record.specs.declared.Head.{Head}
-use Rattle.ty.proofs.SpellLaws.{clash, carry}
-use Rattle.ty.proofs.ItemLaws.{first-of, items-length}
+use Rattle.repr.proofs.SpellLaws.{clash, carry}
+use Rattle.repr.proofs.ItemLaws.{first-of, items-length}
 use Rattle.refusals.specs.Fits.{ParamsAt, Within, TypeFit, ArgumentsFit}
 use Rattle.refusals.specs.declared.fits.Params.{Params}
 use Rattle.refusals.proofs.WalkLaws as walks

@@ -36,8 +36,8 @@ use Rattle.repr.specs.declared.BlockStep.the-variants as blockStep
 use Rattle.repr.proofs.ReadLaws.{told, step, bytes-at, bytes-short}
 use Rattle.record.specs.Layout.{Layout}
 use Rattle.record.specs.declared.Head.{Head}
-use Rattle.ty.proofs.SpellLaws.{clash, carry, then, byte-read}
-use Rattle.ty.proofs.ItemLaws.{byte-none, take-first}
+use Rattle.repr.proofs.SpellLaws.{clash, carry, then, byte-read}
+use Rattle.repr.proofs.ItemLaws.{byte-none, take-first}
 use Rattle.refusals.specs.Tests.{Sized, pass, passSays, Passes, Tested, allBelow, ownNamed, blockNamed, blocksNamed}
 
 -- ---- What was read

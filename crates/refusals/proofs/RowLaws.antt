@@ -14,12 +14,12 @@ use Rattle.repr.specs.declared.Cursor.{Cursor}
 use Rattle.repr.specs.declared.StructDecl as declared
 use Rattle.repr.specs.declared.EndStep.{EndStep}
 use Rattle.repr.specs.declared.EndStep.the-variants.{Ended, Refused}
-use Rattle.record.specs.Rows.{Stands}
+use Rattle.repr.specs.Stands.{Stands}
 use Rattle.record.specs.Layout.{Layout}
 use Rattle.record.specs.Access.{entryIn, Declared}
 use Rattle.record.specs.declared.Head.{Head}
 use Rattle.record.proofs.AccessLaws.{outlives-at, variable-at, block-at}
-use Rattle.ty.proofs.ItemLaws.{first-of, none-of}
+use Rattle.repr.proofs.ItemLaws.{first-of, none-of}
 use Rattle.refusals.specs.Tests.{Sized, over, fails, pass, passSays, isEnded, Passes, Tested}
 
 -- ---- What the answer tells of the test

@@ -2,12 +2,12 @@
 use mathlib.Core.Path.{_≡_, refl, sym, ap, subst, _∙_}
 use mathlib.Core.Bool.{Bool, true, false, _&&_}
 use mathlib.Core.List.{List}
-use Prim.Native.Nat.{ℕ, suc, _+_, _-_, _≤_}
+use Prim.Native.Nat.{ℕ, _-_, _≤_}
 use native.Mathlib.Omega.{arith}
 use native.Mathlib.Nat.{sub-zero}
 use lib.ListN.{drop}
-use Rattle.nll_spec.specs.Syntax.{Ty, UnitTy, RefTy, StructTy, BoundTy, Args, NoArgs, RegionArg, TypeArg, BorrowKind as Kind, Region as SomeRegion}
-use Rattle.nll_spec.specs.Decode.{read, done, typeWithin, type, maxNodes}
+use Rattle.nll_spec.specs.Syntax.{Ty, UnitTy, RefTy, StructTy, BoundTy, Args, NoArgs, RegionArg, TypeArg}
+use Rattle.nll_spec.specs.Decode.{type}
 use Rattle.nll_spec.specs.Types.{argCount, typeNodes, argNodes}
 use Rattle.repr.specs.Reading.{borrowKindOf, regionOf}
 use Rattle.repr.specs.Types.{node, NodeSays, ArgumentSays}
@@ -22,11 +22,10 @@ use Rattle.repr.specs.declared.NodesStep.the-variants.{Ended, Refused}
 use Rattle.repr.specs.declared.EndStep.the-variants as endStep
 use Rattle.repr.specs.declared.ArgumentStep.{ArgumentStep}
 use Rattle.repr.specs.declared.ArgumentStep.the-variants as argumentStep
-use Rattle.ty.specs.Stands.{TypeTo, ArgsTo, FirstType}
-use Rattle.ty.proofs.SpellLaws.{carry, then}
-use Rattle.ty.proofs.StandLaws.{NodeIs, LeafIs, node-is, ArgumentIs, argument-is, none-is, type-bytes, args-bytes}
-use Rattle.ty.proofs.ShapeLaws.{type-nodes}
-use Rattle.refusals.specs.Tests.{onto, stays, walk, walkSays, FewerNodes, TypeWalk, ArgsWalk, Passes, over}
+use Rattle.repr.specs.Stands.{TypeTo, ArgsTo, FirstType}
+use Rattle.repr.proofs.StandLaws.{LeafIs, on-node, on-argument, none-is, args-bytes, whole}
+use Rattle.repr.proofs.NodeLaws.{type-nodes, ref-nodes, struct-nodes, first-nodes}
+use Rattle.refusals.specs.Tests.{onto, stays, walk, walkSays, FewerNodes, TypeWalk, ArgsWalk, Passes}
 
 -- ---- What the answer tells of the test
 
@@ -50,24 +49,7 @@ fewer-still (Refused k) h g = tt
 pub rest-fewer : {left l : ℕ} {c : Cursor} {r : NodesStep} → FewerNodes left r → r ≡ Ended l c → l ≤ left
 rest-fewer {left} h e = subst (λ (x : NodesStep). FewerNodes left x) e h
 
--- ---- The nodes of parts
-
-ref-nodes : {t u : Ty} {k : Kind} {r : SomeRegion} → t ≡ RefTy k r u → typeNodes t ≡ suc (typeNodes u)
-unfolding typeNodes
-ref-nodes e = rw e
-
-struct-nodes : {t : Ty} {name : ℕ} {g : Args} → t ≡ StructTy name g → typeNodes t ≡ suc (argNodes g)
-unfolding typeNodes
-struct-nodes e = rw e
-
-first-nodes : {g more : Args} {t : Ty} → g ≡ TypeArg t more → argNodes g ≡ typeNodes t + argNodes more
-unfolding argNodes
-first-nodes e = rw e
-
 -- ---- A type
-
-on-node : {s : List ℕ} {at : ℕ} {d w : NodeStep} → NodeSays node s at d → d ≡ w → (t : Ty) (bs : List ℕ) → TypeTo (drop at s) t bs → NodeIs s t bs w
-on-node {s} m e t bs p = subst (λ (x : NodeStep). NodeIs s t bs x) e (node-is m p)
 
 module _ {test : Ty → Bool} {s : List ℕ} {at left : ℕ} where
   pub type-none : {k : ℕ} → left ≡ 0 → TypeWalk test s at left (Refused k)
@@ -79,51 +61,48 @@ module _ {test : Ty → Bool} {s : List ℕ} {at left : ℕ} where
 
   module _ {d : NodeStep} (m : NodeSays node s at d) where
     pub type-refused : {k l : ℕ} → d ≡ nodeStep.Refused k → TypeWalk test s at left (Refused l)
-    type-refused e = record { says = λ t bs p h. absurd (on-node m e t bs p) }
+    type-refused e = record { says = λ t bs p h. absurd (on-node m e p) }
 
     pub type-unit : {c : Cursor} → d ≡ nodeStep.Unit c → test UnitTy ≡ true → TypeWalk test s at left (Ended (left - 1) c)
     unfolding typeNodes
-    type-unit e g = leaf refl g (on-node m e)
+    type-unit e g = leaf refl g (λ t bs p. on-node m e p)
 
     pub type-bound : {b : ℕ} {c : Cursor} → d ≡ nodeStep.Bound b c → test (BoundTy b) ≡ true → TypeWalk test s at left (Ended (left - 1) c)
     unfolding typeNodes
-    type-bound e g = leaf refl g (on-node m e)
+    type-bound e g = leaf refl g (λ t bs p. on-node m e p)
 
     pub bound-fails : {b k : ℕ} {c : Cursor} → d ≡ nodeStep.Bound b c → test (BoundTy b) ≡ false → TypeWalk test s at left (Refused k)
-    bound-fails e g = record { says = λ t bs p h. let w = on-node m e t bs p in rw (w .same, g) }
+    bound-fails e g = record { says = λ t bs p h. let w = on-node m e p in rw (w .same, g) }
 
     module _ {q : BorrowKind} {o : Region} {c : Cursor} (e : d ≡ nodeStep.Ref q o c) where
       pub type-ref : {r : NodesStep} → (left ≡ 0 → ⊥) → ((t : Ty) → test (RefTy (borrowKindOf q) (regionOf o) t) ≡ test t) → TypeWalk test s (c .at) (left - 1) r → TypeWalk test s at left r
       unfolding typeNodes
       type-ref z g v = record {
         says = λ t bs p h.
-            let w = on-node m e t bs p in
+            let w = on-node m e p in
             let n = ref-nodes (w .same) in
             let l : left - 1 - typeNodes (w .referent) ≡ left - typeNodes t = omega arith in
             v .says (w .referent) bs (w .stands) (omega arith) ∙ rw (l, ap test (w .same) ∙ g (w .referent));
       }
 
       pub ref-fails : {k : ℕ} → ((t : Ty) → test (RefTy (borrowKindOf q) (regionOf o) t) ≡ false) → TypeWalk test s at left (Refused k)
-      ref-fails g = record { says = λ t bs p h. let w = on-node m e t bs p in rw (w .same, g (w .referent)) }
+      ref-fails g = record { says = λ t bs p h. let w = on-node m e p in rw (w .same, g (w .referent)) }
 
     module _ {name : StructName} {n : ℕ} {c : Cursor} (e : d ≡ nodeStep.Struct name n c) where
       pub type-struct : {tests : Args → Bool} {r : NodesStep} → (left ≡ 0 → ⊥) → ((g : Args) → test (StructTy (name .0) g) ≡ tests g) → ArgsWalk tests s (c .at) n (left - 1) r → TypeWalk test s at left r
       unfolding typeNodes
       type-struct z f v = record {
         says = λ t bs p h.
-            let w = on-node m e t bs p in
+            let w = on-node m e p in
             let i = struct-nodes (w .same) in
             let l : left - 1 - argNodes (w .given) ≡ left - typeNodes t = omega arith in
             v .says (w .given) bs (w .stands) (omega arith) ∙ rw (l, ap test (w .same) ∙ f (w .given));
       }
 
       pub struct-fails : {k : ℕ} → ((g : Args) → argCount g ≡ n → test (StructTy (name .0) g) ≡ false) → TypeWalk test s at left (Refused k)
-      struct-fails f = record { says = λ t bs p h. let w = on-node m e t bs p in rw (w .same, f (w .given) (args-bytes (w .stands) .count)) }
+      struct-fails f = record { says = λ t bs p h. let w = on-node m e p in rw (w .same, f (w .given) (args-bytes (w .stands) .count)) }
 
 -- ---- Arguments
-
-on-argument : {s : List ℕ} {at n : ℕ} {d w : ArgumentStep} → ArgumentSays s at d → (n ≡ 0 → ⊥) → d ≡ w → (g : Args) (bs : List ℕ) → ArgsTo (drop at s) n g bs → ArgumentIs s (n - 1) g bs w
-on-argument {s} {n = n} m z e g bs p = subst (λ (x : ArgumentStep). ArgumentIs s (n - 1) g bs x) e (argument-is m z p)
 
 -- the first of them, a type that was tested
 on-first : {s : List ℕ} {at n left : ℕ} {g : Args} {bs : List ℕ} {first : Ty → Bool} {w : NodesStep} → TypeWalk first s at left w → (x : FirstType (drop at s) n g bs) → argNodes g ≤ left → walkSays s w ≡ walk (first (x .item)) (left - typeNodes (x .item)) (x .mid)
@@ -136,26 +115,26 @@ module _ {test : Args → Bool} {s : List ℕ} {n left : ℕ} where
 
   module _ {at : ℕ} {d : ArgumentStep} (m : ArgumentSays s at d) (z : n ≡ 0 → ⊥) where
     pub args-refused : {k l : ℕ} → d ≡ argumentStep.Refused k → ArgsWalk test s at n left (Refused l)
-    args-refused e = record { says = λ g bs p h. absurd (on-argument m z e g bs p) }
+    args-refused e = record { says = λ g bs p h. absurd (on-argument m z e p) }
 
     module _ {o : Region} {c : Cursor} (e : d ≡ argumentStep.Region o c) where
       pub args-region : {others : Args → Bool} {r : NodesStep} → ((g : Args) → test (RegionArg (regionOf o) g) ≡ others g) → ArgsWalk others s (c .at) (n - 1) left r → ArgsWalk test s at n left r
       unfolding argNodes
-      args-region f v = record { says = λ g bs p h. let w = on-argument m z e g bs p in rw (w .same, f (w .more)) (v .says (w .more) bs (w .others) (rw (w .same) at h)) }
+      args-region f v = record { says = λ g bs p h. let w = on-argument m z e p in rw (w .same, f (w .more)) (v .says (w .more) bs (w .others) (rw (w .same) at h)) }
 
       pub region-fails : {k : ℕ} → ((g : Args) → test (RegionArg (regionOf o) g) ≡ false) → ArgsWalk test s at n left (Refused k)
-      region-fails f = record { says = λ g bs p h. let w = on-argument m z e g bs p in rw (w .same, f (w .more)) }
+      region-fails f = record { says = λ g bs p h. let w = on-argument m z e p in rw (w .same, f (w .more)) }
 
     module _ {c : Cursor} (e : d ≡ argumentStep.Type c) where
       -- no type stands well there
       pub type-fails : {k : ℕ} → ((t : Ty) (g : Args) → test (TypeArg t g) ≡ false) → ArgsWalk test s at n left (Refused k)
-      type-fails f = record { says = λ g bs p h. let w = on-argument m z e g bs p in rw (w .same, f (w .item) (w .more)) }
+      type-fails f = record { says = λ g bs p h. let w = on-argument m z e p in rw (w .same, f (w .item) (w .more)) }
 
       module _ {first : Ty → Bool} (others : Args → Bool) {w : NodesStep} (f : (t : Ty) (g : Args) → test (TypeArg t g) ≡ first t && others g) (v : TypeWalk first s (c .at) left w) where
         pub first-fails : {k l : ℕ} → w ≡ Refused k → ArgsWalk test s at n left (Refused l)
         first-fails i = record {
           says = λ g bs p h.
-              let x = on-argument m z e g bs p in
+              let x = on-argument m z e p in
               rw (x .same, f (x .item) (x .more), told-stays (first (x .item)) _ _ (sym (ap (walkSays s) i) ∙ on-first v x h));
         }
 
@@ -163,7 +142,7 @@ module _ {test : Args → Bool} {s : List ℕ} {n left : ℕ} where
         unfolding argNodes
         args-type {rem} {next} {r} i u = record {
           says = λ g bs p h.
-              let x = on-argument m z e g bs p in
+              let x = on-argument m z e p in
               let k = first-nodes (x .same) in
               let y = told-onto (first (x .item)) _ _ (sym (ap (walkSays s) i) ∙ on-first v x h) in
               let j = y .nodes in
@@ -173,19 +152,6 @@ module _ {test : Args → Bool} {s : List ℕ} {n left : ℕ} where
         }
 
 -- ---- A whole type
-
--- a type that `type` reads
-pub record Whole (bs : List ℕ) (t : Ty) (over : List ℕ) : Type 0 where
-  pub stands : TypeTo bs t over
-  pub few : typeNodes t ≤ maxNodes
-
-whole : {bs : List ℕ} {t : Ty} {after : List ℕ} → type bs ≡ read t after → Whole bs t after
-unfolding type done
-whole {bs} e =
-    let w = then (typeWithin (suc maxNodes) maxNodes) _ bs e in
-    let p : TypeTo bs (w .got .item) (w .mid) = record { deep = suc maxNodes; left = maxNodes; after = w .got .left; reads = w .first } in
-    let n = type-bytes p .nodes in
-    carry (λ u o. Whole bs u o) (w .last) (record { stands = p; few = omega arith })
 
 module _ {test : Ty → Bool} {s : List ℕ} {at : ℕ} {d : NodesStep} (v : TypeWalk test s at 32 d) where
   pub whole-fails : {k l : ℕ} → d ≡ Refused k → Passes type test s at (endStep.Refused l)

@@ -9,7 +9,7 @@ use Rattle.nll_spec.specs.WellFormed.{isRegionKind, isTypeKind, typeFits, argsF
 use Rattle.repr.specs.Reading.{rest}
 use Rattle.repr.specs.declared.Cursor.{Cursor}
 use Rattle.repr.specs.declared.NodesStep.{NodesStep}
-use Rattle.record.specs.Rows.{Stands}
+use Rattle.repr.specs.Stands.{Stands}
 use Rattle.record.specs.Layout.{Layout}
 use Rattle.record.specs.declared.Head.{Head}
 use Rattle.refusals.specs.Tests.{FewerNodes, TypeWalk, ArgsWalk}

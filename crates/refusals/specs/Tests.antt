@@ -18,7 +18,7 @@ use Rattle.repr.specs.declared.EndStep.the-variants as endStep
 use Rattle.repr.specs.declared.NodesStep.{NodesStep}
 use Rattle.repr.specs.declared.NodesStep.the-variants as nodesStep
 use Rattle.record.specs.declared.Head.{Head}
-use Rattle.ty.specs.Stands.{TypeTo, ArgsTo}
+use Rattle.repr.specs.Stands.{TypeTo, ArgsTo}
 
 -- The head has the job's counts.
 pub record Sized (h : Head) (j : Job) : Type 0 where

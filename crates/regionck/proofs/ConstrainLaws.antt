@@ -33,9 +33,9 @@ use Rattle.repr.specs.declared.ActionStep.the-variants as actionStep
 use Rattle.record.specs.Layout.{Layout}
 use Rattle.record.specs.Access.{Acts}
 use Rattle.record.specs.declared.Head.{Head}
-use Rattle.ty.proofs.SpellLaws.{clash, carry, then}
+use Rattle.repr.proofs.SpellLaws.{clash, carry, then}
 use Rattle.env.specs.Prefixes.{ShortestIn}
-use Rattle.env.specs.Paths.{PathIs, PathResult, PathSays}
+use Rattle.env.specs.Paths.{PathResult, PathSays}
 use Rattle.env.specs.declared.Shortest.{Shortest}
 use Rattle.env.specs.declared.paths.PathType.{PathType}
 use Rattle.env.specs.declared.paths.PathType.the-variants as pathType
@@ -43,7 +43,10 @@ use Rattle.env.proofs.PrefixLaws.{shortest-of}
 use Rattle.relate.specs.Relates.{Runs, Relates, RelatesRef}
 use Rattle.relate.specs.declared.Run.{Run}
 use Rattle.relate.proofs.RelateLaws.{runs-none, runs-append}
-use Rattle.regionck.specs.Constraining.{after, stepConstraints, sourceConstraints, Takes, Assigns, Borrows, Constrains}
+use Rattle.regionck.specs.Constraining.{after, stepConstraints, sourceConstraints, Takes, SourceSays, TypesResult, PathTypesSay, Assigns, Borrows, Constrains}
+use Rattle.regionck.specs.declared.constraints.Source.{Source}
+use Rattle.regionck.specs.declared.constraints.PathTypes.{PathTypes}
+use Rattle.regionck.specs.declared.constraints.PathTypes.the-variants as pathTypes
 use Rattle.regionck.proofs.ListLaws.{gather-below}
 use Rattle.regionck.proofs.ActionLaws.{assign-takes, borrow-takes}
 use Rattle.regionck.proofs.SourceLaws.{source-same}
@@ -87,7 +90,12 @@ module _ {run : Run} {first succ last : List ℕ} where
         → Runs run first succ last (stepConstraints (run .at) kinds names shortest r i) ws₁ grew₁ ws₂ grew₂ → Runs run first succ last (sourceConstraints (run .at) kinds names shortest r (i + 1)) ws grew ws₂ grew₂
     source-more i x y = runs-as (sym (gather-below (stepConstraints (run .at) kinds names shortest r) i)) (runs-append x y)
 
--- ---- What is said of a path
+pub source-says : {s : List ℕ} {p : Path} {region : RegionName} {kinds : List ℕ} {n m c : ℕ} {of : Shortest} → n ≡ length (pathOf s p .steps) → ShortestIn kinds n of → c ≡ of .supporting → m ≡ n
+    → SourceSays s p region kinds (record { region = region; supporting = c; steps = m })
+source-says {kinds = kinds} {of = of} len short sup count =
+    record { same = refl; steps = count ∙ len; of = of; shortest = subst (λ (n : ℕ). ShortestIn kinds n of) (sym count) short; supporting = sup }
+
+-- ---- The types of two paths
 
 module _ {s t : List ℕ} {h : Head} {p : Path} {out kinds names : List ℕ} {d : PathType} (v : PathSays s t h p out kinds names d) (j : Job) (l : Layout s t h j) (w : Takes s j p) where
   result : {x : PathType} → d ≡ x → PathResult j (pathOf s p) out kinds names x
@@ -96,52 +104,55 @@ module _ {s t : List ℕ} {h : Head} {p : Path} {out kinds names : List ℕ} {d 
   refused : d ≡ pathType.Refused → ⊥
   refused e = true≢false (sym (w .fits) ∙ result e)
 
-  found : {c : Cursor} → d ≡ pathType.At c → PathIs j (pathOf s p) out (c .at) kinds names
-  found e = result e
+module _ {s t : List ℕ} {h : Head} {p q : Path} {a b kinds names : List ℕ} where
+  pub no-first : {d : PathType} → PathSays s t h p a kinds names d → d ≡ pathType.Refused → PathTypesSay s t h p q a b kinds names pathTypes.Refused
+  no-first v e = record { says = λ j l x y. refused v j l x e; sizes = v .sizes }
+
+  pub no-second : {d : PathType} → PathSays s t h q b kinds names d → d ≡ pathType.Refused → PathTypesSay s t h p q a b kinds names pathTypes.Refused
+  no-second v e = record { says = λ j l x y. refused v j l y e; sizes = v .sizes }
+
+  pub both-typed : {kinds₁ names₁ : List ℕ} {d f : PathType} {x y : Cursor} → PathSays s t h p a kinds₁ names₁ d → d ≡ pathType.At x → PathSays s t h q b kinds names f → f ≡ pathType.At y
+      → PathTypesSay s t h p q a b kinds names (pathTypes.At x y)
+  both-typed v e w i = record { says = λ j l tp tq. let r = result v j l tp e in record { stands = r .stands; few = r .few; second = result w j l tq i }; sizes = w .sizes }
+
+module _ {s t : List ℕ} {h : Head} {p q : Path} {a b kinds names : List ℕ} {d : PathTypes} (v : PathTypesSay s t h p q a b kinds names d) where
+  typed : {x : PathTypes} → d ≡ x → (j : Job) → Layout s t h j → Takes s j p → Takes s j q → TypesResult j (pathOf s p) (pathOf s q) a b kinds names x
+  typed e j l tp tq = subst (λ (x : PathTypes). TypesResult j (pathOf s p) (pathOf s q) a b kinds names x) e (v .says j l tp tq)
 
 -- ---- An assignment and a borrow
 
 module _ {s t : List ℕ} {run : Run} {first succ last : List ℕ} {dest source : Path} {ws grew : List ℕ} where
-  pub assign-no-source : {out kinds names : List ℕ} {d : PathType} → PathSays s t (run .head) source out kinds names d → d ≡ pathType.Refused → Assigns s t run first succ last dest source ws grew ws grew
-  assign-no-source v e = record { runs = λ j l x y z. absurd (refused v j l y e) }
+  module _ {a b kinds names : List ℕ} {d : PathTypes} (v : PathTypesSay s t (run .head) source dest a b kinds names d) where
+    pub assign-untyped : d ≡ pathTypes.Refused → Assigns s t run first succ last dest source ws grew ws grew
+    assign-untyped e = record { runs = λ j l td ts z. absurd (typed v e j l ts td) }
 
-  pub assign-no-dest : {out kinds names : List ℕ} {d : PathType} → PathSays s t (run .head) dest out kinds names d → d ≡ pathType.Refused → Assigns s t run first succ last dest source ws grew ws grew
-  assign-no-dest v e = record { runs = λ j l x y z. absurd (refused v j l x e) }
+    pub assign-runs : {x y : Cursor} {ws′ grew′ : List ℕ} → d ≡ pathTypes.At x y → Relates s t run first succ last a (x .at) b (y .at) Co ws grew ws′ grew′ → Assigns s t run first succ last dest source ws grew ws′ grew′
+    assign-runs e m =
+        record {
+          runs = λ j l td ts z.
+              let p = typed v e j l ts td in
+              m .runs j l (pathType j (pathOf s source)) (pathType j (pathOf s dest)) (p .stands) (p .second .stands) (p .few) (p .second .few) z;
+        }
 
-  pub assign-runs : {a b kinds names kinds′ names′ ws′ grew′ : List ℕ} {d f : PathType} {x y : Cursor} → PathSays s t (run .head) source a kinds names d → d ≡ pathType.At x → PathSays s t (run .head) dest b kinds′ names′ f → f ≡ pathType.At y
-      → Relates s t run first succ last a (x .at) b (y .at) Co ws grew ws′ grew′ → Assigns s t run first succ last dest source ws grew ws′ grew′
-  assign-runs v e w i m =
-      record {
-        runs = λ j l td ts z.
-            let p = found v j l ts e in
-            let q = found w j l td i in
-            m .runs j l (pathType j (pathOf s source)) (pathType j (pathOf s dest)) (p .stands) (q .stands) (p .few) (q .few) z;
-      }
+  module _ {r : RegionName} {a b kinds names : List ℕ} {d : PathTypes} (v : PathTypesSay s t (run .head) dest source a b kinds names d) where
+    pub borrow-untyped : d ≡ pathTypes.Refused → Borrows s t run first succ last dest (r .0) source ws grew ws grew
+    borrow-untyped e = record { runs = λ j l accepted td ts k z. absurd (typed v e j l td ts) }
 
-  module _ {r : ℕ} where
-    pub borrow-no-dest : {out kinds names : List ℕ} {d : PathType} → PathSays s t (run .head) dest out kinds names d → d ≡ pathType.Refused → Borrows s t run first succ last dest r source ws grew ws grew
-    borrow-no-dest v e = record { runs = λ j l accepted x y k z. absurd (refused v j l x e) }
-
-    pub borrow-no-source : {out kinds names : List ℕ} {d : PathType} → PathSays s t (run .head) source out kinds names d → d ≡ pathType.Refused → Borrows s t run first succ last dest r source ws grew ws grew
-    borrow-no-source v e = record { runs = λ j l accepted x y k z. absurd (refused v j l y e) }
-
-    pub borrow-runs : {a b kinds names kinds′ names′ ws₁ grew₁ ws₂ grew₂ : List ℕ} {d f : PathType} {x y : Cursor} {of : Shortest} {n m c : ℕ}
-        → PathSays s t (run .head) dest a kinds names d → d ≡ pathType.At x → PathSays s t (run .head) source b kinds′ names′ f → f ≡ pathType.At y
-        → RelatesRef r s t run first succ last a (x .at) b (y .at) Contra ws grew ws₁ grew₁
-        → n ≡ length (pathOf s source .steps) → ShortestIn kinds′ n of → c ≡ of .supporting → m ≡ n
-        → Runs run first succ last (sourceConstraints (run .at) kinds′ names′ c r m) ws₁ grew₁ ws₂ grew₂
-        → Borrows s t run first succ last dest r source ws grew ws₂ grew₂
-    borrow-runs {kinds′ = kinds′} {names′ = names′} {of = of} {n = n} {m = m} v e w i rel len short sup count src =
+    pub borrow-runs : {x y : Cursor} {ws₁ grew₁ ws₂ grew₂ : List ℕ} {of : Source} → d ≡ pathTypes.At x y → RelatesRef (r .0) s t run first succ last a (x .at) b (y .at) Contra ws grew ws₁ grew₁
+        → SourceSays s source r kinds of → Runs run first succ last (sourceConstraints (run .at) kinds names (of .supporting) (of .region .0) (of .steps)) ws₁ grew₁ ws₂ grew₂
+        → Borrows s t run first succ last dest (r .0) source ws grew ws₂ grew₂
+    borrow-runs {of = of} e rel u src =
         record {
           runs = λ j l accepted td ts k z.
-              let p = found v j l td e in
-              let q = found w j l ts i in
-              let o = shortest-of j (pathOf s source) (q .leaves) (w .sizes .0) (ts .short) (subst (λ (y : ℕ). ShortestIn kinds′ y of) len short) in
+              let p = typed v e j l td ts in
+              let q = p .second in
+              let o = shortest-of j (pathOf s source) (q .leaves) (v .sizes .0) (ts .short) (subst (λ (n : ℕ). ShortestIn kinds n (u .of)) (u .steps) (u .shortest)) in
               runs-append (rel .runs j l (pathType j (pathOf s dest)) (pathType j (pathOf s source)) k (p .stands) (q .stands) (p .few) (q .few) z)
               (runs-as
-              (ap (λ (y : ℕ). sourceConstraints (run .at) kinds′ names′ y r m) sup
-              ∙ ap (sourceConstraints (run .at) kinds′ names′ (of .supporting) r) (count ∙ len)
-              ∙ source-same j accepted (pathOf s source) (q .leaves) (ts .short) o (run .at) r) src);
+              (ap (λ (n : ℕ). sourceConstraints (run .at) kinds names n (of .region .0) (of .steps)) (u .supporting)
+              ∙ ap (λ (n : RegionName). sourceConstraints (run .at) kinds names (u .of .supporting) (n .0) (of .steps)) (u .same)
+              ∙ ap (sourceConstraints (run .at) kinds names (u .of .supporting) (r .0)) (u .steps)
+              ∙ source-same j accepted (pathOf s source) (q .leaves) (ts .short) o (run .at) (r .0)) src);
         }
 
 -- ---- An action

@@ -1,6 +1,6 @@
 -- The constraints of a borrow's supporting prefixes, by what `path_type` and `shortest` say of its source: `source-same`. Assumes nothing.
 use mathlib.Core.Path.{_≡_, refl, sym, ap, ap₂, _∙_}
-use mathlib.Core.Bool.{Bool, true, false, _&&_, not, cond}
+use mathlib.Core.Bool.{Bool, true, false, _&&_, not, cond, Bool·not-not}
 use mathlib.Core.List.{List, [], _∷_, _++_}
 use Prim.Native.Nat.{ℕ, suc, _+_, _≤_, _<_}
 use native.Mathlib.Nat.{not-suc-le-zero}
@@ -9,7 +9,7 @@ use native.Mathlib.Numerals.{add-one}
 use lib.ListN.{length, getD, take, drop}
 use lib.Dec.{T, eqb, leb, ltb, ltb→lt}
 use Rattle.nll_spec.specs.Lists.{gather, countFrom}
-use Rattle.nll_spec.specs.Syntax.{Job, Point, RegionName, FieldName, Mut, Shared, Region, Free, BoundRegion, Ty, UnitTy, RefTy, StructTy, BoundTy, StructDecl, Path}
+use Rattle.nll_spec.specs.Syntax.{Job, Point, RegionName, FieldName, Region, Free, BoundRegion, Ty, UnitTy, RefTy, StructTy, BoundTy, StructDecl, Path}
 use Rattle.nll_spec.specs.Types.{variableType, pathType, typeAfter, step, neverStops, isShared, isRef, refRegion}
 use Rattle.nll_spec.specs.WellFormed.{refusal, typeFits, regionFits}
 use Rattle.nll_spec.specs.Constraints.{Outlives, requireOutlives, relateSource}
@@ -18,7 +18,7 @@ use Rattle.nll_spec.proofs.AcceptedLaws.{accepted-job}
 use Rattle.nll_spec.proofs.TypeLaws.{path-good}
 use Rattle.env.specs.Prefixes.{kindCode, Leaves, ShortestOf}
 use Rattle.env.specs.declared.Shortest.{Shortest}
-use Rattle.env.proofs.PrefixLaws.{later-never-stops}
+use Rattle.env.proofs.PrefixLaws.{later-never-stops, ref-kind}
 use Rattle.regionck.specs.Constraining.{stepConstraints, sourceConstraints}
 
 -- ---- Step by step
@@ -39,13 +39,6 @@ module _ (at : Point) (ss : List StructDecl) (r : Region) where
 
 -- ---- By the kinds and the names
 
-ref-kind : (t : Ty) → not (eqb (kindCode t) 0) ≡ isRef t
-ref-kind UnitTy = refl
-ref-kind (RefTy Mut r t) = refl
-ref-kind (RefTy Shared r t) = refl
-ref-kind (StructTy s given) = refl
-ref-kind (BoundTy b) = refl
-
 -- a region that is no bound
 free-region : (r : Region) → T (regionFits [] r) → (n : RegionName) × (r ≡ Free n)
 free-region (Free n) h = (n, refl)
@@ -63,7 +56,7 @@ module _ (at : Point) (r : RegionName) (t : Ty) (kind name shortest i : ℕ) (th
   one-step : cond (not (eqb kind 0) && leb shortest (i + 1)) (requireOutlives at (Free name) (Free r)) [] ≡ cond (isRef t && through) (requireOutlives at (refRegion t) (Free r)) []
   one-step =
       ap (λ (x : ℕ). cond (not (eqb x 0) && leb shortest (i + 1)) (requireOutlives at (Free name) (Free r)) []) k
-      ∙ ap₂ (λ (x y : Bool). cond (x && y) (requireOutlives at (Free name) (Free r)) []) (ref-kind t) (sym l)
+      ∙ ap₂ (λ (x y : Bool). cond (x && y) (requireOutlives at (Free name) (Free r)) []) (sym (ap not (ref-kind t)) ∙ Bool·not-not (isRef t)) (sym l)
       ∙ go (isRef t) refl through
     where
       go : (b : Bool) → isRef t ≡ b → (y : Bool) → cond (b && y) (requireOutlives at (Free name) (Free r)) [] ≡ cond (b && y) (requireOutlives at (refRegion t) (Free r)) []

@@ -6,16 +6,27 @@ use Prim.Native.Nat.{ℕ, _+_, _≤_, _<_}
 use lib.ListN.{length, getD}
 use lib.Dec.{T, eqb, leb}
 use Rattle.nll_spec.specs.Lists.{gather, below}
+use Rattle.nll_spec.specs.Syntax as syntax
 use Rattle.nll_spec.specs.Syntax.{Job, Point, RegionName, BorrowKind, Co, Contra, Free, RefTy}
-use Rattle.nll_spec.specs.Types.{variableType, pathType}
+use Rattle.nll_spec.specs.Decode.{maxNodes}
+use Rattle.nll_spec.specs.Types.{variableType, pathType, typeNodes}
 use Rattle.nll_spec.specs.WellFormed.{pathFits, sameShape, refusal}
 use Rattle.nll_spec.specs.Graph.{graphOf, actionAt}
 use Rattle.nll_spec.specs.Constraints.{Outlives, requireOutlives, relate, relateSource, constraintsAt}
 use Rattle.repr.specs.Reading.{pathOf}
 use Rattle.repr.specs.declared.Path.{Path}
+use Rattle.repr.specs.declared.RegionName as repr
 use Rattle.record.specs.Layout.{Layout}
+use Rattle.record.specs.declared.Head.{Head}
+use Rattle.repr.specs.Stands.{TypeAt}
+use Rattle.env.specs.Paths.{PathIs}
+use Rattle.env.specs.Prefixes.{ShortestIn}
+use Rattle.env.specs.declared.Shortest.{Shortest}
 use Rattle.relate.specs.Relates.{Runs}
 use Rattle.relate.specs.declared.Run.{Run}
+use Rattle.regionck.specs.declared.constraints.Source.{Source}
+use Rattle.regionck.specs.declared.constraints.PathTypes.{PathTypes}
+use Rattle.regionck.specs.declared.constraints.PathTypes.the-variants as pathTypes
 
 -- the same at the next point
 abbrev pub after : Run → Run
@@ -35,6 +46,32 @@ pub record Takes (s : List ℕ) (j : Job) (p : Path) : Type 0 where
   pub named : p .base .0 < length (j .variables)
   pub fits : pathFits j (pathOf s p) ≡ true
   pub short : length (pathOf s p .steps) ≤ 8
+
+-- The source p of a borrow of this region, by the kinds that its steps leave.
+pub record SourceSays (s : List ℕ) (p : Path) (region : repr.RegionName) (kinds : List ℕ) (r : Source) : Type 0 where
+  pub same : r .region ≡ region
+  pub steps : r .steps ≡ length (pathOf s p .steps)
+  pub of : Shortest
+  pub shortest : ShortestIn kinds (r .steps) of
+  pub supporting : r .supporting ≡ of .supporting
+
+-- ---- The types of two paths
+
+-- They stand there, and each step's entries say what the second's leaves.
+pub record TypesAre (j : Job) (p q : syntax.Path) (a : List ℕ) (x : ℕ) (b : List ℕ) (y : ℕ) (kinds names : List ℕ) : Type 0 where
+  pub stands : TypeAt a x (pathType j p)
+  pub few : typeNodes (pathType j p) ≤ maxNodes
+  pub second : PathIs j q b y kinds names
+
+abbrev pub TypesResult : Job → syntax.Path → syntax.Path → List ℕ → List ℕ → List ℕ → List ℕ → PathTypes → Type 0
+TypesResult j p q a b kinds names (pathTypes.At c d) = TypesAre j p q a (c .at) b (d .at) kinds names
+TypesResult j p q a b kinds names pathTypes.Refused = ⊥
+
+pub record PathTypesSay (s t : List ℕ) (h : Head) (p q : Path) (a b kinds names : List ℕ) (r : PathTypes) : Type 0 where
+  pub says : (j : Job) → Layout s t h j → Takes s j p → Takes s j q → TypesResult j (pathOf s p) (pathOf s q) a b kinds names r
+  pub sizes : (length kinds ≡ 8) × (length names ≡ 8)
+
+-- ---- The constraints of an action
 
 module _ (s t : List ℕ) (run : Run) (first succ last : List ℕ) where
   -- The constraints of an assignment are run, at the run's point.

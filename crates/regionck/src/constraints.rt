@@ -3,6 +3,7 @@ use env::paths::PathType;
 use env::paths::path_type;
 use env::prefixes::shortest;
 use env::prefixes::steps_of;
+use record::Head;
 use record::access::action_at;
 use relate::Run;
 use repr::Action;
@@ -15,9 +16,8 @@ use repr::Variance;
 ghost use mathlib.Core.Path.{_≡_};
 ghost use Prim.Native.Nat.{_+_, _≤_};
 ghost use lib.ListN.{length};
-ghost use Rattle.nll_spec.specs.Syntax.{Co, Contra};
-ghost use Rattle.relate.specs.Relates.{Runs, Relates, RelatesRef};
-ghost use Rattle.regionck.specs.Constraining.{after, stepConstraints, sourceConstraints, Assigns, Borrows, Constrains};
+ghost use Rattle.relate.specs.Relates.{Runs};
+ghost use Rattle.regionck.specs.Constraining.{after, stepConstraints, sourceConstraints, SourceSays, PathTypesSay, Assigns, Borrows, Constrains};
 
 fn wide(x: u8) -> usize
     ensures { λ r. ⌜ (r ≡ x) × (r ≤ 255) ⌝ }
@@ -41,12 +41,24 @@ fn after(run: Run) -> Run
     }
 }
 
+// Where the types of two paths begin, or that one of the paths may not be taken.
+enum PathTypes {
+    At(Cursor, Cursor),
+    Refused,
+}
+
+// A borrow's region, and how many steps its source has, and the source's shortest supporting prefix.
+struct Source {
+    region: RegionName,
+    supporting: usize,
+    steps: usize,
+}
+
 // Step i of a borrow's source: if it leaves a Ref and ends a supporting prefix, that Ref's region outlives the borrow's.
 fn relate_step(
-    region: RegionName,
+    of: Source,
     kinds: &[u8; 8],
     names: &[u8; 8],
-    supporting: usize,
     i: usize,
     run: Run,
     words: &mut [u32],
@@ -56,7 +68,7 @@ fn relate_step(
     grew: &mut [u8; 128],
 )
     requires { ⌜ (length (now kinds) ≡ 8) × (length (now names) ≡ 8) ⌝ }
-    ensures { λ _. ⌜ Runs run (now (first .entry)) (now (succ .entry)) (now (last .entry)) (stepConstraints (run .at) (now (kinds .entry)) (now (names .entry)) supporting (region .0) i)
+    ensures { λ _. ⌜ Runs run (now (first .entry)) (now (succ .entry)) (now (last .entry)) (stepConstraints (run .at) (now (kinds .entry)) (now (names .entry)) (of .supporting) (of .region .0) i)
         (now (words .entry)) (now (grew .entry)) (now (words .exit)) (now (grew .exit)) ⌝ }
 {
     if 8 <= i {
@@ -65,29 +77,21 @@ fn relate_step(
     if kinds[i] == 0 {
         return;
     }
+    let supporting = of.supporting;
     if i + 1 < supporting {
         return;
     }
+    let region = of.region;
     let left = Region::Free(RegionName(names[i]));
-    relate::require_outlives(
-        left,
-        Region::Free(region),
-        run,
-        words,
-        first,
-        succ,
-        last,
-        grew,
-    );
+    let right = Region::Free(region);
+    relate::require_outlives(left, right, run, words, first, succ, last, grew);
 }
 
 // The steps of a borrow's source.
 fn relate_source(
-    region: RegionName,
+    of: Source,
     kinds: &[u8; 8],
     names: &[u8; 8],
-    supporting: usize,
-    steps: usize,
     run: Run,
     words: &mut [u32],
     first: &[u16; 1025],
@@ -96,100 +100,53 @@ fn relate_source(
     grew: &mut [u8; 128],
 )
     requires { ⌜ (length (now kinds) ≡ 8) × (length (now names) ≡ 8) ⌝ }
-    ensures { λ _. ⌜ Runs run (now (first .entry)) (now (succ .entry)) (now (last .entry)) (sourceConstraints (run .at) (now (kinds .entry)) (now (names .entry)) supporting (region .0) steps)
+    ensures { λ _. ⌜ Runs run (now (first .entry)) (now (succ .entry)) (now (last .entry)) (sourceConstraints (run .at) (now (kinds .entry)) (now (names .entry)) (of .supporting) (of .region .0) (of .steps))
         (now (words .entry)) (now (grew .entry)) (now (words .exit)) (now (grew .exit)) ⌝ }
 {
     let mut i = 0;
-    while i < steps {
-        relate_step(
-            region,
-            kinds,
-            names,
-            supporting,
-            i,
-            run,
-            words,
-            first,
-            succ,
-            last,
-            grew,
-        );
+    while i < of.steps {
+        relate_step(of, kinds, names, i, run, words, first, succ, last, grew);
         i += 1;
     }
 }
 
-// Relates the types at x of a and at y of b, as an assignment does.
-fn relate_assigned(
-    s: &[u8],
-    layout: &[u16; 1280],
-    a: &[u8; 512],
-    x: Cursor,
-    b: &[u8; 512],
-    y: Cursor,
-    run: Run,
-    words: &mut [u32],
-    first: &[u16; 1025],
-    succ: &[u16; 1536],
-    last: &[u8; 128],
-    grew: &mut [u8; 128],
-)
-    requires { ⌜ length (now layout) ≡ 1280 ⌝ }
-    ensures { λ _. ⌜ Relates (now (s .entry)) (now (layout .entry)) run (now (first .entry)) (now (succ .entry)) (now (last .entry))
-        (now (a .entry)) (x .at) (now (b .entry)) (y .at) Co (now (words .entry)) (now (grew .entry)) (now (words .exit)) (now (grew .exit)) ⌝ }
+// The source of a borrow of this region. The kinds say what its steps leave.
+fn source_of(s: &[u8], p: Path, region: RegionName, kinds: &[u8; 8]) -> Source
+    requires { ⌜ length (now kinds) ≡ 8 ⌝ }
+    ensures { λ r. ⌜ SourceSays (now (s .entry)) p region (now (kinds .entry)) r ⌝ }
 {
-    relate::relate(
-        s,
-        layout,
-        a,
-        x,
-        b,
-        y,
-        Variance::Co,
-        run,
-        words,
-        first,
-        succ,
-        last,
-        grew,
-    );
+    let steps = steps_of(s, p);
+    let of = shortest(kinds, steps);
+    Source {
+        region,
+        supporting: wide(of.supporting),
+        steps: wide(steps),
+    }
 }
 
-// Relates the type at x of a with a Ref of a region to the type at y of b, as a borrow does.
-fn relate_borrowed(
+// The types of two paths, in a and in b, and what the steps of the second leave.
+fn path_types(
     s: &[u8],
     layout: &[u16; 1280],
-    a: &[u8; 512],
-    x: Cursor,
-    region: RegionName,
-    b: &[u8; 512],
-    y: Cursor,
-    run: Run,
-    words: &mut [u32],
-    first: &[u16; 1025],
-    succ: &[u16; 1536],
-    last: &[u8; 128],
-    grew: &mut [u8; 128],
-)
-    requires { ⌜ length (now layout) ≡ 1280 ⌝ }
-    ensures { λ _. ⌜ RelatesRef (region .0) (now (s .entry)) (now (layout .entry)) run (now (first .entry)) (now (succ .entry)) (now (last .entry))
-        (now (a .entry)) (x .at) (now (b .entry)) (y .at) Contra (now (words .entry)) (now (grew .entry)) (now (words .exit)) (now (grew .exit)) ⌝ }
+    head: Head,
+    p: Path,
+    q: Path,
+    a: &mut [u8; 512],
+    b: &mut [u8; 512],
+    kinds: &mut [u8; 8],
+    names: &mut [u8; 8],
+) -> PathTypes
+    requires { ⌜ (length (now layout) ≡ 1280) × (length (now kinds) ≡ 8) × (length (now names) ≡ 8) ⌝ }
+    ensures { λ r. ⌜ PathTypesSay (now (s .entry)) (now (layout .entry)) head p q (now (a .exit)) (now (b .exit)) (now (kinds .exit)) (now (names .exit)) r ⌝ }
 {
-    relate::relate_ref(
-        s,
-        layout,
-        a,
-        x,
-        region,
-        b,
-        y,
-        Variance::Contra,
-        run,
-        words,
-        first,
-        succ,
-        last,
-        grew,
-    );
+    let mut spare = [0; 512];
+    let PathType::At(x) = path_type(s, layout, head, p, a, &mut spare, kinds, names) else {
+        return PathTypes::Refused;
+    };
+    let PathType::At(y) = path_type(s, layout, head, q, b, &mut spare, kinds, names) else {
+        return PathTypes::Refused;
+    };
+    PathTypes::At(x, y)
 }
 
 // A borrow's constraints, at the point of the run.
@@ -213,34 +170,22 @@ fn borrow(
     let head = run.head;
     let mut a = [0; 512];
     let mut b = [0; 512];
-    let mut spare = [0; 512];
     let mut kinds = [0; 8];
     let mut names = [0; 8];
-    let PathType::At(x) = path_type(
+    let PathTypes::At(x, y) = path_types(
         s,
         layout,
         head,
         dest,
-        &mut a,
-        &mut spare,
-        &mut kinds,
-        &mut names,
-    ) else {
-        return;
-    };
-    let PathType::At(y) = path_type(
-        s,
-        layout,
-        head,
         source,
+        &mut a,
         &mut b,
-        &mut spare,
         &mut kinds,
         &mut names,
     ) else {
         return;
     };
-    relate_borrowed(
+    relate::relate_ref(
         s,
         layout,
         &a,
@@ -248,6 +193,7 @@ fn borrow(
         region,
         &b,
         y,
+        Variance::Contra,
         run,
         words,
         first,
@@ -255,22 +201,8 @@ fn borrow(
         last,
         grew,
     );
-    let steps = steps_of(s, source);
-    let of = shortest(&kinds, steps);
-    let from = of.supporting;
-    relate_source(
-        region,
-        &kinds,
-        &names,
-        wide(from),
-        wide(steps),
-        run,
-        words,
-        first,
-        succ,
-        last,
-        grew,
-    );
+    let of = source_of(s, source, region, &kinds);
+    relate_source(of, &kinds, &names, run, words, first, succ, last, grew);
 }
 
 // An assignment's constraints, at the point of the run.
@@ -293,34 +225,36 @@ fn assign(
     let head = run.head;
     let mut a = [0; 512];
     let mut b = [0; 512];
-    let mut spare = [0; 512];
     let mut kinds = [0; 8];
     let mut names = [0; 8];
-    let PathType::At(x) = path_type(
+    let PathTypes::At(x, y) = path_types(
         s,
         layout,
         head,
         source,
+        dest,
         &mut a,
-        &mut spare,
+        &mut b,
         &mut kinds,
         &mut names,
     ) else {
         return;
     };
-    let PathType::At(y) = path_type(
+    relate::relate(
         s,
         layout,
-        head,
-        dest,
-        &mut b,
-        &mut spare,
-        &mut kinds,
-        &mut names,
-    ) else {
-        return;
-    };
-    relate_assigned(s, layout, &a, x, &b, y, run, words, first, succ, last, grew);
+        &a,
+        x,
+        &b,
+        y,
+        Variance::Co,
+        run,
+        words,
+        first,
+        succ,
+        last,
+        grew,
+    );
 }
 
 // Runs the constraints of the action at a point of the blocks. A Constraint's is at that point, all others at the next one.
@@ -376,16 +310,11 @@ pub fn constrain(
             last,
             grew,
         ),
-        Action::Constraint { sup, sub } => relate::require_outlives(
-            Region::Free(sup),
-            Region::Free(sub),
-            run,
-            words,
-            first,
-            succ,
-            last,
-            grew,
-        ),
+        Action::Constraint { sup, sub } => {
+            let left = Region::Free(sup);
+            let right = Region::Free(sub);
+            relate::require_outlives(left, right, run, words, first, succ, last, grew)
+        }
         _ => {}
     }
 }

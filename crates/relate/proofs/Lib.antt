@@ -1,2 +1,1 @@
-pub mod BesideLaws
 pub mod RelateLaws

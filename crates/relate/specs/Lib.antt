@@ -1,3 +1,2 @@
 -- Two types related under a variance.
-pub mod Beside
 pub mod Relates

@@ -1,22 +1,22 @@
 -- What relating two types does: it runs the constraints of `Constraints.relate`, and tells where the types end.
 use mathlib.Core.Path.{_≡_}
 use mathlib.Core.Bool.{true}
-use mathlib.Core.List.{List}
+use mathlib.Core.List.{List, []}
 use Prim.Native.Nat.{ℕ, _-_, _≤_}
 use lib.ListN.{drop}
 use lib.Dec.{T}
-use Rattle.nll_spec.specs.Syntax.{BorrowKind, Variance, RegionName, Free, Ty, RefTy, Args, Param, Job}
+use Rattle.nll_spec.specs.Syntax.{Point, BorrowKind, Variance, RegionName, StructName, Free, Ty, RefTy, Args, NoArgs, RegionArg, TypeArg, Param, StructDecl, Job}
 use Rattle.nll_spec.specs.Decode.{maxNodes, items, param}
-use Rattle.nll_spec.specs.Types.{typeNodes, argNodes}
-use Rattle.nll_spec.specs.Constraints.{Outlives, relate, relateArgs}
+use Rattle.nll_spec.specs.Types.{structOf, headRegion, headType, tailArgs, typeNodes, argNodes}
+use Rattle.nll_spec.specs.Constraints.{Outlives, relateRegions, relate, relateArgs}
 use Rattle.nll_spec.specs.WellFormed.{sameShape, sameShapes}
 use Rattle.repr.specs.Reading.{rest}
-use Rattle.record.specs.Rows.{Stands}
+use Rattle.repr.specs.Stands.{Stands, TypeTo, ArgsTo, TypeAt}
 use Rattle.record.specs.Layout.{Layout}
+use Rattle.record.specs.declared.Head.{Head}
 use Rattle.infer.specs.Ran.{Setting, Given, AllNamed, Ran}
-use Rattle.ty.specs.Stands.{TypeTo, ArgsTo, TypeAt}
 use Rattle.relate.specs.declared.Run.{Run}
-use Rattle.relate.specs.declared.beside.Row.{Row}
+use Rattle.beside.specs.declared.Row.{Row}
 use Rattle.relate.specs.declared.Both.{Both}
 use Rattle.relate.specs.declared.Both.the-variants as both
 
@@ -56,11 +56,39 @@ abbrev pub Fewer : ℕ → Both → Type 0
 Fewer left (both.Ended l c d) = l ≤ left
 Fewer left both.Stopped = Unit {0}
 
+-- ---- What is run, and where both end
+
+-- The struct's parameters stand there.
+pub record ParametersSay (s t : List ℕ) (h : Head) (name : StructName) (r : Row) : Type 0 where
+  pub says : (j : Job) → Layout s t h j → Stands (items (r .count) param) (structOf (j .structs) name .params) (rest s (r .from))
+
+-- the constraints of the first arguments of two rows
+abbrev pub relateFirst : Point → List StructDecl → Args → Variance → Args → List Outlives
+relateFirst p ss NoArgs v h = []
+relateFirst p ss (RegionArg r g) v h = relateRegions p v r (headRegion h)
+relateFirst p ss (TypeArg t g) v h = relate p ss t v (headType h)
+
+-- The other arguments stand there, and l nodes are left for them, of `left` for all.
+pub record OthersAt (a : List ℕ) (x : Row) (b : List ℕ) (y : Row) (left l : ℕ) (g h : Args) (p q : List ℕ) : Type 0 where
+  pub stand : Arguments a x b y l (tailArgs g) (tailArgs h) p q
+  pub nodes : l - argNodes (tailArgs g) ≡ left - argNodes g
+
+abbrev pub Others : List ℕ → ℕ → List ℕ → ℕ → ℕ → Args → Args → List ℕ → List ℕ → Both → Type 0
+Others a m b n left g h p q (both.Ended l c d) = OthersAt a (record { from = c; count = m - 1 }) b (record { from = d; count = n - 1 }) left l g h p q
+Others a m b n left g h p q both.Stopped = ⊥
+
 module _ (s t : List ℕ) (run : Run) (first succ last : List ℕ) where
   pub record TypesRelate (a : List ℕ) (x : ℕ) (b : List ℕ) (y left : ℕ) (v : Variance) (ws grew ws′ grew′ : List ℕ) (r : Both) : Type 0 where
     pub runs : (j : Job) → Layout s t (run .head) j → (m n : Ty) (p q : List ℕ) → Types a x b y left m n p q
         → Runs run first succ last (relate (run .at) (j .structs) m v n) ws grew ws′ grew′
     pub ends : (m n : Ty) (p q : List ℕ) → Types a x b y left m n p q → Ends a b (left - typeNodes m) p q r
+    pub fewer : Fewer left r
+
+  -- The first arguments, under their own variance.
+  pub record FirstRelates (a : List ℕ) (x : Row) (b : List ℕ) (y : Row) (left : ℕ) (v : Variance) (ws grew ws′ grew′ : List ℕ) (r : Both) : Type 0 where
+    pub runs : (j : Job) → Layout s t (run .head) j → (g h : Args) (p q : List ℕ) → Arguments a x b y left g h p q
+        → Runs run first succ last (relateFirst (run .at) (j .structs) g v h) ws grew ws′ grew′
+    pub ends : (g h : Args) (p q : List ℕ) → Arguments a x b y left g h p q → Others a (x .count) b (y .count) left g h p q r
     pub fewer : Fewer left r
 
   pub record ArgumentsRelate (params : Row) (a : List ℕ) (x : Row) (b : List ℕ) (y : Row) (left : ℕ) (v : Variance) (ws grew ws′ grew′ : List ℕ) (r : Both) : Type 0 where

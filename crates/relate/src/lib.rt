@@ -1,5 +1,4 @@
 // Two types related under a variance at a point: the constraints of their regions are run one by one.
-mod beside;
 mod variance;
 
 use beside::Heads;
@@ -18,6 +17,7 @@ use repr::NodeStep;
 use repr::NodesStep;
 use repr::Region;
 use repr::RegionName;
+use repr::StructName;
 use repr::Variance;
 use variance::invert;
 use variance::referent_variance;
@@ -26,7 +26,7 @@ ghost use mathlib.Core.Path.{_≡_};
 ghost use lib.ListN.{length};
 ghost use Rattle.nll_spec.specs.Constraints.{requireOutlives, relateRegions};
 ghost use Rattle.repr.specs.Reading.{varianceOf, regionOf};
-ghost use Rattle.relate.specs.Relates.{Runs, TypesRelate, ArgumentsRelate, Relates, RelatesRef};
+ghost use Rattle.relate.specs.Relates.{Runs, ParametersSay, TypesRelate, FirstRelates, ArgumentsRelate, Relates, RelatesRef};
 
 // What constraints are made and run with: the record's head, their point, the sizes of the region sets, and the end rule.
 pub struct Run {
@@ -36,7 +36,22 @@ pub struct Run {
     pub rule: EndRule,
 }
 
-// Two types related, with the nodes that are left and where each ends; or not, as they differ.
+// Where two types begin. The first has at most `left` nodes.
+struct Types {
+    a: Cursor,
+    b: Cursor,
+    left: usize,
+}
+
+// Two rows of arguments for these parameters. The arguments of the first have at most `left` nodes.
+struct Rows {
+    params: Row,
+    a: Row,
+    b: Row,
+    left: usize,
+}
+
+// Two parts related, with the nodes that are left and where each ends; or not, as they differ.
 enum Both {
     Ended { left: usize, a: Cursor, b: Cursor },
     Stopped,
@@ -103,16 +118,27 @@ fn relate_regions(
     }
 }
 
-// Two types, the first of at most `left` nodes.
+// A struct's parameters.
+fn parameters_of(s: &[u8], layout: &[u16; 1280], head: Head, name: StructName) -> Row
+    requires { ⌜ length (now layout) ≡ 1280 ⌝ }
+    ensures { λ r. ⌜ ParametersSay (now (s .entry)) (now (layout .entry)) head (name .0) r ⌝ }
+{
+    let d = record::access::struct_decl_at(s, layout, head, name);
+    let from = d.declared;
+    Row {
+        from,
+        count: d.parameters,
+    }
+}
+
+// Relates two types.
 fn relate_types(
     s: &[u8],
     layout: &[u16; 1280],
     a: &[u8],
-    x: Cursor,
     b: &[u8],
-    y: Cursor,
-    left: usize,
-    variance: Variance,
+    two: Types,
+    v: Variance,
     run: Run,
     words: &mut [u32],
     first: &[u16; 1025],
@@ -122,20 +148,18 @@ fn relate_types(
 ) -> Both
     requires { ⌜ length (now layout) ≡ 1280 ⌝ }
     ensures { λ r. ⌜ TypesRelate (now (s .entry)) (now (layout .entry)) run (now (first .entry)) (now (succ .entry)) (now (last .entry))
-        (now (a .entry)) (x .at) (now (b .entry)) (y .at) left (varianceOf variance)
+        (now (a .entry)) (two .a .at) (now (b .entry)) (two .b .at) (two .left) (varianceOf v)
         (now (words .entry)) (now (grew .entry)) (now (words .exit)) (now (grew .exit)) r ⌝ }
 {
-    if left == 0 {
+    if two.left == 0 {
         return Both::Stopped;
     }
-    let less = left - 1;
+    let left = two.left - 1;
+    let x = two.a;
+    let y = two.b;
     match beside(x.type_node(a), y.type_node(b)) {
         Heads::Differ => Both::Stopped,
-        Heads::Units(p, q) => Both::Ended {
-            left: less,
-            a: p,
-            b: q,
-        },
+        Heads::Units(p, q) => Both::Ended { left, a: p, b: q },
         Heads::Refs {
             kind,
             r,
@@ -143,73 +167,80 @@ fn relate_types(
             o,
             b: q,
         } => {
-            relate_regions(invert(variance), r, o, run, words, first, succ, last, grew);
-            let v = within(variance, referent_variance(kind));
-            relate_types(
-                s,
-                layout,
-                a,
-                p,
-                b,
-                q,
-                less,
-                v,
-                run,
-                words,
-                first,
-                succ,
-                last,
-                grew,
-            )
+            relate_regions(invert(v), r, o, run, words, first, succ, last, grew);
+            let w = within(v, referent_variance(kind));
+            let to = Types { a: p, b: q, left };
+            relate_types(s, layout, a, b, to, w, run, words, first, succ, last, grew)
         }
-        Heads::Structs {
-            name,
-            m,
-            a: p,
-            n,
-            b: q,
-        } => {
+        Heads::Structs { name, a: g, b: h } => {
             let head = run.head;
-            let d = record::access::struct_decl_at(s, layout, head, name);
-            let from = d.declared;
-            let params = Row {
-                from,
-                count: d.parameters,
-            };
-            let g = Row { from: p, count: m };
-            let h = Row { from: q, count: n };
-            relate_arguments(
-                s,
-                layout,
+            let params = parameters_of(s, layout, head, name);
+            let of = Rows {
                 params,
-                a,
-                g,
-                b,
-                h,
-                less,
-                variance,
-                run,
-                words,
-                first,
-                succ,
-                last,
-                grew,
-            )
+                a: g,
+                b: h,
+                left,
+            };
+            relate_arguments(s, layout, a, b, of, v, run, words, first, succ, last, grew)
         }
     }
 }
 
-// Two rows of arguments, the first of at most `left` nodes together, for these parameters.
+// Relates the first arguments of two rows, under their own variance. The first row has one.
+fn relate_first(
+    s: &[u8],
+    layout: &[u16; 1280],
+    a: &[u8],
+    b: &[u8],
+    two: Rows,
+    v: Variance,
+    run: Run,
+    words: &mut [u32],
+    first: &[u16; 1025],
+    succ: &[u16; 1536],
+    last: &[u8; 128],
+    grew: &mut [u8; 128],
+) -> Both
+    requires { ⌜ (length (now layout) ≡ 1280) × (two .a .count ≡ 0 → ⊥) ⌝ }
+    ensures { λ r. ⌜ FirstRelates (now (s .entry)) (now (layout .entry)) run (now (first .entry)) (now (succ .entry)) (now (last .entry))
+        (now (a .entry)) (two .a) (now (b .entry)) (two .b) (two .left) (varianceOf v)
+        (now (words .entry)) (now (grew .entry)) (now (words .exit)) (now (grew .exit)) r ⌝ }
+{
+    let g = two.a;
+    let x = g.from;
+    let h = two.b;
+    let left = two.left;
+    match first_pair(a, x, b, h) {
+        Pair::Differ => Both::Stopped,
+        Pair::Regions { r, a: p, o, b: q } => {
+            relate_regions(v, r, o, run, words, first, succ, last, grew);
+            Both::Ended { left, a: p, b: q }
+        }
+        Pair::Units(p, q) => {
+            if left == 0 {
+                return Both::Stopped;
+            }
+            Both::Ended {
+                left: left - 1,
+                a: p,
+                b: q,
+            }
+        }
+        Pair::Types(p, q) => {
+            let to = Types { a: p, b: q, left };
+            relate_types(s, layout, a, b, to, v, run, words, first, succ, last, grew)
+        }
+    }
+}
+
+// Relates two rows of arguments.
 fn relate_arguments(
     s: &[u8],
     layout: &[u16; 1280],
-    params: Row,
     a: &[u8],
-    g: Row,
     b: &[u8],
-    h: Row,
-    left: usize,
-    variance: Variance,
+    two: Rows,
+    v: Variance,
     run: Run,
     words: &mut [u32],
     first: &[u16; 1025],
@@ -219,117 +250,38 @@ fn relate_arguments(
 ) -> Both
     requires { ⌜ length (now layout) ≡ 1280 ⌝ }
     ensures { λ r. ⌜ ArgumentsRelate (now (s .entry)) (now (layout .entry)) run (now (first .entry)) (now (succ .entry)) (now (last .entry))
-        params (now (a .entry)) g (now (b .entry)) h left (varianceOf variance)
+        (two .params) (now (a .entry)) (two .a) (now (b .entry)) (two .b) (two .left) (varianceOf v)
         (now (words .entry)) (now (grew .entry)) (now (words .exit)) (now (grew .exit)) r ⌝ }
 {
-    let x = g.from;
+    let g = two.a;
+    let h = two.b;
     if g.count == 0 {
+        let x = g.from;
         let y = h.from;
         return match y.arguments(b, h.count, 32) {
             NodesStep::Refused(_) => Both::Stopped,
             NodesStep::Ended { left: _, next } => Both::Ended {
-                left,
+                left: two.left,
                 a: x,
                 b: next,
             },
         };
     }
+    let params = two.params;
     let own = first_parameter(s, params);
     let declared = own.variance;
-    let more = own.others;
-    let v = within(variance, declared);
-    match first_pair(a, x, b, h) {
-        Pair::Differ => Both::Stopped,
-        Pair::Regions { r, a: p, o, b: q } => {
-            relate_regions(v, r, o, run, words, first, succ, last, grew);
-            let i = after(g, p);
-            let k = after(h, q);
-            relate_arguments(
-                s,
-                layout,
-                more,
-                a,
-                i,
-                b,
-                k,
+    let w = within(v, declared);
+    match relate_first(s, layout, a, b, two, w, run, words, first, succ, last, grew) {
+        Both::Stopped => Both::Stopped,
+        Both::Ended { left, a: p, b: q } => {
+            let others = own.others;
+            let to = Rows {
+                params: others,
+                a: after(g, p),
+                b: after(h, q),
                 left,
-                variance,
-                run,
-                words,
-                first,
-                succ,
-                last,
-                grew,
-            )
-        }
-        Pair::Units(p, q) => {
-            if left == 0 {
-                return Both::Stopped;
-            }
-            let i = after(g, p);
-            let k = after(h, q);
-            relate_arguments(
-                s,
-                layout,
-                more,
-                a,
-                i,
-                b,
-                k,
-                left - 1,
-                variance,
-                run,
-                words,
-                first,
-                succ,
-                last,
-                grew,
-            )
-        }
-        Pair::Types(c, d) => {
-            match relate_types(
-                s,
-                layout,
-                a,
-                c,
-                b,
-                d,
-                left,
-                v,
-                run,
-                words,
-                first,
-                succ,
-                last,
-                grew,
-            ) {
-                Both::Stopped => Both::Stopped,
-                Both::Ended {
-                    left: rest,
-                    a: p,
-                    b: q,
-                } => {
-                    let i = after(g, p);
-                    let k = after(h, q);
-                    relate_arguments(
-                        s,
-                        layout,
-                        more,
-                        a,
-                        i,
-                        b,
-                        k,
-                        rest,
-                        variance,
-                        run,
-                        words,
-                        first,
-                        succ,
-                        last,
-                        grew,
-                    )
-                }
-            }
+            };
+            relate_arguments(s, layout, a, b, to, v, run, words, first, succ, last, grew)
         }
     }
 }
@@ -338,9 +290,9 @@ fn relate_arguments(
 pub fn relate(
     s: &[u8],
     layout: &[u16; 1280],
-    a: &[u8],
+    a: &[u8; 512],
     x: Cursor,
-    b: &[u8],
+    b: &[u8; 512],
     y: Cursor,
     variance: Variance,
     run: Run,
@@ -355,14 +307,17 @@ pub fn relate(
         (now (a .entry)) (x .at) (now (b .entry)) (y .at) (varianceOf variance)
         (now (words .entry)) (now (grew .entry)) (now (words .exit)) (now (grew .exit)) ⌝ }
 {
+    let two = Types {
+        a: x,
+        b: y,
+        left: 32,
+    };
     relate_types(
         s,
         layout,
         a,
-        x,
         b,
-        y,
-        32,
+        two,
         variance,
         run,
         words,
@@ -377,10 +332,10 @@ pub fn relate(
 pub fn relate_ref(
     s: &[u8],
     layout: &[u16; 1280],
-    a: &[u8],
+    a: &[u8; 512],
     x: Cursor,
     region: RegionName,
-    b: &[u8],
+    b: &[u8; 512],
     y: Cursor,
     variance: Variance,
     run: Run,

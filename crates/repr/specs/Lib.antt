@@ -2,3 +2,5 @@
 pub mod Reading
 pub mod Types
 pub mod Parts
+pub mod Spelling
+pub mod Stands

@@ -17,8 +17,8 @@ use Rattle.repr.specs.Reading.{byteSays}
 use Rattle.repr.specs.declared.ByteStep.{ByteStep}
 use Rattle.repr.specs.declared.ByteStep.the-variants as byteStep
 use Rattle.repr.specs.declared.Cursor.{Cursor}
-use Rattle.record.specs.Rows.{Stands}
-use Rattle.ty.proofs.ItemLaws.{first-of, none-of}
+use Rattle.repr.specs.Stands.{Stands}
+use Rattle.repr.proofs.ItemLaws.{first-of, none-of}
 use Rattle.seeds.specs.Chosen.{addAll}
 
 -- ---- Numbers that are put in

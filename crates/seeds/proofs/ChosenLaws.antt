@@ -2,7 +2,7 @@
 use mathlib.Core.Path.{_≡_, refl, sym, ap, subst, _∙_}
 use mathlib.Core.Bool.{Bool, true, false, cond}
 use mathlib.Core.List.{List, [], _∷_, _++_, tail}
-use Prim.Native.Nat.{ℕ, suc, _+_, _-_, _≤_}
+use Prim.Native.Nat.{ℕ, _+_, _-_, _≤_}
 use native.Mathlib.Omega.{arith}
 use native.Mathlib.Nat.{le-refl, sub-zero}
 use lib.ListN.{drop}
@@ -10,7 +10,7 @@ use Rattle.nll_spec.specs.Syntax.{Ty, UnitTy, RefTy, StructTy, BoundTy, Args, N
 use Rattle.nll_spec.specs.Syntax as syntax
 use Rattle.nll_spec.specs.Types.{structOf, regionName, regionsOf, argRegions, typeNodes, argNodes}
 use Rattle.nll_spec.specs.Regions.{headDangles, dropRegions, dropArgRegions}
-use Rattle.nll_spec.specs.Decode.{read, done, items, param, typeWithin, type, maxNodes}
+use Rattle.nll_spec.specs.Decode.{done, items, param, type}
 use Rattle.repr.specs.Reading.{rest, borrowKindOf, regionOf, parameterSays}
 use Rattle.repr.specs.Types.{node, NodeSays, ArgumentSays}
 use Rattle.repr.specs.declared.Cursor.{Cursor}
@@ -25,15 +25,14 @@ use Rattle.repr.specs.declared.ArgumentStep.the-variants as argumentStep
 use Rattle.repr.specs.declared.ParameterStep.{ParameterStep}
 use Rattle.repr.specs.declared.ParameterStep.the-variants as parameterStep
 use Rattle.repr.specs.declared.StructParameter.{StructParameter}
-use Rattle.record.specs.Rows.{Stands}
+use Rattle.repr.specs.Stands.{Stands, TypeTo, ArgsTo}
 use Rattle.record.specs.Layout.{Layout}
 use Rattle.record.specs.Access.{Declared}
 use Rattle.record.specs.declared.Head.{Head}
-use Rattle.ty.specs.Stands.{TypeTo, ArgsTo}
-use Rattle.ty.proofs.SpellLaws.{carry, then}
-use Rattle.ty.proofs.ItemLaws.{first-of, none-of}
-use Rattle.ty.proofs.StandLaws.{NodeIs, LeafIs, node-is, ArgumentIs, argument-is, none-is, type-bytes}
-use Rattle.ty.proofs.ShapeLaws.{type-nodes}
+use Rattle.repr.proofs.SpellLaws.{carry}
+use Rattle.repr.proofs.ItemLaws.{first-of, none-of}
+use Rattle.repr.proofs.StandLaws.{LeafIs, on-node, on-argument, none-is, whole}
+use Rattle.repr.proofs.NodeLaws.{type-nodes, ref-nodes, struct-nodes, region-nodes, first-nodes}
 use Rattle.seeds.specs.declared.Which.{Which}
 use Rattle.seeds.specs.declared.Which.the-variants.{Every, Dropped, Nothing}
 use Rattle.seeds.specs.declared.Rest.{Rest}
@@ -115,28 +114,7 @@ module _ (s : List ℕ) (declared : Cursor) (n : ℕ) where
         (λ item others i k l. record { dangles = rw i (ap (λ (x : Param). x .mayDangle) k); others = rw i l })
         (w .item) (w .others) (w .same) refl (record { over = q .over; reads = w .reads })
 
--- ---- The nodes of parts
-
-ref-nodes : {t u : Ty} {k : syntax.BorrowKind} {r : syntax.Region} → t ≡ RefTy k r u → typeNodes t ≡ suc (typeNodes u)
-unfolding typeNodes
-ref-nodes e = rw e
-
-struct-nodes : {t : Ty} {n : ℕ} {g : Args} → t ≡ StructTy n g → typeNodes t ≡ suc (argNodes g)
-unfolding typeNodes
-struct-nodes e = rw e
-
-region-nodes : {g more : Args} {r : syntax.Region} → g ≡ RegionArg r more → argNodes g ≡ argNodes more
-unfolding argNodes
-region-nodes e = rw e
-
-first-nodes : {g more : Args} {t : Ty} → g ≡ TypeArg t more → argNodes g ≡ typeNodes t + argNodes more
-unfolding argNodes
-first-nodes e = rw e
-
 -- ---- A type
-
-on-node : {s : List ℕ} {at : ℕ} {d w : NodeStep} → NodeSays node s at d → d ≡ w → (t : Ty) (bs : List ℕ) → TypeTo (drop at s) t bs → NodeIs s t bs w
-on-node {s} m e t bs p = subst (λ (x : NodeStep). NodeIs s t bs x) e (node-is m p)
 
 module _ {s t : List ℕ} {h : Head} {which : Which} {at left : ℕ} {before : List ℕ} where
   pub adds-none : (r : Rest) → left ≡ 0 → r .left ≡ left → TypeAdds s t h which at left before before r
@@ -152,21 +130,21 @@ module _ {s t : List ℕ} {h : Head} {which : Which} {at left : ℕ} {before : L
 
   module _ {d : NodeStep} (m : NodeSays node s at d) where
     pub adds-refused : {k : ℕ} (r : Rest) → r .left ≤ left → d ≡ nodeStep.Refused k → TypeAdds s t h which at left before before r
-    adds-refused r i e = record { adds = λ j l ty bs p k. absurd (on-node m e ty bs p); fewer = i }
+    adds-refused r i e = record { adds = λ j l ty bs p k. absurd (on-node m e p); fewer = i }
 
     pub adds-unit : {c : Cursor} → d ≡ nodeStep.Unit c → TypeAdds s t h which at left before before (record { left = left - 1; next = c })
     unfolding typeNodes
-    adds-unit e = leaf refl (chosen-unit which) (on-node m e)
+    adds-unit e = leaf refl (chosen-unit which) (λ t bs p. on-node m e p)
 
     pub adds-bound : {b : ℕ} {c : Cursor} → d ≡ nodeStep.Bound b c → TypeAdds s t h which at left before before (record { left = left - 1; next = c })
     unfolding typeNodes
-    adds-bound {b} e = leaf refl (λ ss. chosen-bound which ss b) (on-node m e)
+    adds-bound {b} e = leaf refl (λ ss. chosen-bound which ss b) (λ t bs p. on-node m e p)
 
     pub adds-ref : {q : BorrowKind} {o : Region} {c : Cursor} {inner : Which} {mid after : List ℕ} {r : Rest} → d ≡ nodeStep.Ref q o c → (left ≡ 0 → ⊥)
         → mid ≡ addAll before 0 (chosenRegion which (regionOf o)) → inner ≡ inRef which → TypeAdds s t h inner (c .at) (left - 1) mid after r → TypeAdds s t h which at left before after r
     adds-ref {q} {o} {inner = inner} {mid = mid} e z f i v = record {
       adds = λ j l ty bs p k.
-          let w = on-node m e ty bs p in
+          let w = on-node m e p in
           let n = ref-nodes (w .same) in
           let u = v .adds j l (w .referent) bs (w .stands) (omega arith) in
           record {
@@ -182,7 +160,7 @@ module _ {s t : List ℕ} {h : Head} {which : Which} {at left : ℕ} {before : L
         → ArgumentsAdd s t h which (x .declared) (x .parameters) (c .at) n (left - 1) before after r → TypeAdds s t h which at left before after r
     adds-struct {name} e z f v = record {
       adds = λ j l ty bs p k.
-          let w = on-node m e ty bs p in
+          let w = on-node m e p in
           let n = struct-nodes (w .same) in
           let u = v .adds j l (structOf (j .structs) (name .0) .params) (f j l .params) (w .given) bs (w .stands) (omega arith) in
           record {
@@ -195,9 +173,6 @@ module _ {s t : List ℕ} {h : Head} {which : Which} {at left : ℕ} {before : L
 
 -- ---- Arguments
 
-on-argument : {s : List ℕ} {at n : ℕ} {d w : ArgumentStep} → ArgumentSays s at d → (n ≡ 0 → ⊥) → d ≡ w → (g : Args) (bs : List ℕ) → ArgsTo (drop at s) n g bs → ArgumentIs s (n - 1) g bs w
-on-argument {s} {n = n} m z e g bs p = subst (λ (x : ArgumentStep). ArgumentIs s (n - 1) g bs x) e (argument-is m z p)
-
 module _ {s t : List ℕ} {h : Head} {which : Which} {declared : Cursor} {parameters n left : ℕ} {before : List ℕ} where
   pub args-none : (c : Cursor) → n ≡ 0 → ArgumentsAdd s t h which declared parameters (c .at) n left before before (record { left = left; next = c })
   unfolding argNodes
@@ -208,14 +183,14 @@ module _ {s t : List ℕ} {h : Head} {which : Which} {declared : Cursor} {parame
 
   module _ {at : ℕ} {d : ArgumentStep} (m : ArgumentSays s at d) (z : n ≡ 0 → ⊥) where
     pub args-refused : {k : ℕ} (r : Rest) → r .left ≤ left → d ≡ argumentStep.Refused k → ArgumentsAdd s t h which declared parameters at n left before before r
-    args-refused r i e = record { adds = λ j l ds q g bs p k. absurd (on-argument m z e g bs p); fewer = i }
+    args-refused r i e = record { adds = λ j l ds q g bs p k. absurd (on-argument m z e p); fewer = i }
 
     module _ {first : First} (f : (ds : List Param) → Stands (items parameters param) ds (rest s declared) → FirstIs s ds first) {inner : Which} (i : inner ≡ inArgument which (first .dangles)) where
       pub args-region : {o : Region} {c : Cursor} {mid after : List ℕ} {r : Rest} → d ≡ argumentStep.Region o c → mid ≡ addAll before 0 (chosenRegion inner (regionOf o))
           → ArgumentsAdd s t h which (first .declared) (first .count) (c .at) (n - 1) left mid after r → ArgumentsAdd s t h which declared parameters at n left before after r
       args-region {o} e a v = record {
         adds = λ j l ds q g bs p k.
-            let w = on-argument m z e g bs p in
+            let w = on-argument m z e p in
             let y = f ds q in
             let c = region-nodes (w .same) in
             let u = v .adds j l (tail ds) (y .others) (w .more) bs (w .others) (omega arith) in
@@ -232,7 +207,7 @@ module _ {s t : List ℕ} {h : Head} {which : Which} {declared : Cursor} {parame
           → ArgumentsAdd s t h which (first .declared) (first .count) (end .next .at) (n - 1) (end .left) mid after r → ArgumentsAdd s t h which declared parameters at n left before after r
       args-type e a v = record {
         adds = λ j l ds q g bs p k.
-            let w = on-argument m z e g bs p in
+            let w = on-argument m z e p in
             let y = f ds q in
             let c = first-nodes (w .same) in
             let x = a .adds j l (w .item) (w .mid) (w .first) (omega arith) in
@@ -249,20 +224,6 @@ module _ {s t : List ℕ} {h : Head} {which : Which} {declared : Cursor} {parame
 
 -- ---- A whole type
 
--- a type that `type` reads
-record Whole (bs : List ℕ) (t : Ty) : Type 0 where
-  over : List ℕ
-  stands : TypeTo bs t over
-  few : typeNodes t ≤ maxNodes
-
-whole : {bs : List ℕ} {t : Ty} {after : List ℕ} → type bs ≡ read t after → Whole bs t
-unfolding type done
-whole {bs} e =
-    let w = then (typeWithin (suc maxNodes) maxNodes) _ bs e in
-    let p : TypeTo bs (w .got .item) (w .mid) = record { deep = suc maxNodes; left = maxNodes; after = w .got .left; reads = w .first } in
-    let n = type-bytes p .nodes in
-    carry (λ (u : Ty) o. Whole bs u) (w .last) (record { over = w .mid; stands = p; few = omega arith })
-
 pub type-added : {s t : List ℕ} {h : Head} {which : Which} {at : ℕ} {before after : List ℕ} {r : Rest} → TypeAdds s t h which at 32 before after r
     → (j : Job) (ty : Ty) → Layout s t h j → Stands type ty (drop at s) → after ≡ addAll before 0 (chosen which (j .structs) ty)
-type-added v j ty l p = let w = whole (p .reads) in v .adds j l ty (w .over) (w .stands) (w .few) .words
+type-added v j ty l p = let w = whole (p .reads) in v .adds j l ty (p .over) (w .stands) (w .few) .words

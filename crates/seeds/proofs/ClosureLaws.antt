@@ -33,12 +33,12 @@ use Rattle.repr.specs.declared.ByteStep.{ByteStep}
 use Rattle.repr.specs.declared.ByteStep.the-variants as byteStep
 use Rattle.repr.specs.declared.Cursor.{Cursor}
 use Rattle.repr.proofs.ReadLaws.{step}
-use Rattle.record.specs.Rows.{Stands}
+use Rattle.repr.specs.Stands.{Stands}
 use Rattle.record.specs.Layout.{Layout}
 use Rattle.record.specs.Access.{entryIn}
 use Rattle.record.specs.declared.Head.{Head}
 use Rattle.record.proofs.AccessLaws.{outlives-at}
-use Rattle.ty.proofs.SpellLaws.{then}
+use Rattle.repr.proofs.SpellLaws.{then}
 
 -- ---- The loop
 

@@ -15,7 +15,7 @@ use Rattle.nll_spec.specs.Decode.{type}
 use Rattle.nll_spec.specs.Output.{wordBits}
 use Rattle.repr.specs.Reading.{rest}
 use Rattle.repr.specs.declared.Cursor.{Cursor}
-use Rattle.record.specs.Rows.{Stands}
+use Rattle.repr.specs.Stands.{Stands}
 use Rattle.record.specs.Layout.{Layout}
 use Rattle.record.specs.Access.{entryIn}
 use Rattle.record.specs.declared.Head.{Head}

@@ -11,10 +11,9 @@ use Rattle.nll_spec.specs.Decode.{items, param}
 use Rattle.nll_spec.specs.Output.{wordBits}
 use Rattle.repr.specs.Reading.{rest}
 use Rattle.repr.specs.declared.Cursor.{Cursor}
-use Rattle.record.specs.Rows.{Stands}
+use Rattle.repr.specs.Stands.{Stands, TypeTo, ArgsTo}
 use Rattle.record.specs.Layout.{Layout}
 use Rattle.record.specs.declared.Head.{Head}
-use Rattle.ty.specs.Stands.{TypeTo, ArgsTo}
 use Rattle.bit_set.specs.Bits.{withBit}
 use Rattle.seeds.specs.declared.Which.{Which}
 use Rattle.seeds.specs.declared.Which.the-variants.{Every, Dropped, Nothing}

@@ -13,7 +13,7 @@ ghost use Rattle.nll_spec.specs.Output.{wordBits};
 ghost use Rattle.nll_spec.specs.Syntax.{Job};
 ghost use Rattle.nll_spec.specs.Decode.{byte, items};
 ghost use Rattle.repr.specs.Reading.{rest};
-ghost use Rattle.record.specs.Rows.{Stands};
+ghost use Rattle.repr.specs.Stands.{Stands};
 ghost use Rattle.record.specs.Layout.{Layout};
 ghost use Rattle.record.specs.declared.Head as heads;
 ghost use Rattle.bit_set.specs.Bits.{withBit};

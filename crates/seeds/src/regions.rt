@@ -17,7 +17,7 @@ ghost use Rattle.nll_spec.specs.Syntax.{Ty, Param, Job};
 ghost use Rattle.nll_spec.specs.Types.{regionName};
 ghost use Rattle.nll_spec.specs.Decode.{type, items, param};
 ghost use Rattle.repr.specs.Reading.{rest, regionOf};
-ghost use Rattle.record.specs.Rows.{Stands};
+ghost use Rattle.repr.specs.Stands.{Stands};
 ghost use Rattle.record.specs.Layout.{Layout};
 ghost use Rattle.seeds.specs.Chosen.{addAll, inRef, inArgument, chosenRegion, chosen, FirstIs, TypeAdds, ArgumentsAdd};
 

@@ -18,11 +18,11 @@ use Rattle.repr.specs.declared.ArgumentStep.{ArgumentStep}
 use Rattle.repr.specs.declared.ArgumentStep.the-variants as argumentStep
 use Rattle.repr.specs.declared.NodesStep.{NodesStep}
 use Rattle.repr.specs.declared.NodesStep.the-variants as nodesStep
-use Rattle.ty.specs.Stands.{TypeTo, ArgsTo}
-use Rattle.ty.specs.Spelling.{spell, spellArgs, FineArgs}
+use Rattle.repr.specs.Stands.{TypeTo, ArgsTo}
+use Rattle.repr.specs.Spelling.{spell, spellArgs, FineArgs}
 use Rattle.ty.specs.Written.{Given, FoundIs, FoundSays, RegionSays}
-use Rattle.ty.proofs.SpellLaws.{clash, args-spells}
-use Rattle.ty.proofs.StandLaws.{args-bytes, ArgumentIs, argument-is, none-is, args-passed}
+use Rattle.repr.proofs.SpellLaws.{clash, args-spells}
+use Rattle.repr.proofs.StandLaws.{args-bytes, ArgumentIs, argument-is, none-is, args-passed}
 
 -- ---- Some arguments, in two parts
 

@@ -1,6 +1,3 @@
-pub mod SpellLaws
-pub mod ItemLaws
-pub mod StandLaws
 pub mod ShapeLaws
 pub mod PutLaws
 pub mod FoundLaws

@@ -20,14 +20,14 @@ use Rattle.repr.specs.declared.NodeStep.{NodeStep}
 use Rattle.repr.specs.declared.NodeStep.the-variants as nodeStep
 use Rattle.repr.specs.declared.ArgumentStep.{ArgumentStep}
 use Rattle.repr.specs.declared.ArgumentStep.the-variants as argumentStep
-use Rattle.ty.specs.Stands.{TypeTo, ArgsTo, TypeAt, ArgsAt}
-use Rattle.ty.specs.Spelling.{kindByte, regionTag, regionNumber, spell, spellArgs, Fine, FineArgs}
+use Rattle.repr.specs.Stands.{TypeTo, ArgsTo, TypeAt, ArgsAt}
+use Rattle.repr.specs.Spelling.{kindByte, regionTag, regionNumber, spell, spellArgs, Fine, FineArgs}
 use Rattle.ty.specs.Written.{RegionSays, Puts, Writes, Room, UnitSays, CopySays, BoundSays, SubstSays, ArgumentsSay, Stood, WholeSays, CopiedSays}
 use Rattle.ty.specs.declared.write.Wrote.{Wrote}
 use Rattle.ty.specs.declared.write.Wrote.the-variants.{Ended, Over}
 use Rattle.ty.specs.declared.write.Whole.the-variants.{Written, TooLarge}
-use Rattle.ty.proofs.StandLaws.{type-bytes, args-bytes, type-to, NodeIs, node-is, ArgumentIs, argument-is, none-is}
-use Rattle.ty.proofs.ShapeLaws.{type-nodes}
+use Rattle.repr.proofs.StandLaws.{type-bytes, args-bytes, type-to, on-node, on-argument, none-is}
+use Rattle.repr.proofs.NodeLaws.{type-nodes}
 use Rattle.ty.proofs.PutLaws.{put1}
 use Rattle.ty.proofs.WriteLaws.{writes-more, room-more, unit-there}
 
@@ -90,9 +90,6 @@ module _ {f : List ℕ} {c : ℕ} {s : List ℕ} {from count : ℕ} {dst dst′ 
   pub subst-none : left ≡ 0 → SubstSays f c s from count dst dst′ at left Over
   subst-none z = record { says = λ t over g p w. let k = type-nodes (subst t g) in omega arith; room = tt }
 
-on-node : {f : List ℕ} {c : ℕ} {d x : NodeStep} {t : Ty} {over : List ℕ} → NodeSays node f c d → d ≡ x → TypeTo (drop c f) t over → NodeIs f t over x
-on-node {f} {t = t} {over = over} m e p = transport (λ (x : NodeStep). NodeIs f t over x) e (node-is m p)
-
 module _ {f : List ℕ} {c : ℕ} {s : List ℕ} {from count : ℕ} {dst dst′ : List ℕ} {at left : ℕ} {d : NodeStep} (m : NodeSays node f c d) where
   pub subst-refused : {k : ℕ} → d ≡ nodeStep.Refused k → SubstSays f c s from count dst dst′ at left Over
   subst-refused e = record { says = λ t over g p w. absurd (on-node m e p); room = tt }
@@ -138,9 +135,6 @@ module _ {f : List ℕ} {c : ℕ} {s : List ℕ} {from count : ℕ} {dst dst′ 
     }
 
 -- ---- Arguments
-
-on-argument : {f : List ℕ} {c n : ℕ} {d x : ArgumentStep} {h : Args} {over : List ℕ} → ArgumentSays f c d → (n ≡ 0 → ⊥) → d ≡ x → ArgsTo (drop c f) n h over → ArgumentIs f (n - 1) h over x
-on-argument {f} {n = n} {h = h} {over = over} m z e p = transport (λ (x : ArgumentStep). ArgumentIs f (n - 1) h over x) e (argument-is m z p)
 
 pub arguments-none : {f : List ℕ} {n : ℕ} {s : List ℕ} {from count : ℕ} {dst : List ℕ} {at left : ℕ} (c : Cursor) → n ≡ 0 → ArgumentsSay f (c .at) n s from count dst dst at left (Ended c at left)
 unfolding substArgs argNodes

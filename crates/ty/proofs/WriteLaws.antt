@@ -17,13 +17,13 @@ use Rattle.repr.specs.declared.ArgumentStep.the-variants as argumentStep
 use Rattle.repr.specs.declared.NodesStep.{NodesStep}
 use Rattle.repr.specs.declared.NodesStep.the-variants as nodesStep
 use Rattle.repr.specs.declared.Region.{Region}
-use Rattle.ty.specs.Stands.{TypeTo}
-use Rattle.ty.specs.Spelling.{spell, spellArgs, Fine, FineArgs}
+use Rattle.repr.specs.Stands.{TypeTo}
+use Rattle.repr.specs.Spelling.{spell, spellArgs, Fine, FineArgs}
 use Rattle.ty.specs.Written.{Bounded, Given, FoundIs, FoundSays, Puts, Writes, Room, UnitSays, CopySays, BoundSays}
 use Rattle.ty.specs.declared.write.Wrote.{Wrote}
 use Rattle.ty.specs.declared.write.Wrote.the-variants.{Ended, Over}
-use Rattle.ty.proofs.SpellLaws.{clash, Spelt}
-use Rattle.ty.proofs.StandLaws.{type-bytes, type-once, type-passed}
+use Rattle.repr.proofs.SpellLaws.{clash, Spelt}
+use Rattle.repr.proofs.StandLaws.{type-bytes, type-once, type-passed}
 
 -- ---- A type takes at most 15 bytes a node
 

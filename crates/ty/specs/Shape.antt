@@ -1,103 +1,18 @@
 -- What the comparison of two types says of them.
 use mathlib.Core.Path.{_≡_}
-use mathlib.Core.Bool.{Bool, true, false, cond}
+use mathlib.Core.Bool.{Bool, true, false}
 use mathlib.Core.List.{List}
-use Prim.Native.Nat.{ℕ, _-_, _≤_}
+use Prim.Native.Nat.{ℕ, _+_, _-_, _≤_}
 use lib.ListN.{drop}
-use lib.Dec.{eqb}
-use Rattle.nll_spec.specs.Syntax.{BorrowKind, Ty, UnitTy, RefTy, Args, Region}
+use Rattle.nll_spec.specs.Syntax.{BorrowKind, Ty, RefTy, Args, Region}
 use Rattle.nll_spec.specs.Decode.{maxNodes}
-use Rattle.nll_spec.specs.Types.{sameKind, headType, tailArgs, typeNodes, argNodes}
-use Rattle.nll_spec.specs.WellFormed.{isUnit, sameShape, sameShapes}
-use Rattle.repr.specs.Reading.{rest, borrowKindOf}
-use Rattle.repr.specs.declared.Cursor.{Cursor}
-use Rattle.repr.specs.declared.BorrowKind.{BorrowKind as Kind}
-use Rattle.repr.specs.declared.StructName.{StructName}
-use Rattle.repr.specs.declared.EndStep.{EndStep}
-use Rattle.repr.specs.declared.EndStep.the-variants as endStep
-use Rattle.repr.specs.declared.NodeStep.{NodeStep}
-use Rattle.repr.specs.declared.NodeStep.the-variants as nodeStep
-use Rattle.repr.specs.declared.NodesStep.{NodesStep}
-use Rattle.repr.specs.declared.NodesStep.the-variants as nodesStep
-use Rattle.ty.specs.Stands.{TypeTo, ArgsTo, TypeAt, FirstType}
-use Rattle.ty.specs.declared.shape.Heads.{Heads}
-use Rattle.ty.specs.declared.shape.Heads.the-variants as heads
-use Rattle.ty.specs.declared.shape.First.{First}
-use Rattle.ty.specs.declared.shape.First.the-variants as firsts
+use Rattle.nll_spec.specs.Types.{tailArgs, typeNodes, argNodes}
+use Rattle.nll_spec.specs.WellFormed.{sameShape, sameShapes}
+use Rattle.repr.specs.Reading.{rest}
+use Rattle.repr.specs.Stands.{TypeTo, ArgsTo, TypeAt}
+use Rattle.beside.specs.declared.Row.{Row}
 use Rattle.ty.specs.declared.shape.Shape.{Shape}
 use Rattle.ty.specs.declared.shape.Shape.the-variants as shape
-
--- ---- Two nodes
-
--- a node of one kind, and any other
-abbrev pub unitHeads : Cursor → NodeStep → Heads
-unitHeads c (nodeStep.Unit d) = heads.Units c d
-unitHeads c (nodeStep.Ref k r d) = heads.Differ
-unitHeads c (nodeStep.Struct z n d) = heads.Differ
-unitHeads c (nodeStep.Bound i d) = heads.Differ
-unitHeads c (nodeStep.Refused i) = heads.Differ
-
-abbrev pub refHeads : Kind → Cursor → NodeStep → Heads
-refHeads j c (nodeStep.Unit d) = heads.Differ
-refHeads j c (nodeStep.Ref k r d) = cond (sameKind (borrowKindOf j) (borrowKindOf k)) (heads.Refs c d) heads.Differ
-refHeads j c (nodeStep.Struct z n d) = heads.Differ
-refHeads j c (nodeStep.Bound i d) = heads.Differ
-refHeads j c (nodeStep.Refused i) = heads.Differ
-
-abbrev pub structHeads : StructName → ℕ → Cursor → NodeStep → Heads
-structHeads s m c (nodeStep.Unit d) = heads.Differ
-structHeads s m c (nodeStep.Ref k r d) = heads.Differ
-structHeads s m c (nodeStep.Struct z n d) = cond (eqb (s .0) (z .0)) (heads.Structs m c n d) heads.Differ
-structHeads s m c (nodeStep.Bound i d) = heads.Differ
-structHeads s m c (nodeStep.Refused i) = heads.Differ
-
-abbrev pub headsOf : NodeStep → NodeStep → Heads
-headsOf (nodeStep.Unit c) other = unitHeads c other
-headsOf (nodeStep.Ref k r c) other = refHeads k c other
-headsOf (nodeStep.Struct s m c) other = structHeads s m c other
-headsOf (nodeStep.Bound i c) other = heads.Differ
-headsOf (nodeStep.Refused i) other = heads.Differ
-
--- ---- The first of n arguments h, whose bytes end before `over`
-
--- It is a region, or there is none.
-pub record NoType (bs : List ℕ) (n : ℕ) (h : Args) (over : List ℕ) : Type 0 where
-  pub unit : headType h ≡ UnitTy
-  pub others : ArgsTo bs n (tailArgs h) over
-
-abbrev pub FirstIs : List ℕ → ℕ → Args → List ℕ → First → Type 0
-FirstIs s n h over (firsts.Type c) = FirstType (rest s c) (n - 1) h over
-FirstIs s n h over (firsts.Other c) = NoType (rest s c) (n - 1) h over
-FirstIs s n h over firsts.Refused = ⊥
-
-pub record FirstSays (s : List ℕ) (at n : ℕ) (r : First) : Type 0 where
-  pub says : (h : Args) (over : List ℕ) → ArgsTo (drop at s) n h over → FirstIs s n h over r
-
-abbrev pub PassedIs : List ℕ → ℕ → Args → List ℕ → EndStep → Type 0
-PassedIs s n h over (endStep.Ended c) = ArgsTo (rest s c) (n - 1) (tailArgs h) over
-PassedIs s n h over (endStep.Refused k) = ⊥
-
-pub record PassedSays (s : List ℕ) (at n : ℕ) (r : EndStep) : Type 0 where
-  pub says : (h : Args) (over : List ℕ) → ArgsTo (drop at s) n h over → argNodes h ≤ maxNodes → PassedIs s n h over r
-
--- ---- A type, against Unit
-
-pub record IsUnit (bs : List ℕ) (left : ℕ) (t : Ty) (over : List ℕ) (after : ℕ) : Type 0 where
-  pub same : t ≡ UnitTy
-  pub nodes : after ≡ left - 1
-  pub ends : bs ≡ over
-
-abbrev pub UnitIs : List ℕ → ℕ → Ty → List ℕ → NodesStep → Type 0
-UnitIs s left t over (nodesStep.Ended l c) = IsUnit (rest s c) left t over l
-UnitIs s left t over (nodesStep.Refused k) = isUnit t ≡ false
-
-abbrev pub FewerNodes : ℕ → NodesStep → Type 0
-FewerNodes left (nodesStep.Ended l c) = l ≤ left
-FewerNodes left (nodesStep.Refused k) = Unit {0}
-
-pub record UnitSays (s : List ℕ) (at left : ℕ) (r : NodesStep) : Type 0 where
-  pub says : (t : Ty) (over : List ℕ) → TypeTo (drop at s) t over → typeNodes t ≤ left → UnitIs s left t over r
-  pub fewer : FewerNodes left r
 
 -- ---- Two types, or two rows of arguments
 
@@ -123,8 +38,26 @@ pub record TypesSay (a : List ℕ) (x : ℕ) (b : List ℕ) (y left : ℕ) (r : 
   pub says : (t u : Ty) (p q : List ℕ) → TypeTo (drop x a) t p → TypeTo (drop y b) u q → typeNodes t ≤ left → typeNodes u ≤ maxNodes → shapeSays a b r ≡ shapes (sameShape t u) (left - typeNodes t) p q
   pub fewer : Fewer left r
 
-pub record ArgumentsSay (a : List ℕ) (x m : ℕ) (b : List ℕ) (y n left : ℕ) (r : Shape) : Type 0 where
-  pub says : (g h : Args) (p q : List ℕ) → ArgsTo (drop x a) m g p → ArgsTo (drop y b) n h q → argNodes g ≤ left → argNodes h ≤ maxNodes → shapeSays a b r ≡ shapes (sameShapes g h) (left - argNodes g) p q
+-- The first of the arguments g and h are alike, m and n others follow them, and l of the nodes are left.
+pub record FirstAlike (of-a : List ℕ) (m : ℕ) (of-b : List ℕ) (n left l : ℕ) (g h : Args) (p q : List ℕ) : Type 0 where
+  pub more : Args
+  pub alike : sameShapes g h ≡ sameShapes more (tailArgs h)
+  pub nodes : l + argNodes g ≡ left + argNodes more
+  pub a-stand : ArgsTo of-a m more p
+  pub b-stand : ArgsTo of-b n (tailArgs h) q
+
+abbrev pub FirstIs : List ℕ → List ℕ → ℕ → ℕ → ℕ → Args → Args → List ℕ → List ℕ → Shape → Type 0
+FirstIs a b m n left g h p q (shape.Same l c d) = FirstAlike (rest a c) (m - 1) (rest b d) (n - 1) left l g h p q
+FirstIs a b m n left g h p q shape.Differ = sameShapes g h ≡ false
+
+pub record FirstSays (a : List ℕ) (x : ℕ) (b : List ℕ) (row : Row) (left : ℕ) (r : Shape) : Type 0 where
+  pub says : (m : ℕ) (g h : Args) (p q : List ℕ) → (m ≡ 0 → ⊥) → ArgsTo (drop x a) m g p → ArgsTo (rest b (row .from)) (row .count) h q → argNodes g ≤ left → argNodes h ≤ maxNodes
+      → FirstIs a b m (row .count) left g h p q r
+  pub fewer : Fewer left r
+
+pub record ArgumentsSay (a : List ℕ) (x : Row) (b : List ℕ) (y : Row) (left : ℕ) (r : Shape) : Type 0 where
+  pub says : (g h : Args) (p q : List ℕ) → ArgsTo (rest a (x .from)) (x .count) g p → ArgsTo (rest b (y .from)) (y .count) h q → argNodes g ≤ left → argNodes h ≤ maxNodes
+      → shapeSays a b r ≡ shapes (sameShapes g h) (left - argNodes g) p q
   pub fewer : Fewer left r
 
 -- ---- Whole types

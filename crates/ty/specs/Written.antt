@@ -11,8 +11,8 @@ use Rattle.repr.specs.declared.Cursor.{Cursor}
 use Rattle.repr.specs.declared.Region.{Region}
 use Rattle.repr.specs.declared.ArgumentStep.{ArgumentStep}
 use Rattle.repr.specs.declared.ArgumentStep.the-variants as argumentStep
-use Rattle.ty.specs.Stands.{TypeTo, ArgsTo, TypeAt, ArgsAt}
-use Rattle.ty.specs.Spelling.{spell, spellArgs}
+use Rattle.repr.specs.Stands.{TypeTo, ArgsTo, TypeAt, ArgsAt}
+use Rattle.repr.specs.Spelling.{spell, spellArgs}
 use Rattle.ty.specs.declared.write.Wrote.{Wrote}
 use Rattle.ty.specs.declared.write.Wrote.the-variants as wrote
 use Rattle.ty.specs.declared.write.Whole.{Whole}

@@ -12,7 +12,7 @@ ghost use mathlib.Core.List.{_++_, [], _∷_};
 ghost use Prim.Native.Nat.{_+_, _-_, _*_, _≤_};
 ghost use lib.ListN.{length, take, drop};
 ghost use Rattle.repr.specs.Reading.{borrowKindOf, regionOf};
-ghost use Rattle.ty.specs.Spelling.{kindByte, regionTag, regionNumber};
+ghost use Rattle.repr.specs.Spelling.{kindByte, regionTag, regionNumber};
 ghost use Rattle.ty.specs.Written.{Bounded, FoundSays, RegionSays, UnitSays, CopySays, BoundSays, SubstSays, ArgumentsSay, WholeSays, CopiedSays};
 
 // What was written: where the type that was read ends, where the written one ends, and the nodes that are left.

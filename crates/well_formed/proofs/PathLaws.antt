@@ -33,7 +33,7 @@ use Rattle.record.specs.Layout.{Layout}
 use Rattle.record.specs.Access.{Acts}
 use Rattle.record.specs.declared.Head.{Head}
 use Rattle.ty.specs.Shape.{SameShape, SameAsRef}
-use Rattle.ty.proofs.SpellLaws.{clash, carry, then}
+use Rattle.repr.proofs.SpellLaws.{clash, carry, then}
 use Rattle.refusals.specs.Tests.{Passes, Tested}
 use Rattle.refusals.proofs.PartLaws.{none-passes, read-passes, read-fails}
 use Rattle.env.specs.Paths.{PathResult, PathSays}

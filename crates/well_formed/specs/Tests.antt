@@ -15,7 +15,7 @@ use Rattle.repr.specs.declared.Action.{Action}
 use Rattle.repr.specs.declared.Action.the-variants.{Noop, Init, Borrow, Assign, Constraint, Use, Drop, StorageDead}
 use Rattle.record.specs.Layout.{Layout}
 use Rattle.record.specs.declared.Head.{Head}
-use Rattle.ty.specs.Stands.{TypeAt}
+use Rattle.repr.specs.Stands.{TypeAt}
 use Rattle.env.specs.declared.paths.PathType.{PathType}
 use Rattle.env.specs.declared.paths.PathType.the-variants as pathTypes
 

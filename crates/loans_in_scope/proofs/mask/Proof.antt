@@ -10,10 +10,10 @@ use Rattle.loans_in_scope.proofs.mask.Statement.{statement}
 use Rattle.loans_in_scope.proofs.mask.Tie as tie
 
 abbrev Inv-loop : tie.InvT-loop
-Inv-loop by sets₀ w₀ sets w = (w ≤ 4096) × (length sets ≡ 4096) × Masked by sets₀ w sets
+Inv-loop by n sets₀ w₀ sets w = (w ≤ n) × (length sets ≡ 4096) × Masked by sets₀ w sets
 
 abbrev μ-loop : tie.MeasureT-loop
-μ-loop by sets₀ w₀ sets w = 4096 - w
+μ-loop by n sets₀ w₀ sets w = n - w
 
 loop-holds : tie.Need-loop-holds Inv-loop μ-loop
 loop-holds c = (omega arith, search needs, masked-none (c .args .by .now) (c .args .sets .now))
@@ -46,12 +46,12 @@ loop-again : tie.Need-loop-again Inv-loop μ-loop
 loop-again c = let a = c .before .before .before .before .args in
     let l = c .before .before .before .loop in
     let m = masked-more (a .by .now) (a .sets .now) (l .w) (l .inv .2) (omega arith) refl in
-    (omega arith, m .as-long ∙ c .before .before .before .before .pre, m)
+    (omega arith, m .as-long ∙ c .before .before .before .before .pre .1, m)
 
 returns : tie.Need-returns Inv-loop μ-loop
 returns c = let a = c .before .before .args in
     let l = c .before .loop in
-    masked-all (a .by .now) (a .sets .now) (l .w) 4096 (l .inv .0) (omega arith) (l .inv .2)
+    masked-all (a .by .now) (a .sets .now) (l .w) (a .n) (l .inv .0) (omega arith) (l .inv .2)
 
 pub mask-spec : {M : Type 1} → statement M
 mask-spec =

@@ -14,6 +14,9 @@ Inv-loop sets walked code from many rows₀ p₀ rows p = (p ≤ code) × Column
 abbrev μ-loop : tie.MeasureT-loop
 μ-loop sets walked code from many rows₀ p₀ rows p = code - p
 
+mul-clear : tie.Need-mul-clear Inv-loop μ-loop
+mul-clear c = search needs
+
 clear-requires : tie.Need-clear-requires Inv-loop μ-loop
 clear-requires c κs = search needs
 
@@ -52,6 +55,7 @@ rows-spec =
     (tie.spec
     Inv-loop
     μ-loop
+    mul-clear
     clear-requires
     loop-holds
     test-requires

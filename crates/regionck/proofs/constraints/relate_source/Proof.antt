@@ -11,14 +11,14 @@ use Rattle.regionck.proofs.constraints.relate_source.Statement.{stateme
 use Rattle.regionck.proofs.constraints.relate_source.Tie as tie
 
 abbrev Inv-loop : tie.InvT-loop
-Inv-loop region kinds names supporting steps run words₀ first succ last grew₀ i₀ words grew i =
-    (i ≤ steps) × (length words ≡ length words₀) × Runs run first succ last (sourceConstraints (run .at) kinds names supporting (region .0) i) words₀ grew₀ words grew
+Inv-loop of kinds names run words₀ first succ last grew₀ i₀ words grew i =
+    (i ≤ of .steps) × (length words ≡ length words₀) × Runs run first succ last (sourceConstraints (run .at) kinds names (of .supporting) (of .region .0) i) words₀ grew₀ words grew
 
 abbrev μ-loop : tie.MeasureT-loop
-μ-loop region kinds names supporting steps run words₀ first succ last grew₀ i₀ words grew i = steps - i
+μ-loop of kinds names run words₀ first succ last grew₀ i₀ words grew i = of .steps - i
 
 loop-holds : tie.Need-loop-holds Inv-loop μ-loop
-loop-holds c = let a = c .before .args in (search needs, search needs, source-none (a .kinds .now) (a .names .now) (a .supporting) (a .region .0))
+loop-holds c = let a = c .before .args in (search needs, search needs, source-none (a .kinds .now) (a .names .now) (a .of .supporting) (a .of .region .0))
 
 relate-step-requires : tie.Need-relate-step-requires Inv-loop μ-loop
 relate-step-requires c κs = search needs
@@ -30,16 +30,16 @@ loop-less : tie.Need-loop-less Inv-loop μ-loop
 loop-less c = search needs
 
 loop-again : tie.Need-loop-again Inv-loop μ-loop
-loop-again c = let a = c .before .before .before .before .before .before .before .before .args in
-    let l = c .before .before .before .before .before .before .loop in
-    (omega arith, search needs, source-more (a .kinds .now) (a .names .now) (a .supporting) (a .region .0) (l .i) (l .inv .2) (c .before .before .relate-step .ensures))
+loop-again c = let a = c .before .before .before .before .before .before .before .before .before .args in
+    let l = c .before .before .before .before .before .before .before .loop in
+    (omega arith, search needs, source-more (a .kinds .now) (a .names .now) (a .of .supporting) (a .of .region .0) (l .i) (l .inv .2) (c .before .before .relate-step .ensures))
 
 same-length : tie.Need-same-length Inv-loop μ-loop
 same-length c = search needs
 
 returns : tie.Need-returns Inv-loop μ-loop
-returns c = let l = c .before .loop in
-    let e : l .i ≡ c .before .before .before .args .steps = omega arith in
+returns c = let l = c .before .before .loop in
+    let e : l .i ≡ c .before .before .before .before .args .of .steps = omega arith in
     rw (← e) (l .inv .2)
 
 pub relate-source-spec : {M : Type 1} → statement M

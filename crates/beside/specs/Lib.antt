@@ -1,0 +1,2 @@
+-- Two types side by side.
+pub mod Beside

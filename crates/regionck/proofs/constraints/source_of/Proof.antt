@@ -1,0 +1,24 @@
+-- `regionck::constraints::source_of`. Assumes nothing.
+use Rattle.regionck.proofs.ConstrainLaws.{source-says}
+use borrow.Author.Needs.{needs}
+use Rattle.regionck.proofs.constraints.source_of.Statement.{statement}
+use Rattle.regionck.proofs.constraints.source_of.Tie as tie
+
+steps-of-requires : tie.Need-steps-of-requires
+steps-of-requires c κs = search needs
+
+shortest-requires : tie.Need-shortest-requires
+shortest-requires c κs = search needs
+
+wide-requires : tie.Need-wide-requires
+wide-requires c κs = search needs
+
+wide-requires-2 : tie.Need-wide-requires-2
+wide-requires-2 c κs = search needs
+
+returns : tie.Need-returns
+returns c = source-says (c .before .before .before .steps-of .ensures) (c .before .before .shortest .ensures) (c .before .wide .ensures .0) (c .wide2 .ensures .0)
+
+pub source-of-spec : {M : Type 1} → statement M
+source-of-spec =
+    tie.close (tie.spec steps-of-requires shortest-requires wide-requires wide-requires-2 returns)
