@@ -246,8 +246,8 @@ fn has_ends(words: &[u32], to: usize, code: usize, points: usize, rule: EndRule)
         return true;
     }
     let mut held = true;
-    for i in code..points {
-        held = held & bit_set::test(words, to, i);
+    for end in code..points {
+        held = held & bit_set::test(words, to, end);
     }
     held
 }

@@ -1,4 +1,4 @@
--- `infer::has_ends`. The loop's invariant: held is `hasRun` of the ends below i. Assumes nothing.
+-- `infer::has_ends`. The loop's invariant: held is `hasRun` of the ends below end. Assumes nothing.
 use Prim.Native.Nat.{_-_, _≤_}
 use mathlib.Core.Path.{_≡_, ap, _∙_}
 use native.Mathlib.Omega.{arith}
@@ -9,10 +9,10 @@ use Rattle.infer.proofs.has_ends.Statement.{statement}
 use Rattle.infer.proofs.has_ends.Tie as tie
 
 abbrev Inv-loop : tie.InvT-loop
-Inv-loop words to code points held₀ i₀ held i = (code ≤ i) × (i - code ≤ points - code) × (held ≡ hasRun words to code (i - code))
+Inv-loop words to code points held₀ end₀ held end = (code ≤ end) × (end - code ≤ points - code) × (held ≡ hasRun words to code (end - code))
 
 abbrev μ-loop : tie.MeasureT-loop
-μ-loop words to code points held₀ i₀ held i = points - i
+μ-loop words to code points held₀ end₀ held end = points - end
 
 passes-end-requires : tie.Need-passes-end-requires Inv-loop μ-loop
 passes-end-requires c κs = search needs
@@ -28,8 +28,8 @@ loop-holds c = (omega arith, omega arith, run-none _ _ _)
 test-requires : tie.Need-test-requires Inv-loop μ-loop
 test-requires c κs = search needs
 
-add-i : tie.Need-add-i Inv-loop μ-loop
-add-i c = search needs
+add-end : tie.Need-add-end Inv-loop μ-loop
+add-end c = search needs
 
 loop-less : tie.Need-loop-less Inv-loop μ-loop
 loop-less c = search needs
@@ -37,13 +37,13 @@ loop-less c = search needs
 loop-again : tie.Need-loop-again Inv-loop μ-loop
 loop-again c = let l = c .before .before .loop in
     let a = c .before .before .before .before .before .before .args in
-    (omega arith, omega arith, rw (c .test .ensures, l .inv .2) (run-more (a .words .now) (a .to) (a .code) (l .i) (l .inv .0)))
+    (omega arith, omega arith, rw (c .test .ensures, l .inv .2) (run-more (a .words .now) (a .to) (a .code) (l .end) (l .inv .0)))
 
 returns-2 : tie.Need-returns-2 Inv-loop μ-loop
 returns-2 c = let l = c .before .loop in
     let p = c .before .before .before .passes-end in
     let a = c .before .before .before .before .before .args in
-    let e : l .i - a .code ≡ a .points - a .code = omega arith in
+    let e : l .end - a .code ≡ a .points - a .code = omega arith in
     ends-asked (ruleOf (a .rule)) (a .words .now) (a .to) (a .code) (a .points) (p .result) (l .held) (p .ensures) (c .before .before .if1 .left) (l .inv .2 ∙ ap (hasRun (a .words .now) (a .to) (a .code)) e)
 
 pub has-ends-spec : {M : Type 1} → statement M
@@ -56,7 +56,7 @@ has-ends-spec =
     returns
     loop-holds
     test-requires
-    add-i
+    add-end
     loop-less
     loop-again
     returns-2)
