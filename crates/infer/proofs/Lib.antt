@@ -1,3 +1,4 @@
+pub mod ChainLaws
 pub mod SearchLaws
 pub mod EndLaws
 pub mod PutLaws

@@ -1,196 +1,105 @@
--- The laws of `putAll` and `grown`, and that the marked numbers, put into a set, are what `Spread` says. Assumes nothing.
+-- That the words of a set of points, joined to an outer set, are what `Spread` says. Assumes nothing.
 use mathlib.Core.Path.{_≡_, refl, sym, ap, _∙_}
-use mathlib.Core.Logic.{_⊎_, inl, inr}
-use mathlib.Core.Bool.{Bool, true, false, _||_, cond, true≢false}
+use mathlib.Core.Logic.{_⊎_, inl, inr, ⊎-elim}
+use mathlib.Core.Bool.{Bool, true, false, _||_, true≢false}
 use mathlib.Core.List.{List}
-use Prim.Native.Nat.{ℕ, zero, suc, _+_, _-_, _*_, _/_, _≤_, _<_}
-use native.Mathlib.Decide.{ℕ-discrete, decLt}
-use native.Mathlib.Numerals.{add-one}
+use Prim.Native.Nat.{ℕ, _+_, _-_, _*_, _/_, _≤_, _<_}
+use native.Mathlib.Decide.{decLt}
 use native.Mathlib.Omega.{arith}
 use lib.ListN.{length}
-use lib.Dec.{ltb}
-use borrow.Author.Tests.{ltb-true, ltb-false}
 use Rattle.nll_spec.specs.Output.{wordBits}
-use Rattle.bit_set.specs.Bits.{has, withBit, isNew}
-use Rattle.bit_set.proofs.BitLaws.{Words, length-with, has-with, has-with-other, with-fits, with-out}
-use Rattle.graph.specs.Search.{isMarked}
-use Rattle.infer.specs.Search.{Marks, putAll, grown, Spread}
-use Rattle.infer.proofs.EndLaws.{is-marked, marked-is}
+use Rattle.bit_set.specs.Bits.{has, bothFit, joined, grows, orGrows}
+use Rattle.bit_set.proofs.BitLaws.{Words}
+use Rattle.bit_set.proofs.RunLaws.{and-true-left, both-into, joined-no}
+use Rattle.bit_set.proofs.SetLaws.{length-joined, joined-fits, has-joined-other, has-joined, grows-not, grows-new}
+use Rattle.infer.specs.Search.{In, Below, Spread}
+use Rattle.infer.proofs.ChainLaws.{at-zero}
+use Rattle.infer.proofs.EndLaws.{Holds}
 
--- a number that is new has a word, is not in the set, and is in the set with it
-new-yes : (ws : List ℕ) (j : ℕ) → isNew ws j ≡ true → (has ws j ≡ false) × (has (withBit ws j) j ≡ true)
-new-yes ws j e = go (ltb (j / wordBits) (length ws)) (has ws j) refl refl
-  where
-    go : (a b : Bool) → ltb (j / wordBits) (length ws) ≡ a → has ws j ≡ b → (has ws j ≡ false) × (has (withBit ws j) j ≡ true)
-    go true false ea eb = (eb, has-with ws j (ltb-true _ _ ea))
-    go true true ea eb = absurd (true≢false (sym e ∙ rw (ea, eb)))
-    go false b ea eb = absurd (true≢false (sym e ∙ rw ea))
+or-split : (a b : Bool) → (a || b) ≡ true → (a ≡ true) ⊎ (b ≡ true)
+or-split true b e = inl refl
+or-split false b e = inr e
 
--- a number that is not changes no bit
-new-no : (ws : List ℕ) (j : ℕ) → isNew ws j ≡ false → (i : ℕ) → has (withBit ws j) i ≡ has ws i
-new-no ws j e i = go (ltb (j / wordBits) (length ws)) (has ws j) refl refl (ℕ-discrete i j)
-  where
-    go : (a b : Bool) → ltb (j / wordBits) (length ws) ≡ a → has ws j ≡ b → Dec (i ≡ j) → has (withBit ws j) i ≡ has ws i
-    go a b ea eb (no n) = has-with-other ws j i n
-    go true true ea eb (yes q) = rw q (has-with ws j (ltb-true _ _ ea) ∙ sym eb)
-    go true false ea eb (yes q) = absurd (true≢false (sym (rw (ea, eb)) ∙ e))
-    go false b ea eb (yes q) = ap (λ (l : List ℕ). has l i) (with-out ws j (ltb-false _ _ ea))
+or-yes : (a b : Bool) → b ≡ true → (a || b) ≡ true
+or-yes true b e = refl
+or-yes false b e = e
 
--- what is in a set stays
-with-kept : (ws : List ℕ) (j i : ℕ) → has ws i ≡ true → has (withBit ws j) i ≡ true
-with-kept ws j i h = go (ℕ-discrete i j) (decLt (j / wordBits) (length ws))
-  where
-    go : Dec (i ≡ j) → Dec (j / wordBits < length ws) → has (withBit ws j) i ≡ true
-    go (no n) d = has-with-other ws j i n ∙ h
-    go (yes q) (yes l) = rw q (has-with ws j l)
-    go (yes q) (no l) = ap (λ (u : List ℕ). has u i) (with-out ws j (omega (arith, l))) ∙ h
+module _ (ws ps : List ℕ) (to n : ℕ) (few : n ≤ 1024) (m : Below ps n) where
+  abbrev count : ℕ
+  count = (n + 31) / 32
 
-module _ (f : ℕ → Bool) (ws : List ℕ) (to : ℕ) where
-  -- what one number more does, where it is put and where it is not
-  more : (P : List ℕ → Type 0) (n : ℕ) → (f n ≡ true → P (withBit (putAll f ws to n) (wordBits * to + n))) → (f n ≡ false → P (putAll f ws to n)) → P (putAll f ws to (suc n))
-  unfolding putAll
-  more P n y z = go (f n) y z
+  abbrev ws′ : List ℕ
+  ws′ = joined ws to ps 0 count
+
+  src : 0 + count ≤ length ps
+  src = omega (arith, m .sized)
+
+  -- a number of the run is there where it was, or where it is of the points
+  in-run : to + count ≤ length ws → (q : ℕ) → q < wordBits * count → has ws′ (wordBits * to + q) ≡ (has ws (wordBits * to + q) || has ps q)
+  in-run l q lq = has-joined ws to ps 0 count l src q lq ∙ ap (λ (b : Bool). has ws (wordBits * to + q) || b) (at-zero ps q)
+
+  added′ : wordBits * to + n ≤ wordBits * length ws → (q : ℕ) → In ps q → has ws′ (wordBits * to + q) ≡ true
+  added′ room q a = in-run (omega (arith, room)) q (omega (arith, m .below q a)) ∙ or-yes (has ws (wordBits * to + q)) (has ps q) a
+
+  -- what a number of the words is afterwards
+  changed : (j : ℕ) → (has ws′ j ≡ has ws j) ⊎ ((to + count ≤ length ws) × ((q : ℕ) × (j ≡ wordBits * to + q) × (q < wordBits * count)))
+  changed j = go (bothFit ws to ps 0 count) refl (decLt j (wordBits * to)) (decLt j (wordBits * (to + count)))
     where
-      go : (b : Bool) → (b ≡ true → P (withBit (putAll f ws to n) (wordBits * to + n))) → (b ≡ false → P (putAll f ws to n))
-          → P (cond b (withBit (putAll f ws to n) (wordBits * to + n)) (putAll f ws to n))
-      go true y z = y refl
-      go false y z = z refl
+      go : (b : Bool) → bothFit ws to ps 0 count ≡ b → Dec (j < wordBits * to) → Dec (j < wordBits * (to + count))
+          → (has ws′ j ≡ has ws j) ⊎ ((to + count ≤ length ws) × ((q : ℕ) × (j ≡ wordBits * to + q) × (q < wordBits * count)))
+      go false e d k = inl (ap (λ (u : List ℕ). has u j) (sym (joined-no ws to ps 0 count e .0)))
+      go true e (yes l) k = inl (has-joined-other ws to ps 0 count j (inl l))
+      go true e (no l) (no k) = inl (has-joined-other ws to ps 0 count j (inr (omega (arith, k))))
+      go true e (no l) (yes k) = inr (both-into ws to ps 0 count e, (j - wordBits * to, omega (arith, l), omega (arith, l, k)))
 
-  pub put-length : (n : ℕ) → length (putAll f ws to n) ≡ length ws
-  unfolding putAll
-  put-length zero = refl
-  put-length (suc n) =
-      let r = put-length n in
-      more (λ (l : List ℕ). length l ≡ length ws) n (λ e. length-with (putAll f ws to n) (wordBits * to + n) ∙ r) (λ e. r)
-
-  put-fits : Words ws → (n : ℕ) → Words (putAll f ws to n)
-  unfolding putAll
-  put-fits wf zero = wf
-  put-fits wf (suc n) = let r = put-fits wf n in more (λ (l : List ℕ). Words l) n (λ e. with-fits (putAll f ws to n) (wordBits * to + n) r) (λ e. r)
-
-  put-kept : (n j : ℕ) → has ws j ≡ true → has (putAll f ws to n) j ≡ true
-  unfolding putAll
-  put-kept zero j h = h
-  put-kept (suc n) j h =
-      let r = put-kept n j h in
-      more (λ (l : List ℕ). has l j ≡ true) n (λ e. with-kept (putAll f ws to n) (wordBits * to + n) j r) (λ e. r)
-
-  -- a bit that is no place of the set below n is as it was
-  put-other : (n j : ℕ) → ((q : ℕ) → q < n → f q ≡ true → j ≡ wordBits * to + q → ⊥) → has (putAll f ws to n) j ≡ has ws j
-  unfolding putAll
-  put-other zero j h = refl
-  put-other (suc n) j h =
-      let r = put-other n j (λ q l. h q (omega arith)) in
-      more (λ (l : List ℕ). has l j ≡ has ws j) n (λ e. has-with-other (putAll f ws to n) (wordBits * to + n) j (h n (omega arith) e) ∙ r) (λ e. r)
-
-  -- number q of the set, for a q below n that f holds
-  put-bit : (n q : ℕ) → wordBits * to + n ≤ wordBits * length ws → q < n → f q ≡ true → has (putAll f ws to n) (wordBits * to + q) ≡ true
-  unfolding putAll
-  put-bit zero q hl h e = absurd (omega arith)
-  put-bit (suc n) q hl h e = go (ℕ-discrete q n) (λ l. put-bit n q (omega arith) l e)
+  kept′ : (j : ℕ) → has ws j ≡ true → has ws′ j ≡ true
+  kept′ j e = go (changed j)
     where
-      u : List ℕ
-      u = putAll f ws to n
+      go : (has ws′ j ≡ has ws j) ⊎ ((to + count ≤ length ws) × ((q : ℕ) × (j ≡ wordBits * to + q) × (q < wordBits * count))) → has ws′ j ≡ true
+      go (inl k) = k ∙ e
+      go (inr w) = let q = w .1 .0 in rw (w .1 .1) (in-run (w .0) q (w .1 .2) ∙ ap (λ (b : Bool). b || has ps q) (rw (w .1 .1) at e))
 
-      go : Dec (q ≡ n) → (q < n → has u (wordBits * to + q) ≡ true) → has (putAll f ws to (suc n)) (wordBits * to + q) ≡ true
-      go (yes k) r =
-          rw k
-          (more (λ (l : List ℕ). has l (wordBits * to + n) ≡ true) n (λ b. has-with u (wordBits * to + n) (rw (put-length n) (omega arith))) (λ b. absurd (true≢false (sym e ∙ ap f k ∙ b))))
-      go (no k) r =
-          let l : q < n = omega (arith, k) in
-          more (λ (l : List ℕ). has l (wordBits * to + q) ≡ true) n (λ b. with-kept u (wordBits * to + n) (wordBits * to + q) (r l)) (λ b. r l)
-
-  -- none was missing: no bit changed
-  put-same : (n : ℕ) → grown f ws to n ≡ false → (j : ℕ) → has (putAll f ws to n) j ≡ has ws j
-  unfolding putAll grown
-  put-same zero e j = refl
-  put-same (suc n) e j = go (f n) (isNew u at) refl e (λ g. put-same n g j)
+  only′ : (j : ℕ) → has ws′ j ≡ true → (has ws j ≡ true) ⊎ ((q : ℕ) × (j ≡ wordBits * to + q) × (q < n) × In ps q)
+  only′ j e = go (changed j)
     where
-      u : List ℕ
-      u = putAll f ws to n
+      go : (has ws′ j ≡ has ws j) ⊎ ((to + count ≤ length ws) × ((q : ℕ) × (j ≡ wordBits * to + q) × (q < wordBits * count)))
+          → (has ws j ≡ true) ⊎ ((q : ℕ) × (j ≡ wordBits * to + q) × (q < n) × In ps q)
+      go (inl k) = inl (sym k ∙ e)
+      go (inr w) = pick (or-split (has ws (wordBits * to + w .1 .0)) (has ps (w .1 .0)) (sym (in-run (w .0) (w .1 .0) (w .1 .2)) ∙ ap (has ws′) (sym (w .1 .1)) ∙ e))
+        where
+          pick : (has ws (wordBits * to + w .1 .0) ≡ true) ⊎ (has ps (w .1 .0) ≡ true) → (has ws j ≡ true) ⊎ ((q : ℕ) × (j ≡ wordBits * to + q) × (q < n) × In ps q)
+          pick (inl k) = inl (ap (has ws) (w .1 .1) ∙ k)
+          pick (inr k) = inr (w .1 .0, w .1 .1, m .below (w .1 .0) k, k)
 
-      at : ℕ
-      at = wordBits * to + n
+  pub spreads : Words ws → Words ps → Spread (In ps) n ws ws′ to (grows ws to ps 0 count)
+  spreads wf pf =
+      record {
+        as-long = length-joined ws to ps 0 count;
+        fits = λ f. joined-fits ws to ps 0 count f pf;
+        added = added′;
+        kept = kept′;
+        only = only′;
+        same = λ e j. ap (λ (u : List ℕ). has u j) (grows-not ws to ps 0 count e);
+        grew = λ e.
+            let w = grows-new ws to ps 0 count wf pf e in
+            let q = w .0 in
+            let y : has ps q ≡ true = sym (at-zero ps q) ∙ w .3 in
+            let l : to + count ≤ length ws = both-into ws to ps 0 count (and-true-left (bothFit ws to ps 0 count) (orGrows ws to ps 0 count) e) in
+            (q, m .below q y, y, w .2, in-run l q (w .1) ∙ or-yes (has ws (wordBits * to + q)) (has ps q) y);
+      }
 
-      go : (a b : Bool) → isNew u at ≡ b → cond a (b || grown f ws to n) (grown f ws to n) ≡ false → (grown f ws to n ≡ false → has u j ≡ has ws j)
-          → has (cond a (withBit u at) u) j ≡ has ws j
-      go true true eb g r = absurd (true≢false g)
-      go true false eb g r = new-no u at eb j ∙ r g
-      go false b eb g r = r g
-
-  -- one was missing
-  abbrev Missed : ℕ → Type 0
-  Missed n = (q : ℕ) × (q < n) × (f q ≡ true) × (has ws (wordBits * to + q) ≡ false) × (has (putAll f ws to n) (wordBits * to + q) ≡ true)
-
-  put-grew : (n : ℕ) → grown f ws to n ≡ true → Missed n
-  unfolding putAll grown
-  put-grew zero e = absurd (true≢false (sym e))
-  put-grew (suc n) e = go (f n) (isNew u at) refl refl e (put-grew n)
-    where
-      u : List ℕ
-      u = putAll f ws to n
-
-      at : ℕ
-      at = wordBits * to + n
-
-      Found : List ℕ → Type 0
-      Found l = (q : ℕ) × (q < suc n) × (f q ≡ true) × (has ws (wordBits * to + q) ≡ false) × (has l (wordBits * to + q) ≡ true)
-
-      go : (a b : Bool) → f n ≡ a → isNew u at ≡ b → cond a (b || grown f ws to n) (grown f ws to n) ≡ true → (grown f ws to n ≡ true → Missed n) → Found (cond a (withBit u at) u)
-      go true true ea eb g r =
-          let w = new-yes u at eb in
-          (n, omega arith, ea, sym (put-other n at (λ q l k z. omega arith)) ∙ w .0, w .1)
-      go true false ea eb g r = let w = r g in (w .0, omega (arith, w .1), w .2, w .3, with-kept u at (wordBits * to + w .0) (w .4))
-      go false b ea eb g r = let w = r g in (w .0, omega (arith, w .1), w .2, w .3, w .4)
-
-  -- ---- One more number
-
-  pub put-none : (ws ≡ putAll f ws to 0) × (false ≡ grown f ws to 0)
-  unfolding putAll grown
-  put-none = (refl, refl)
-
-  pub put-yes : (n : ℕ) → f n ≡ true → withBit (putAll f ws to n) (wordBits * to + n) ≡ putAll f ws to (n + 1)
-  unfolding putAll
-  put-yes n e = rw (add-one, e)
-
-  pub put-no : (n : ℕ) → f n ≡ false → putAll f ws to n ≡ putAll f ws to (n + 1)
-  unfolding putAll
-  put-no n e = rw (add-one, e)
-
-  pub grown-yes : (n : ℕ) → f n ≡ true → (isNew (putAll f ws to n) (wordBits * to + n) || grown f ws to n) ≡ grown f ws to (n + 1)
-  unfolding grown
-  grown-yes n e = rw (add-one, e)
-
-  pub grown-no : (n : ℕ) → f n ≡ false → grown f ws to n ≡ grown f ws to (n + 1)
-  unfolding grown
-  grown-no n e = rw (add-one, e)
-
--- ---- The whole
-
-pub spreads : (A : ℕ → Type 0) (ws seen : List ℕ) (to n : ℕ) → ((q : ℕ) → A q → q < n) → Marks A seen
-    → Spread A n ws (putAll (isMarked seen) ws to n) to (grown (isMarked seen) ws to n)
-spreads A ws seen to n below m =
+-- the same of a set that has the numbers of A
+pub spread-holds : (A : ℕ → Type 0) (ws ws′ ps : List ℕ) (to n : ℕ) (r : Bool) → Holds A ps → ((q : ℕ) → A q → q < n) → (Below ps n → Spread (In ps) n ws ws′ to r) → Spread A n ws ws′ to r
+spread-holds A ws ws′ ps to n r m below f =
     record {
-      as-long = put-length f ws to n;
-      fits = λ wf. put-fits f ws to wf n;
-      added = λ room q r. put-bit f ws to n q room (below q r) (is-marked seen q (m .complete q r));
-      kept = λ j e. put-kept f ws to n j e;
-      only = λ j e. split j (decLt j (wordBits * to)) (decLt j (wordBits * to + n)) (f (j - wordBits * to)) refl e;
-      same = λ e. put-same f ws to n e;
-      grew = λ e. let w = put-grew f ws to n e in (w .0, w .1, m .sound (w .0) (marked-is seen (w .0) (w .2)), w .3, w .4);
+      as-long = x .as-long;
+      fits = x .fits;
+      added = λ room q a. x .added room q (m .complete q a);
+      kept = x .kept;
+      only = λ j e. ⊎-elim (λ k. inl k) (λ k. inr (k .0, k .1, k .2, m .sound (k .0) (k .3))) (x .only j e);
+      same = x .same;
+      grew = λ e. let w = x .grew e in (w .0, w .1, m .sound (w .0) (w .2), w .3, w .4);
     }
   where
-    f : ℕ → Bool
-    f = isMarked seen
-
-    ws′ : List ℕ
-    ws′ = putAll f ws to n
-
-    split : (j : ℕ) → Dec (j < wordBits * to) → Dec (j < wordBits * to + n) → (b : Bool) → f (j - wordBits * to) ≡ b → has ws′ j ≡ true
-        → (has ws j ≡ true) ⊎ ((q : ℕ) × (j ≡ wordBits * to + q) × (q < n) × A q)
-    split j (yes l) d b e h = inl (sym (put-other f ws to n j (λ q h k z. omega arith)) ∙ h)
-    split j (no l) (no k) b e h = inl (sym (put-other f ws to n j (λ q h v z. omega arith)) ∙ h)
-    split j (no l) (yes k) false e h =
-        inl (sym (put-other f ws to n j (λ q h v z. let i : q ≡ j - wordBits * to = omega arith in true≢false (sym v ∙ ap f i ∙ e))) ∙ h)
-    split j (no l) (yes k) true e h =
-        inr (j - wordBits * to, omega (arith, l), omega (arith, l, k), m .sound (j - wordBits * to) (marked-is seen (j - wordBits * to) e))
+    x : Spread (In ps) n ws ws′ to r
+    x = f (record { sized = m .sized; below = λ q h. below q (m .sound q h) })

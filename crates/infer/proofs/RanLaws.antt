@@ -1,7 +1,7 @@
 -- Runs of constraints, one after the other; rounds of them; and that rounds until no set grows end in the least sets. Assumes nothing.
 use mathlib.Core.Path.{_≡_, refl, sym, ap, _∙_, subst}
 use mathlib.Core.Logic.{_⊎_, inl, inr, ⊎-elim}
-use mathlib.Core.Bool.{Bool, true, false, _||_, true≢false}
+use mathlib.Core.Bool.{Bool, true, false, not, _||_, true≢false}
 use mathlib.Core.List.{List, [], _++_}
 use Prim.Native.Nat.{ℕ, zero, suc, _+_, _*_, _≤_, _<_}
 use native.Mathlib.Nat.{not-suc-le-zero, mul-le-mul-right, suc-mul}
@@ -10,6 +10,7 @@ use native.Mathlib.Numerals.{add-one}
 use native.Mathlib.Omega.{arith}
 use lib.ListN.{getD}
 use lib.Dec.{T, ltb, ltb→lt, lt→ltb}
+use borrow.Author.Tests.{ne-eqb, eqb-false, not-true}
 use Rattle.nll_spec.specs.Lists.{Member}
 use Rattle.nll_spec.specs.Syntax.{Point, RegionName}
 use Rattle.nll_spec.specs.Graph.{Graph}
@@ -27,8 +28,13 @@ use Rattle.bit_set.specs.Missing.{missing}
 use Rattle.infer.specs.Ran.{Setting, bitAt, setsAt, setsOf, Words, Met, Ready, AllReady, Ran, Rounds, Quiet, Given, AllNamed, anyMarked}
 use Rattle.infer.specs.declared.EndRule as declared
 use Rattle.infer.specs.declared.Shape.{Shape}
-use Rattle.infer.proofs.EndLaws.{is-marked, marked-is}
 use Rattle.bit_set.proofs.MissingLaws.{missing-le, missing-lt}
+
+is-marked : (seen : List ℕ) (x : ℕ) → Marked seen x → isMarked seen x ≡ true
+is-marked seen x m = ap not (ne-eqb (getD seen x 0) 0 m)
+
+marked-is : (seen : List ℕ) (x : ℕ) → isMarked seen x ≡ true → Marked seen x
+marked-is seen x e = eqb-false (getD seen x 0) 0 (not-true _ e)
 
 pub true-T : (b : Bool) → b ≡ true → T b
 true-T b e = subst T (sym e) tt
@@ -151,6 +157,7 @@ given-kept g ran =
       code = g .code;
       points = g .points;
       width = g .width;
+      chain = g .chain;
       ends = g .ends;
       wide = g .wide;
       narrow = g .narrow;

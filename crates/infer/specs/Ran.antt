@@ -16,7 +16,7 @@ use Rattle.nll_spec.specs.Meaning.{Sets, Meets}
 use Rattle.bit_set.specs.Bits.{has}
 use Rattle.graph.specs.Tables.{Edges}
 use Rattle.graph.specs.Search.{Marked, isMarked}
-use Rattle.infer.specs.Search.{ruleOf}
+use Rattle.infer.specs.Search.{ruleOf, Chained}
 use Rattle.infer.specs.declared.EndRule as declared
 use Rattle.infer.specs.declared.Shape.{Shape}
 
@@ -100,6 +100,7 @@ pub record Given (s : Setting) (shape : Shape) (rule : declared.EndRule) (first 
   pub code : shape .code ≡ s .graph .code
   pub points : shape .points ≡ s .graph .points
   pub width : shape .width ≡ s .width
+  pub chain : Chained (shape .chain) first succ
   pub ends : ruleOf rule ≡ s .ends
   pub wide : s .graph .points ≤ wordBits * s .width
   pub narrow : s .width ≤ 32

@@ -8,9 +8,9 @@ use lib.ListN.{length, getD, set}
 use lib.Dec.{eqb, leb, ltb}
 use Rattle.nll_spec.specs.Regions.{EndRule, everyEnd, heldEnds, passesEnd}
 use Rattle.nll_spec.specs.Output.{wordBits}
-use Rattle.bit_set.specs.Bits.{has, withBit, isNew, orGrows, bothFit}
+use Rattle.bit_set.specs.Bits.{has, withBit, orGrows, bothFit}
 use Rattle.graph.specs.Tables.{rowStart, rowEnd, upTo, Edge}
-use Rattle.graph.specs.Search.{zeros, State, state, Marked, isMarked}
+use Rattle.graph.specs.Search.{zeros, State, state}
 use Rattle.infer.specs.declared.EndRule as declared
 use Rattle.infer.specs.declared.EndRule.the-variants.{EveryEnd, HeldEnds}
 
@@ -30,6 +30,30 @@ pub data Reach (E : ℕ → ℕ → Type 0) (h : ℕ → Bool) (p : ℕ) : ℕ �
   here : h p ≡ true → Reach E h p p
   step : {q s : ℕ} → Reach E h p q → E q s → h s ≡ true → Reach E h p s
 
+-- the tables say that the one point that follows q is q + 1
+pub record Follows (first succ : List ℕ) (q : ℕ) : Type 0 where
+  pub next : Edge first succ q (q + 1)
+  pub alone : (s : ℕ) → Edge first succ q s → s ≡ q + 1
+
+-- each number of the chain is a point that is followed by the next one alone
+pub record Chained (chain first succ : List ℕ) : Type 0 where
+  pub links : (q : ℕ) → has chain q ≡ true → Follows first succ q
+
+-- Going along the chain from q to e, through points that h holds, the points after q are put into the set: a becomes b.
+pub record Along (chain : List ℕ) (h : ℕ → Bool) (a b : List ℕ) (q e : ℕ) : Type 0 where
+  pub sized : length b ≡ 32
+  pub up : q ≤ e
+  pub below : e < 1024
+  pub linked : (x : ℕ) → q ≤ x → x < e → has chain x ≡ true
+  pub held : (x : ℕ) → q < x → x ≤ e → h x ≡ true
+  pub kept : (x : ℕ) → has a x ≡ true → has b x ≡ true
+  pub put : (x : ℕ) → q < x → x ≤ e → has b x ≡ true
+  pub only : (x : ℕ) → has b x ≡ true → (has a x ≡ true) ⊎ ((q < x) × (x ≤ e))
+
+-- if q is of the chain and h holds the next point, that is in the set b
+pub record Stopped (chain : List ℕ) (h : ℕ → Bool) (b : List ℕ) (q : ℕ) : Type 0 where
+  pub closed : has chain q ≡ true → h (q + 1) ≡ true → has b (q + 1) ≡ true
+
 -- s with a mark and on the stack
 abbrev pub pushed : ℕ → State → State
 pushed s st = state (set (st .seen) s 1) (set (st .stack) (st .depth) s) (st .depth + 1)
@@ -47,16 +71,14 @@ nexts h succ lo (suc m) st = visited h (getD succ (lo + m) 0) (nexts h succ lo m
 abbrev pub row : (ℕ → Bool) → List ℕ → List ℕ → ℕ → State → State
 row h first succ q st = nexts h succ (rowStart first q) (upTo (rowEnd first q) - rowStart first q) st
 
+-- the same, where q is not of the chain
+abbrev pub left : List ℕ → (ℕ → Bool) → List ℕ → List ℕ → ℕ → State → State
+left chain h first succ q st = cond (has chain q) st (row h first succ q st)
+
 -- the stack has room for each point without a mark
 pub record Roomy (seen : List ℕ) (depth : ℕ) : Type 0 where
   pub room : depth + zeros seen ≤ 1024
   pub sized : length seen ≡ 1024
-
--- the marked points are those of A
-pub record Marks (A : ℕ → Type 0) (seen : List ℕ) : Type 0 where
-  pub sized : length seen ≡ 1024
-  pub sound : (x : ℕ) → Marked seen x → A x
-  pub complete : (x : ℕ) → A x → Marked seen x
 
 -- ---- The ends
 
@@ -64,40 +86,28 @@ pub record Marks (A : ℕ → Type 0) (seen : List ℕ) : Type 0 where
 abbrev pub Leaf : List ℕ → ℕ → Type 0
 Leaf first q = rowEnd first q ≤ rowStart first q
 
--- one of the first n points is of f and has no point after it
-unfoldable pub anyLeaf : (ℕ → Bool) → List ℕ → ℕ → Bool
-anyLeaf f first zero = false
-anyLeaf f first (suc n) = anyLeaf f first n || (f n && leb (rowEnd first n) (rowStart first n))
+-- q is not of the chain and has no point after it
+abbrev pub isLeaf : List ℕ → List ℕ → ℕ → Bool
+isLeaf chain first q = not (has chain q) && leb (rowEnd first q) (rowStart first q)
+
+-- the set has the points of A, and `exit` says whether one of them has no point after it
+pub record Reaches (A : ℕ → Type 0) (first points : List ℕ) (exit : Bool) : Type 0 where
+  pub sized : length points ≡ 32
+  pub sound : (x : ℕ) → has points x ≡ true → A x
+  pub complete : (x : ℕ) → A x → has points x ≡ true
+  pub leaf : exit ≡ true → (x : ℕ) × A x × Leaf first x
+  pub exits : (x : ℕ) → A x → Leaf first x → exit ≡ true
 
 -- whether the end rule passes on the end e, where the inner set starts at word `from`
 abbrev pub passes : EndRule → List ℕ → ℕ → ℕ → Bool
 passes rule ws from e = passesEnd rule (has ws (wordBits * from + e))
 
--- 1 for true, 0 for false
-abbrev pub flag : Bool → ℕ
-flag b = cond b 1 0
-
--- the marks with those of n more numbers from a on set by f
-unfoldable pub flags : (ℕ → Bool) → List ℕ → ℕ → ℕ → List ℕ
-flags f seen a zero = seen
-flags f seen a (suc n) = set (flags f seen a n) (a + n) (flag (f (a + n)))
-
--- the marks with the ends that f passes on, where a marked point has no point after it
-abbrev pub withEnds : (ℕ → Bool) → List ℕ → ℕ → ℕ → List ℕ → List ℕ
-withEnds f first code points seen = cond (anyLeaf (isMarked seen) first code) (flags f seen code (points - code)) seen
+-- the set with each of the n numbers from a on that f holds
+unfoldable pub withRun : (ℕ → Bool) → List ℕ → ℕ → ℕ → List ℕ
+withRun f ps a zero = ps
+withRun f ps a (suc n) = cond (f (a + n)) (withBit (withRun f ps a n) (a + n)) (withRun f ps a n)
 
 -- ---- What is put into the outer set
-
--- the list with each number below n that f holds put into the set that starts at word `to`
-unfoldable pub putAll : (ℕ → Bool) → List ℕ → ℕ → ℕ → List ℕ
-putAll f ws to zero = ws
-putAll f ws to (suc n) = cond (f n) (withBit (putAll f ws to n) (wordBits * to + n)) (putAll f ws to n)
-
--- whether one of them was not there
-unfoldable pub grown : (ℕ → Bool) → List ℕ → ℕ → ℕ → Bool
-unfolding putAll
-grown f ws to zero = false
-grown f ws to (suc n) = cond (f n) (isNew (putAll f ws to n) (wordBits * to + n) || grown f ws to n) (grown f ws to n)
 
 -- What a constraint at p puts into its outer set, where the inner one starts at word `from`: each point that p reaches, and, where one of these has
 -- no point after it, the ends that the end rule passes on.
@@ -105,6 +115,15 @@ abbrev pub Gets : EndRule → List ℕ → List ℕ → List ℕ → ℕ → ℕ
 Gets rule first succ ws from code points p q =
     Reach (Edge first succ) (inCode ws from code) p q
     ⊎ ((code ≤ q) × (q < points) × (passes rule ws from q ≡ true) × ((x : ℕ) × Reach (Edge first succ) (inCode ws from code) p x × Leaf first x))
+
+-- the numbers of a set
+abbrev pub In : List ℕ → ℕ → Type 0
+In ps q = has ps q ≡ true
+
+-- the set has 32 words, and its numbers are below n
+pub record Below (ps : List ℕ) (n : ℕ) : Type 0 where
+  pub sized : length ps ≡ 32
+  pub below : (q : ℕ) → In ps q → q < n
 
 -- ws′ is ws with each number of A, all below n, put into the set that starts at word `to`, and r says whether one was not there.
 pub record Spread (A : ℕ → Type 0) (n : ℕ) (ws ws′ : List ℕ) (to : ℕ) (r : Bool) : Type 0 where

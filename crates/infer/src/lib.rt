@@ -6,10 +6,12 @@ ghost use mathlib.Core.Path.{_≡_};
 ghost use mathlib.Core.Bool.{true};
 ghost use mathlib.Core.List.{[], _∷_};
 ghost use Prim.Native.Nat.{_-_, _<_, _≤_};
+ghost use lib.ListN.{length};
 ghost use Rattle.nll_spec.specs.Regions.{passesEnd};
-ghost use Rattle.graph.specs.Search.{isMarked, state};
+ghost use Rattle.graph.specs.Search.{state};
+ghost use Rattle.bit_set.specs.Bits.{has, withBit};
 ghost use Rattle.graph.specs.Tables.{Edge};
-ghost use Rattle.infer.specs.Search.{ruleOf, inCode, Reach, visited, row, Roomy, Marks, anyLeaf, passes, flag, flags, putAll, grown, Gets, Spread, isSubset, hasEnds, addsNothing, inBounds};
+ghost use Rattle.infer.specs.Search.{ruleOf, inCode, Follows, Chained, Along, Stopped, Reach, visited, row, left, isLeaf, Roomy, Reaches, passes, withRun, Gets, In, Below, Spread, isSubset, hasEnds, addsNothing, inBounds};
 ghost use Rattle.infer.specs.Ran.{Setting, Given, Names, Ran, constraint, anyMarked};
 
 // A region's number.
@@ -21,11 +23,19 @@ pub enum EndRule {
     HeldEnds,
 }
 
-// How many words a region's set takes, how many points the blocks have, and how many points there are with the declared ends.
+// How many words a region's set takes, how many points the blocks have, and how many points there are with the declared ends. `chain` is a set of points,
+// each followed by the next one alone.
 pub struct Shape {
     pub width: usize,
     pub code: usize,
     pub points: usize,
+    pub chain: [u32; 32],
+}
+
+// The points that a walk reached, and whether one of them has no point after it.
+struct Reached {
+    points: [u32; 32],
+    exit: bool,
 }
 
 fn wide8(x: u8) -> usize
@@ -38,6 +48,38 @@ fn wide(x: u16) -> usize
     ensures { λ r. ⌜ r ≡ x ⌝ }
 {
     x as usize
+}
+
+// Whether the one point that follows q is q + 1.
+fn follows(first: &[u16; 1025], succ: &[u16; 1536], q: usize) -> bool
+    requires { ⌜ q < 1024 ⌝ }
+    ensures { λ r. ⌜ (r ≡ true → Follows (now (first .entry)) (now (succ .entry)) q) ⌝ }
+{
+    let start = wide(first[q]);
+    let end = wide(first[q + 1]);
+    if 1536 < end {
+        return false;
+    }
+    if end <= start {
+        return false;
+    }
+    (end - start == 1) & (wide(succ[start]) == q + 1)
+}
+
+// The points below code that are followed by the next one alone.
+pub fn chains(first: &[u16; 1025], succ: &[u16; 1536], code: usize) -> [u32; 32]
+    ensures { λ r. ⌜ Chained r (now (first .entry)) (now (succ .entry)) ⌝ }
+{
+    let mut chain = [0; 32];
+    if 1024 < code {
+        return chain;
+    }
+    for q in 0..code {
+        if follows(first, succ, q) {
+            bit_set::add(&mut chain, 0, q);
+        }
+    }
+    chain
 }
 
 // Marks and pushes s, where it is a point of a block, has no mark and is in the set from word from. Returns the stack's new depth.
@@ -95,18 +137,115 @@ fn visit_next(
     d
 }
 
-// Marks each point that a walk from p through the set from word from reaches, and no other.
+// Puts the points that a walk takes after q into the set, and returns the last of them: q + 1, or, where q + 1 begins a word that is full, all points of
+// that word. Returns q where q has no link, or the set of the words lacks q + 1, or q + 1 is there.
+fn advance(
+    chain: &[u32; 32],
+    words: &[u32],
+    from: usize,
+    code: usize,
+    points: &mut [u32; 32],
+    q: usize,
+) -> usize
+    requires { ⌜ (code ≤ 1024) × (q < 1024) × (length (now points) ≡ 32) ⌝ }
+    ensures { λ r. ⌜ Along (now (chain .entry)) (inCode (now (words .entry)) from code) (now (points .entry)) (now (points .exit)) q r
+        × (r ≡ q → Stopped (now (chain .entry)) (inCode (now (words .entry)) from code) (now (points .exit)) q) ⌝ }
+{
+    let next = q + 1;
+    if code <= next {
+        return q;
+    }
+    if !bit_set::test(chain, 0, q) {
+        return q;
+    }
+    if !bit_set::test(words, from, next) {
+        return q;
+    }
+    if bit_set::test(points, 0, next) {
+        return q;
+    }
+    let k = next / 32;
+    if (next % 32 == 0) & (next + 32 <= code) {
+        if (chain[k] == 4294967295) & (words[from + k] == 4294967295) {
+            points[k] = 4294967295;
+            return q + 32;
+        }
+    }
+    bit_set::add(points, 0, next);
+    next
+}
+
+// Puts q and the points that a walk takes after it along the chain into the set, and returns the last of them.
+fn follow(
+    chain: &[u32; 32],
+    words: &[u32],
+    from: usize,
+    code: usize,
+    points: &mut [u32; 32],
+    q: usize,
+) -> usize
+    requires { ⌜ (code ≤ 1024) × (q < 1024) × (length (now points) ≡ 32) ⌝ }
+    ensures { λ r. ⌜ Along (now (chain .entry)) (inCode (now (words .entry)) from code) (withBit (now (points .entry)) q) (now (points .exit)) q r
+        × Stopped (now (chain .entry)) (inCode (now (words .entry)) from code) (now (points .exit)) r ⌝ }
+{
+    bit_set::add(points, 0, q);
+    let mut at = q;
+    loop {
+        let next = advance(chain, words, from, code, points, at);
+        if next == at {
+            return at;
+        }
+        at = next;
+    }
+}
+
+// Visits each point that follows q, where q has no link. Returns the stack's new depth.
+fn leave(
+    chain: &[u32; 32],
+    first: &[u16; 1025],
+    succ: &[u16; 1536],
+    words: &[u32],
+    from: usize,
+    code: usize,
+    q: usize,
+    seen: &mut [u8; 1024],
+    stack: &mut [u16; 1024],
+    depth: usize,
+) -> usize
+    requires { ⌜ (code ≤ 1024) × (q < 1024) × Roomy (now seen) depth ⌝ }
+    ensures { λ r. ⌜ state (now (seen .exit)) (now (stack .exit)) r
+        ≡ left (now (chain .entry)) (inCode (now (words .entry)) from code) (now (first .entry)) (now (succ .entry)) q (state (now (seen .entry)) (now (stack .entry)) depth) ⌝ }
+{
+    if bit_set::test(chain, 0, q) {
+        return depth;
+    }
+    visit_next(first, succ, words, from, code, q, seen, stack, depth)
+}
+
+// Whether q has no link and no point after it.
+fn is_leaf(chain: &[u32; 32], first: &[u16; 1025], q: usize) -> bool
+    requires { ⌜ q < 1024 ⌝ }
+    ensures { λ r. ⌜ r ≡ isLeaf (now (chain .entry)) (now (first .entry)) q ⌝ }
+{
+    !bit_set::test(chain, 0, q) & (first[q + 1] <= first[q])
+}
+
+// The points that a walk from p through the set from word from reaches.
 fn reach(
+    chain: &[u32; 32],
     first: &[u16; 1025],
     succ: &[u16; 1536],
     words: &[u32],
     from: usize,
     code: usize,
     p: usize,
-) -> [u8; 1024]
+) -> Reached
     requires { ⌜ (code ≤ 1024) × (inCode (now words) from code p ≡ true) ⌝ }
-    ensures { λ r. ⌜ Marks (Reach (Edge (now (first .entry)) (now (succ .entry))) (inCode (now (words .entry)) from code) p) r ⌝ }
+    ensures { λ r. ⌜ (Chained (now (chain .entry)) (now (first .entry)) (now (succ .entry))
+        → Reaches (Reach (Edge (now (first .entry)) (now (succ .entry))) (inCode (now (words .entry)) from code) p) (now (first .entry)) (r .points) (r .exit)) ⌝ }
 {
+    let mut points = [0; 32];
+    let mut exit = false;
     let mut seen = [0; 1024];
     let mut stack = [0; 1024];
     seen[p] = 1;
@@ -115,31 +254,22 @@ fn reach(
     while depth > 0 {
         depth -= 1;
         let q = wide(stack[depth]);
-        depth = visit_next(
+        let e = follow(chain, words, from, code, &mut points, q);
+        exit = exit | is_leaf(chain, first, e);
+        depth = leave(
+            chain,
             first,
             succ,
             words,
             from,
             code,
-            q,
+            e,
             &mut seen,
             &mut stack,
             depth,
         );
     }
-    seen
-}
-
-// Whether a marked point has no point after it.
-fn at_exit(first: &[u16; 1025], code: usize, seen: &[u8; 1024]) -> bool
-    requires { ⌜ code ≤ 1024 ⌝ }
-    ensures { λ r. ⌜ r ≡ anyLeaf (isMarked (now (seen .entry))) (now (first .entry)) code ⌝ }
-{
-    let mut found = false;
-    for q in 0..code {
-        found = found | (seen[q] != 0) & (first[q + 1] <= first[q]);
-    }
-    found
+    Reached { points, exit }
 }
 
 // Whether the end rule passes on an end that the inner region holds or not.
@@ -152,46 +282,40 @@ fn passes_end(rule: EndRule, held: bool) -> bool
     }
 }
 
-fn flag_of(b: bool) -> u8
-    ensures { λ r. ⌜ r ≡ flag b ⌝ }
-{
-    if b {
-        return 1;
-    }
-    0
-}
-
-// Marks the ends that the end rule passes on, where the inner set starts at word from.
-fn mark_ends(
+// Puts the ends that the end rule passes on into the points, where the inner set starts at word from.
+fn put_ends(
     words: &[u32],
     from: usize,
     code: usize,
-    points: usize,
+    end: usize,
     rule: EndRule,
-    seen: &mut [u8; 1024],
+    points: &mut [u32; 32],
 )
-    requires { ⌜ (code ≤ points) × (points ≤ 1024) ⌝ }
-    ensures { λ _. ⌜ now (seen .exit) ≡ flags (passes (ruleOf rule) (now (words .entry)) from) (now (seen .entry)) code (points - code) ⌝ }
+    requires { ⌜ code ≤ end ⌝ }
+    ensures { λ _. ⌜ now (points .exit) ≡ withRun (passes (ruleOf rule) (now (words .entry)) from) (now (points .entry)) code (end - code) ⌝ }
 {
-    for i in code..points {
+    for i in code..end {
         let held = bit_set::test(words, from, i);
-        seen[i] = flag_of(passes_end(rule, held));
+        if passes_end(rule, held) {
+            bit_set::add(points, 0, i);
+        }
     }
 }
 
-// Puts each marked point below n into the set from word to, and says whether one was not there.
-fn put(words: &mut [u32], to: usize, n: usize, seen: &[u8; 1024]) -> bool
+// Puts the points, all below n, into the set from word to, and says whether one was not there.
+fn put_words(words: &mut [u32], to: usize, n: usize, points: &[u32]) -> bool
     requires { ⌜ n ≤ 1024 ⌝ }
-    ensures { λ r. ⌜ (now (words .exit) ≡ putAll (isMarked (now (seen .entry))) (now (words .entry)) to n)
-        × (r ≡ grown (isMarked (now (seen .entry))) (now (words .entry)) to n) ⌝ }
+    ensures { λ r. ⌜ (Below (now (points .entry)) n → Spread (In (now (points .entry))) n (now (words .entry)) (now (words .exit)) to r) ⌝ }
 {
-    let mut changed = false;
-    for i in 0..n {
-        if seen[i] != 0 {
-            changed = bit_set::add(words, to, i) | changed;
-        }
-    }
-    changed
+    bit_set::union_from(words, to, points, 0, (n + 31) / 32)
+}
+
+// The same of an array, whose length a caller need not show.
+fn put(words: &mut [u32], to: usize, n: usize, points: &[u32; 32]) -> bool
+    requires { ⌜ n ≤ 1024 ⌝ }
+    ensures { λ r. ⌜ (Below (now (points .entry)) n → Spread (In (now (points .entry))) n (now (words .entry)) (now (words .exit)) to r) ⌝ }
+{
+    put_words(words, to, n, points)
 }
 
 // Puts into the set from word to what a constraint at p puts there, where the inner set starts at word from, and says whether one point was not there.
@@ -206,16 +330,19 @@ fn spread(
     p: usize,
 ) -> bool
     requires { ⌜ (shape .code ≤ shape .points) × (shape .points ≤ 1024) × (inCode (now words) from (shape .code) p ≡ true) ⌝ }
-    ensures { λ r. ⌜ Spread (Gets (ruleOf rule) (now (first .entry)) (now (succ .entry)) (now (words .entry)) from (shape .code) (shape .points) p)
-        (shape .points) (now (words .entry)) (now (words .exit)) to r ⌝ }
+    ensures { λ r. ⌜ (Chained (shape .chain) (now (first .entry)) (now (succ .entry))
+        → Spread (Gets (ruleOf rule) (now (first .entry)) (now (succ .entry)) (now (words .entry)) from (shape .code) (shape .points) p)
+        (shape .points) (now (words .entry)) (now (words .exit)) to r) ⌝ }
 {
     let code = shape.code;
-    let points = shape.points;
-    let mut seen = reach(first, succ, words, from, code, p);
-    if at_exit(first, code, &seen) {
-        mark_ends(words, from, code, points, rule, &mut seen);
+    let end = shape.points;
+    let chain = shape.chain;
+    let reached = reach(&chain, first, succ, words, from, code, p);
+    let mut points = reached.points;
+    if reached.exit {
+        put_ends(words, from, code, end, rule, &mut points);
     }
-    put(words, to, points, &seen)
+    put(words, to, end, &points)
 }
 
 // Whether the run of n words from word from has no number that the run from word to lacks. False where a run is not among the words.

@@ -35,6 +35,7 @@ use Rattle.infer.specs.Search.{ruleOf}
 use Rattle.infer.specs.Ran.{Setting, bitAt, setsOf as setsIn, Words, AllReady, Ran, Rounds, Quiet, Given, AllNamed, anyMarked}
 use Rattle.infer.specs.declared.EndRule as declared
 use Rattle.infer.specs.declared.Shape.{Shape}
+use Rattle.infer.specs.Search.{Chained}
 use Rattle.infer.proofs.RanLaws.{true-T, sets-has, sets-below, has-sets, first-ready, next-ready, quiet-none, quiet-same, found-mark, rounds-none, rounds-more, rounds-unused, solved}
 use Rattle.regionck.specs.Rounds.{settingOf, noMarks, RoundRuns, Cleared, Noted, Seeded, leastSets, Solved}
 use Rattle.regionck.proofs.NamedLaws.{all-named}
@@ -162,9 +163,9 @@ pub record Going (ends : EndRule) (j : Job) (ws₀ ws last marks : List ℕ) (le
 module _ (s t : List ℕ) (h : Head) (first succ walked : List ℕ) (shape : Shape) (rule : declared.EndRule) (ws₀ : List ℕ) where
   -- so for every job that is handed in
   pub record GoingOn (ws last marks : List ℕ) (left : ℕ) : Type 0 where
-    pub going : (j : Job) → Seeded s t h first succ walked shape ws₀ j → Going (ruleOf rule) j ws₀ ws last marks left
+    pub going : (j : Job) → Seeded s t h first succ walked shape ws₀ j → Chained (shape .chain) first succ → Going (ruleOf rule) j ws₀ ws last marks left
 
-  module _ (j : Job) (x : Seeded s t h first succ walked shape ws₀ j) where
+  module _ (j : Job) (x : Seeded s t h first succ walked shape ws₀ j) (chained : Chained (shape .chain) first succ) where
     abbrev ends : EndRule
     ends = ruleOf rule
 
@@ -197,6 +198,7 @@ module _ (s t : List ℕ) (h : Head) (first succ walked : List ℕ) (shape : Sha
           code = x .code;
           points = x .points ∙ sym points;
           width = x .width;
+          chain = chained;
           ends = refl;
           wide = wide;
           narrow = narrow;
@@ -351,16 +353,32 @@ module _ (s t : List ℕ) (h : Head) (first succ walked : List ℕ) (shape : Sha
   -- ---- The loop
 
   pub going-start : {marks : List ℕ} → Cleared marks 128 → GoingOn ws₀ (replicate 128 1) marks 131073
-  going-start z = record { going = λ j x. start j x z }
+  going-start z = record { going = λ j x ch. start j x ch z }
 
   pub going-more : {ws last marks ws′ grew marks′ : List ℕ} {left : ℕ} → GoingOn ws last marks left → RoundRuns s t h walked shape rule first succ last ws ws′ grew → anyMarked grew 128 ≡ true → Noted grew marks marks′ 128
       → GoingOn ws′ grew marks′ (left - 1)
-  going-more g y m noted = record { going = λ j x. more j x (g .going j x) y m noted }
+  going-more g y m noted = record { going = λ j x ch. more j x ch (g .going j x ch) y m noted }
 
   pub going-done : {ws last marks ws′ grew : List ℕ} {left : ℕ} → GoingOn ws last marks left → RoundRuns s t h walked shape rule first succ last ws ws′ grew → anyMarked grew 128 ≡ false
-      → (j : Job) → Seeded s t h first succ walked shape ws₀ j → Solved (ruleOf rule) j ws₀ ws′ marks
-  going-done g y m j x = done j x (g .going j x) y m
+      → (j : Job) → Seeded s t h first succ walked shape ws₀ j → Chained (shape .chain) first succ → Solved (ruleOf rule) j ws₀ ws′ marks
+  going-done g y m j x ch = done j x ch (g .going j x ch) y m
 
   -- the rounds do not run out
-  pub going-out : {ws last marks : List ℕ} {left : ℕ} → left ≡ 0 → GoingOn ws last marks left → (j : Job) → Seeded s t h first succ walked shape ws₀ j → Solved (ruleOf rule) j ws₀ ws marks
-  going-out e g j x = absurd (omega (arith, e, g .going j x .less))
+  pub going-out : {ws last marks : List ℕ} {left : ℕ} → left ≡ 0 → GoingOn ws last marks left → (j : Job) → Seeded s t h first succ walked shape ws₀ j → Chained (shape .chain) first succ → Solved (ruleOf rule) j ws₀ ws marks
+  going-out e g j x ch = absurd (omega (arith, e, g .going j x ch .less))
+
+-- the same is handed in with another chain
+pub seeded-run : {s t : List ℕ} {h : Head} {first succ walked : List ℕ} {shape : Shape} {ws : List ℕ} {j : Job} (chain : List ℕ) → Seeded s t h first succ walked shape ws j
+    → Seeded s t h first succ walked (record { width = shape .width; code = shape .code; points = shape .points; chain = chain }) ws j
+seeded-run chain x =
+    record {
+      layout = x .layout;
+      accepted = x .accepted;
+      edges = x .edges;
+      reached = x .reached;
+      width = x .width;
+      code = x .code;
+      points = x .points;
+      fits = x .fits;
+      seeds = x .seeds;
+    }

@@ -11,7 +11,7 @@ ghost use mathlib.Core.Bool.{cond};
 ghost use lib.ListN.{length};
 ghost use lib.Dec.{eqb};
 ghost use Rattle.nll_spec.specs.Syntax.{Job};
-ghost use Rattle.infer.specs.Search.{ruleOf};
+ghost use Rattle.infer.specs.Search.{ruleOf, Chained};
 ghost use Rattle.regionck.specs.Rounds.{Cleared, Noted, Seeded, Solved};
 
 // Each round but the last puts a point into a region's set, and 128 sets of 1024 points hold no more.
@@ -47,8 +47,8 @@ fn note(grew: &[u8; 128], grown: &mut [u8; 128])
     }
 }
 
-// The words hold the regions' seeds before, and their least sets after. `grown` marks, by 1, the regions whose sets exceed their seeds.
-pub fn regionck(
+// Runs rounds until no set grows. `grown` marks, by 1, the regions whose sets grew.
+fn solve(
     s: &[u8],
     layout: &[u16; 1280],
     head: Head,
@@ -62,7 +62,7 @@ pub fn regionck(
 )
     requires { ⌜ (length (now layout) ≡ 1280) × (length (now grown) ≡ 128) ⌝ }
     ensures { λ _. ⌜ (length (now (grown .exit)) ≡ 128) × ((j : Job) → Seeded (now (s .entry)) (now (layout .entry)) head (now (first .entry)) (now (succ .entry)) (now (walked .entry)) shape (now (words .entry)) j
-        → Solved (ruleOf rule) j (now (words .entry)) (now (words .exit)) (now (grown .exit))) ⌝ }
+        → Chained (shape .chain) (now (first .entry)) (now (succ .entry)) → Solved (ruleOf rule) j (now (words .entry)) (now (words .exit)) (now (grown .exit))) ⌝ }
 {
     clear(grown);
     let mut last = [1; 128];
@@ -87,4 +87,43 @@ pub fn regionck(
         last = grew;
         left -= 1;
     }
+}
+
+// The words hold the regions' seeds before, and their least sets after. `grown` marks, by 1, the regions whose sets exceed their seeds.
+pub fn regionck(
+    s: &[u8],
+    layout: &[u16; 1280],
+    head: Head,
+    first: &[u16; 1025],
+    succ: &[u16; 1536],
+    walked: &[u32; 32],
+    shape: Shape,
+    rule: EndRule,
+    words: &mut [u32],
+    grown: &mut [u8; 128],
+)
+    requires { ⌜ (length (now layout) ≡ 1280) × (length (now grown) ≡ 128) ⌝ }
+    ensures { λ _. ⌜ (length (now (grown .exit)) ≡ 128) × ((j : Job) → Seeded (now (s .entry)) (now (layout .entry)) head (now (first .entry)) (now (succ .entry)) (now (walked .entry)) shape (now (words .entry)) j
+        → Solved (ruleOf rule) j (now (words .entry)) (now (words .exit)) (now (grown .exit))) ⌝ }
+{
+    let code = shape.code;
+    let chain = infer::chains(first, succ, code);
+    let run = Shape {
+        width: shape.width,
+        code,
+        points: shape.points,
+        chain,
+    };
+    solve(
+        s,
+        layout,
+        head,
+        first,
+        succ,
+        walked,
+        run,
+        rule,
+        words,
+        grown,
+    );
 }

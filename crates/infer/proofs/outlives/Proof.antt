@@ -93,7 +93,7 @@ returns-5 c = λ s given names.
     let x = c .before .before .before .spread in
     rw (c .before .before .before .before .before .before .before .before .before .before .before .before .before .before .before .before .before .before .before .wide8 .ensures)
     (ran-grew s (a .shape) (a .rule) (a .first .now) (a .succ .now) ws (a .grew .now) given d names (a .last .now) (x .last .0) (x .result)
-    (spread-got s (a .shape) (a .rule) (a .first .now) (a .succ .now) ws (a .grew .now) given d names (c .before .before .before .before .before .before .before .before .before .before .before .before .before .before .before .before .before .before .before .wide8 .result) (c .before .before .before .before .before .before .before .before .before .before .before .before .before .before .before .before .before .before .wide82 .result) (c .before .before .before .before .before .before .before .before .before .before .before .before .before .before .before .before .before .before .before .wide8 .ensures) (c .before .before .before .before .before .before .before .before .before .before .before .before .before .before .before .before .before .before .wide82 .ensures) (x .last .0) (x .result) (x .ensures))
+    (spread-got s (a .shape) (a .rule) (a .first .now) (a .succ .now) ws (a .grew .now) given d names (c .before .before .before .before .before .before .before .before .before .before .before .before .before .before .before .before .before .before .before .wide8 .result) (c .before .before .before .before .before .before .before .before .before .before .before .before .before .before .before .before .before .before .wide82 .result) (c .before .before .before .before .before .before .before .before .before .before .before .before .before .before .before .before .before .before .before .wide8 .ensures) (c .before .before .before .before .before .before .before .before .before .before .before .before .before .before .before .before .before .before .wide82 .ensures) (x .last .0) (x .result) (x .ensures (given .chain)))
     (c .if5 .taken))
 
 same-length-4 : tie.Need-same-length-4
@@ -106,7 +106,7 @@ returns-6 c = λ s given names.
     let d = constraint (a .sup .0) (a .sub .0) (a .point) in
     let x = c .before .before .before .spread in
     ran-still s (a .shape) (a .rule) (a .first .now) (a .succ .now) ws (a .grew .now) given d names (a .last .now) (x .last .0) (x .result)
-    (spread-got s (a .shape) (a .rule) (a .first .now) (a .succ .now) ws (a .grew .now) given d names (c .before .before .before .before .before .before .before .before .before .before .before .before .before .before .before .before .before .before .before .wide8 .result) (c .before .before .before .before .before .before .before .before .before .before .before .before .before .before .before .before .before .before .wide82 .result) (c .before .before .before .before .before .before .before .before .before .before .before .before .before .before .before .before .before .before .before .wide8 .ensures) (c .before .before .before .before .before .before .before .before .before .before .before .before .before .before .before .before .before .before .wide82 .ensures) (x .last .0) (x .result) (x .ensures))
+    (spread-got s (a .shape) (a .rule) (a .first .now) (a .succ .now) ws (a .grew .now) given d names (c .before .before .before .before .before .before .before .before .before .before .before .before .before .before .before .before .before .before .before .wide8 .result) (c .before .before .before .before .before .before .before .before .before .before .before .before .before .before .before .before .before .before .wide82 .result) (c .before .before .before .before .before .before .before .before .before .before .before .before .before .before .before .before .before .before .before .wide8 .ensures) (c .before .before .before .before .before .before .before .before .before .before .before .before .before .before .before .before .before .before .wide82 .ensures) (x .last .0) (x .result) (x .ensures (given .chain)))
     (c .if5 .left)
 
 pub outlives-spec : {M : Type 1} → statement M

@@ -1,22 +1,20 @@
--- `infer::reach`. The loop's invariant: `Searching`, and the first point is marked. The measure is `work`. Assumes nothing.
+-- `infer::reach`. The loop's invariant: `Going`. The measure is `work`. Assumes nothing.
 use Prim.Native.Nat.{_-_, _<_}
-use mathlib.Core.Path.{_≡_}
+use mathlib.Core.Bool.{_||_}
 use native.Mathlib.Omega.{arith}
-use lib.ListN.{replicate, length-replicate}
-use Rattle.graph.specs.Search.{Marked, state}
-use Rattle.graph.specs.Tables.{Edge}
-use Rattle.infer.specs.Search.{inCode, row}
-use Rattle.graph.proofs.SearchLaws.{mark-new, work}
-use Rattle.infer.proofs.SearchLaws.{Searching, Turn, begin, turn, finish, reach-held, code-small}
+use Rattle.graph.specs.Search.{state}
+use Rattle.graph.proofs.SearchLaws.{work}
+use Rattle.infer.specs.Search.{inCode}
+use Rattle.infer.proofs.SearchLaws.{Going, Turn, going-start, top-small, turn-code, finish, code-small}
 use borrow.Author.Needs.{needs}
 use Rattle.infer.proofs.reach.Statement.{statement}
 use Rattle.infer.proofs.reach.Tie as tie
 
 abbrev Inv-loop : tie.InvT-loop
-Inv-loop first succ words from code p seen₀ stack₀ depth₀ seen stack depth = Searching (Edge first succ) (inCode words from code) p (λ x. ⊥) (state seen stack depth) × Marked seen p
+Inv-loop chain first succ words from code p points₀ exit₀ seen₀ stack₀ depth₀ points exit seen stack depth = Going chain first succ (inCode words from code) p points exit (state seen stack depth)
 
 abbrev μ-loop : tie.MeasureT-loop
-μ-loop first succ words from code p seen₀ stack₀ depth₀ seen stack depth = work (state seen stack depth)
+μ-loop chain first succ words from code p points₀ exit₀ seen₀ stack₀ depth₀ points exit seen stack depth = work (state seen stack depth)
 
 array-write-seen : tie.Need-array-write-seen Inv-loop μ-loop
 array-write-seen c = let a = c .before .args in omega (arith, code-small (a .words .now) (a .from) (a .code) (c .before .pre .0) (a .p) (c .before .pre .1))
@@ -28,55 +26,52 @@ array-write-stack : tie.Need-array-write-stack Inv-loop μ-loop
 array-write-stack c = search needs
 
 loop-holds : tie.Need-loop-holds Inv-loop μ-loop
-loop-holds c = let a = c .before .args in
-    let l : a .p < 1024 = code-small (a .words .now) (a .from) (a .code) (c .before .pre .0) (a .p) (c .before .pre .1) in
-    (begin (Edge (a .first .now) (a .succ .now)) (inCode (a .words .now) (a .from) (a .code)) (a .p) (c .before .pre .1) l, mark-new (replicate 1024 0) (a .p) (rw length-replicate l))
+loop-holds c = let a = c .before .args in going-start (a .chain .now) (a .first .now) (a .succ .now) (inCode (a .words .now) (a .from) (a .code)) (a .p) (code-small (a .words .now) (a .from) (a .code) (c .before .pre .0)) (c .before .pre .1)
 
 sub-depth : tie.Need-sub-depth Inv-loop μ-loop
 sub-depth c = search needs
 
 mul-wide : tie.Need-mul-wide Inv-loop μ-loop
-mul-wide c = omega (arith, c .before .loop .inv .0 .roomy .room)
+mul-wide c = omega (arith, c .before .loop .inv .search .roomy .room)
 
 array-read-wide : tie.Need-array-read-wide Inv-loop μ-loop
-array-read-wide c = omega (arith, c .before .loop .inv .0 .roomy .room)
+array-read-wide c = omega (arith, c .before .loop .inv .search .roomy .room)
 
 wide-requires : tie.Need-wide-requires Inv-loop μ-loop
 wide-requires c κs = search needs
 
-visit-next-requires : tie.Need-visit-next-requires Inv-loop μ-loop
-visit-next-requires c κs = let st = c .before .before .before .before .before .before in
-    let a = st .args in
-    let l = c .before .before .before .before .loop in
-    let w = l .inv .0 in
-    let q = c .before .before .wide in
-    let m : Marked (l .seen) (q .result) = rw (q .ensures) (w .on-stack (l .depth - 1) (omega arith)) in
-    (st .pre .0, code-small (a .words .now) (a .from) (a .code) (st .pre .0) (q .result) (reach-held (w .sound (q .result) m)), record { room = omega (arith, w .roomy .room); sized = w .roomy .sized })
+follow-requires : tie.Need-follow-requires Inv-loop μ-loop
+follow-requires c κs = let a = c .before .before .before .before .before .args in let l = c .before .before .before .loop in
+    (c .before .before .before .before .before .pre .0, top-small (a .chain .now) (a .first .now) (a .succ .now) (inCode (a .words .now) (a .from) (a .code)) (a .p) (code-small (a .words .now) (a .from) (a .code) (c .before .before .before .before .before .pre .0)) (l .points) (l .exit) (state (l .seen) (l .stack) (l .depth)) (c .before .wide .result) (l .inv) (omega arith) (c .before .wide .ensures), l .inv .sized)
+
+is-leaf-requires : tie.Need-is-leaf-requires Inv-loop μ-loop
+is-leaf-requires c κs = c .follow .ensures .0 .below
+
+leave-requires : tie.Need-leave-requires Inv-loop μ-loop
+leave-requires c κs = let w = c .before .before .before .before .before .before .before .loop .inv .search .roomy in (c .before .before .before .before .before .before .before .before .before .pre .0, c .before .before .before .follow .ensures .0 .below, record { room = omega (arith, w .room); sized = w .sized })
 
 -- a turn of the loop is a turn of the search
-turned : (c : tie.After-visit-next Inv-loop μ-loop)
-    → let a = c .before .before .before .before .before .before .before .args in
-    let l = c .before .before .before .before .before .loop in
-    Turn (a .first .now) (a .succ .now) (inCode (a .words .now) (a .from) (a .code)) (a .p) (code-small (a .words .now) (a .from) (a .code) (c .before .before .before .before .before .before .before .pre .0))
-    (state (l .seen) (l .stack) (l .depth)) (state (c .visit-next .last .1 .1 .1 .1 .1 .1 .0) (c .visit-next .last .1 .1 .1 .1 .1 .1 .1 .0) (c .visit-next .result))
+turned : (c : tie.After-leave Inv-loop μ-loop)
+    → let a = c .before .before .before .before .before .before .before .before .before .before .args in
+    let l = c .before .before .before .before .before .before .before .before .loop in
+    Turn (a .chain .now) (a .first .now) (a .succ .now) (inCode (a .words .now) (a .from) (a .code)) (a .p) (code-small (a .words .now) (a .from) (a .code) (c .before .before .before .before .before .before .before .before .before .before .pre .0))
+    (c .before .before .before .before .follow .last .1 .1 .1 .1 .0) (l .exit || c .before .before .before .is-leaf .result) (state (l .seen) (l .stack) (l .depth)) (state (c .leave .last .1 .1 .1 .1 .1 .1 .1 .0) (c .leave .last .1 .1 .1 .1 .1 .1 .1 .1 .0) (c .leave .result))
 turned c =
-    let a = c .before .before .before .before .before .before .before .args in
-    let l = c .before .before .before .before .before .loop in
-    let h = inCode (a .words .now) (a .from) (a .code) in
-    let e : state (c .visit-next .last .1 .1 .1 .1 .1 .1 .0) (c .visit-next .last .1 .1 .1 .1 .1 .1 .1 .0) (c .visit-next .result)
-    ≡ row h (a .first .now) (a .succ .now) (c .before .before .before .wide .result) (state (l .seen) (l .stack) (l .depth - 1)) = c .visit-next .ensures in
-    rw (e, c .before .before .before .wide .ensures) (turn (a .first .now) (a .succ .now) h (a .p) (code-small (a .words .now) (a .from) (a .code) (c .before .before .before .before .before .before .before .pre .0)) (state (l .seen) (l .stack) (l .depth)) (l .inv .0) (omega arith))
+    let a = c .before .before .before .before .before .before .before .before .before .before .args in
+    let l = c .before .before .before .before .before .before .before .before .loop in
+    turn-code (a .chain .now) (a .first .now) (a .succ .now) (inCode (a .words .now) (a .from) (a .code)) (a .p) (code-small (a .words .now) (a .from) (a .code) (c .before .before .before .before .before .before .before .before .before .before .pre .0))
+    (l .points) (c .before .before .before .before .follow .last .1 .1 .1 .1 .0) (l .exit) (state (l .seen) (l .stack) (l .depth)) (state (c .leave .last .1 .1 .1 .1 .1 .1 .1 .0) (c .leave .last .1 .1 .1 .1 .1 .1 .1 .1 .0) (c .leave .result))
+    (c .before .before .before .before .before .before .wide .result) (c .before .before .before .before .follow .result) (c .before .before .before .is-leaf .result) (l .inv) (omega arith) (c .before .before .before .before .before .before .wide .ensures) (c .before .before .before .before .follow .ensures) (c .before .before .before .is-leaf .ensures) (c .leave .ensures)
 
 loop-less : tie.Need-loop-less Inv-loop μ-loop
 loop-less c = turned c .less
 
 loop-again : tie.Need-loop-again Inv-loop μ-loop
-loop-again c = (turned c .search, turned c .kept _ (c .before .before .before .before .before .loop .inv .1))
+loop-again c = turned c .going
 
 returns : tie.Need-returns Inv-loop μ-loop
-returns c = let a = c .before .before .before .args in
-    let l = c .before .loop in
-    finish (a .first .now) (a .succ .now) (inCode (a .words .now) (a .from) (a .code)) (a .p) (code-small (a .words .now) (a .from) (a .code) (c .before .before .before .pre .0)) (state (l .seen) (l .stack) (l .depth)) (l .inv .0) (omega arith) (l .inv .1)
+returns c = let a = c .before .before .before .args in let l = c .before .loop in
+    finish (a .chain .now) (a .first .now) (a .succ .now) (inCode (a .words .now) (a .from) (a .code)) (a .p) (code-small (a .words .now) (a .from) (a .code) (c .before .before .before .pre .0)) (l .points) (l .exit) (state (l .seen) (l .stack) (l .depth)) (l .inv) (omega arith)
 
 pub reach-spec : {M : Type 1} → statement M
 reach-spec =
@@ -92,7 +87,9 @@ reach-spec =
     mul-wide
     array-read-wide
     wide-requires
-    visit-next-requires
+    follow-requires
+    is-leaf-requires
+    leave-requires
     loop-less
     loop-again
     returns)

@@ -1,79 +1,20 @@
--- `regionck::regionck`. The loop's invariant: some rounds were run, and fewer than `left` bits of the regions are 0. Assumes nothing.
-use Prim.Native.Nat.{_-_}
-use mathlib.Core.Path.{_≡_, sym, _∙_}
-use native.Mathlib.Omega.{arith}
-use lib.ListN.{length}
-use borrow.Author.Tests.{not-true, not-false}
-use Rattle.regionck.proofs.SolvedLaws.{GoingOn, going-start, going-more, going-done, going-out}
+-- `regionck::regionck`: the rounds are run with the chain of the tables. Assumes nothing.
+use Rattle.regionck.proofs.SolvedLaws.{seeded-run}
 use borrow.Author.Needs.{needs}
 use Rattle.regionck.proofs.regionck.Statement.{statement}
 use Rattle.regionck.proofs.regionck.Tie as tie
 
-abbrev Inv-loop : tie.InvT-loop
-Inv-loop s layout head first succ walked shape rule words₀ grown₀ last₀ left₀ words grown last left =
-    (length words ≡ length words₀) × (length grown ≡ 128) × GoingOn s layout head first succ walked shape rule words₀ words last grown left
+chains-requires : tie.Need-chains-requires
+chains-requires c κs = search needs
 
-abbrev μ-loop : tie.MeasureT-loop
-μ-loop s layout head first succ walked shape rule words₀ grown₀ last₀ left₀ words grown last left = left
+solve-requires : tie.Need-solve-requires
+solve-requires c κs = search needs
 
-clear-requires : tie.Need-clear-requires Inv-loop μ-loop
-clear-requires c κs = search needs
-
-loop-holds : tie.Need-loop-holds Inv-loop μ-loop
-loop-holds c = let a = c .before .before .before .before .args in
-    (search needs, c .clear .ensures .sized, going-start (a .s .now) (a .layout .now) (a .head) (a .first .now) (a .succ .now) (a .walked .now) (a .shape) (a .rule) (a .words .now) (c .clear .ensures))
-
-round-requires : tie.Need-round-requires Inv-loop μ-loop
-round-requires c κs = search needs
-
-any-marked-requires : tie.Need-any-marked-requires Inv-loop μ-loop
-any-marked-requires c κs = search needs
-
-same-length : tie.Need-same-length Inv-loop μ-loop
+same-length : tie.Need-same-length
 same-length c = search needs
 
-returns : tie.Need-returns Inv-loop μ-loop
-returns c = let a = c .before .before .before .before .before .before .before .before .before .before .before .before .before .before .args in
-    let l = c .before .before .before .before .before .before .before .before .before .loop in
-    (l .inv .1, going-done (a .s .now) (a .layout .now) (a .head) (a .first .now) (a .succ .now) (a .walked .now) (a .shape) (a .rule) (a .words .now) (l .inv .2) (c .before .before .before .before .before .round .ensures) (sym (c .before .any-marked .ensures) ∙ not-true _ (c .if1 .taken)))
-
-note-requires : tie.Need-note-requires Inv-loop μ-loop
-note-requires c κs = search needs
-
-sub-left : tie.Need-sub-left Inv-loop μ-loop
-sub-left c = search needs
-
-loop-less : tie.Need-loop-less Inv-loop μ-loop
-loop-less c = search needs
-
-loop-again : tie.Need-loop-again Inv-loop μ-loop
-loop-again c = let a = c .before .before .before .before .before .before .before .before .before .before .before .before .before .before .before .before .before .args in
-    let l = c .before .before .before .before .before .before .before .before .before .before .before .before .loop in
-    (search needs, c .note .ensures .sized, going-more (a .s .now) (a .layout .now) (a .head) (a .first .now) (a .succ .now) (a .walked .now) (a .shape) (a .rule) (a .words .now) (l .inv .2) (c .before .before .before .before .before .before .before .before .round .ensures) (sym (c .before .before .before .before .any-marked .ensures) ∙ not-false _ (c .before .before .before .if1 .left)) (c .note .ensures))
-
-same-length-2 : tie.Need-same-length-2 Inv-loop μ-loop
-same-length-2 c = search needs
-
-returns-2 : tie.Need-returns-2 Inv-loop μ-loop
-returns-2 c = let a = c .before .before .before .before .before .before .args in
-    let l = c .before .loop in
-    (l .inv .1, going-out (a .s .now) (a .layout .now) (a .head) (a .first .now) (a .succ .now) (a .walked .now) (a .shape) (a .rule) (a .words .now) (omega arith) (l .inv .2))
+returns : tie.Need-returns
+returns c = (c .before .before .solve .ensures .0, λ j x. c .before .before .solve .ensures .1 j (seeded-run (c .before .before .before .before .before .chains .result) x) (c .before .before .before .before .before .chains .ensures))
 
 pub regionck-spec : {M : Type 1} → statement M
-regionck-spec =
-    tie.close
-    (tie.spec
-    Inv-loop
-    μ-loop
-    clear-requires
-    loop-holds
-    round-requires
-    any-marked-requires
-    same-length
-    returns
-    note-requires
-    sub-left
-    loop-less
-    loop-again
-    same-length-2
-    returns-2)
+regionck-spec = tie.close (tie.spec chains-requires solve-requires same-length returns)
