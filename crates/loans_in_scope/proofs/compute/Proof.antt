@@ -1,7 +1,7 @@
 -- `loans_in_scope::compute`. Assumes nothing.
 use Prim.Native.Nat.{_*_}
-use Rattle.loans_in_scope.proofs.ScopeLaws.{sized-zeros, cleared-size, gathered-size, scope-says}
 use native.Mathlib.Omega.{arith}
+use Rattle.loans_in_scope.proofs.ScopeLaws.{sized-zeros, cleared-size, gathered-size, scope-says}
 use borrow.Author.Needs.{needs}
 use Rattle.loans_in_scope.proofs.compute.Statement.{statement}
 use Rattle.loans_in_scope.proofs.compute.Tie as tie
@@ -19,13 +19,17 @@ clear-requires : tie.Need-clear-requires
 clear-requires c κs = search needs
 
 gather-requires : tie.Need-gather-requires
-gather-requires c κs = (c .before .before .before .before .before .before .before .before .before .before .before .before .before .pre .5, c .before .before .before .before .flow .ensures .0, cleared-size (c .before .before .before .before .before .before .before .before .before .before .before .before .before .args .scope .now) (4 * c .before .before .before .before .before .before .before .before .before .before .before .before .before .args .code) (c .before .before .before .before .before .before .before .before .before .before .before .before .before .pre .2) (c .before .before .clear .ensures))
+gather-requires c κs = let a = c .before .before .before .before .before .before .before .before .before .before .before .before .before .args in
+    let r = c .before .before .before .before .before .before .before .before .before .before .before .before .before .pre in
+    (r .5, c .before .before .before .before .flow .ensures .0, cleared-size (a .scope .now) (4 * a .code) (r .2) (c .before .before .clear .ensures))
 
 mul-mask : tie.Need-mul-mask
 mul-mask c = search needs
 
 mask-requires : tie.Need-mask-requires
-mask-requires c κs = let few = c .before .before .before .before .before .before .before .before .before .before .before .before .before .before .before .before .pre .5 in (omega (arith, few), gathered-size (cleared-size (c .before .before .before .before .before .before .before .before .before .before .before .before .before .before .before .before .args .scope .now) (4 * c .before .before .before .before .before .before .before .before .before .before .before .before .before .before .before .before .args .code) (c .before .before .before .before .before .before .before .before .before .before .before .before .before .before .before .before .pre .2) (c .before .before .before .before .before .clear .ensures)) (c .before .before .gather .ensures))
+mask-requires c κs = let a = c .before .before .before .before .before .before .before .before .before .before .before .before .before .before .before .before .args in
+    let r = c .before .before .before .before .before .before .before .before .before .before .before .before .before .before .before .before .pre in
+    (omega (arith, r .5), gathered-size (cleared-size (a .scope .now) (4 * a .code) (r .2) (c .before .before .before .before .before .clear .ensures)) (c .before .before .gather .ensures))
 
 returns : tie.Need-returns
 returns c = let a = c .before .before .before .before .before .before .before .before .before .before .before .before .before .before .before .before .before .args in
