@@ -1,5 +1,5 @@
 -- The laws of `Along`, `Stopped` and `Chained`. Assumes nothing.
-use mathlib.Core.Path.{_≡_, refl, sym, ap, ap₂, _∙_, subst}
+use mathlib.Core.Path.{_≡_, refl, sym, ap, _∙_, subst}
 use mathlib.Core.Logic.{_⊎_, inl, inr, ⊎-elim}
 use mathlib.Core.Bool.{Bool, true, false, _&&_, true≢false}
 use mathlib.Core.List.{List}
@@ -13,7 +13,7 @@ use borrow.Author.Tests.{eqb-true, lt-ltb, le-ltb, leb-true, ltb-false}
 use Rattle.nll_spec.specs.Output.{wordBits}
 use Rattle.bit_set.specs.Bits.{has, withBit}
 use Rattle.bit_set.proofs.BitLaws.{digit, place, has-out, length-with, has-with, has-with-other, with-out}
-use Rattle.graph.specs.Tables.{rowStart, rowEnd, upTo, Edge}
+use Rattle.graph.specs.Tables.{rowStart, rowEnd, upTo}
 use Rattle.graph.proofs.SearchLaws.{no-mark}
 use Rattle.infer.specs.Search.{inCode, Follows, Chained, Along, Stopped}
 

@@ -12,7 +12,7 @@ use Rattle.nll_spec.specs.Output.{wordBits}
 use Rattle.bit_set.specs.Bits.{has, withBit}
 use Rattle.bit_set.proofs.BitLaws.{length-with, has-with, has-with-other}
 use Rattle.graph.specs.Tables.{Edge}
-use Rattle.infer.specs.Search.{inCode, Reach, Leaf, Reaches, passes, withRun, Gets}
+use Rattle.infer.specs.Search.{inCode, Reach, Reaches, passes, withRun, Gets}
 use Rattle.infer.proofs.ChainLaws.{with-kept}
 use Rattle.infer.proofs.SearchLaws.{reach-held, code-below}
 

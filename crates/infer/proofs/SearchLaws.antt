@@ -4,13 +4,13 @@ use mathlib.Core.Path.{_≡_, refl, sym, ap, _∙_, subst}
 use mathlib.Core.Logic.{_⊎_, inl, inr, ⊎-elim}
 use mathlib.Core.Bool.{Bool, true, false, not, _&&_, _||_, cond, true≢false}
 use mathlib.Core.List.{List}
-use Prim.Native.Nat.{ℕ, zero, suc, _+_, _-_, _*_, _/_, _≤_, _<_}
+use Prim.Native.Nat.{ℕ, zero, suc, _+_, _-_, _*_, _≤_, _<_}
 use native.Mathlib.Nat.{not-suc-le-zero}
 use native.Mathlib.Decide.{ℕ-discrete}
 use native.Mathlib.Omega.{arith}
 use lib.ListN.{length, getD, set, replicate, length-set, length-replicate}
 use lib.Seq.{getD-set-same, getD-set-other}
-use lib.Dec.{eqb, leb, ltb}
+use lib.Dec.{eqb, ltb}
 use borrow.Author.Tests.{eqb-true, eqb-false, eq-eqb, ne-eqb, ltb-true, lt-ltb, le-ltb, leb-true, le-leb}
 use Rattle.nll_spec.specs.Output.{wordBits}
 use Rattle.bit_set.specs.Bits.{has, withBit}
@@ -18,7 +18,7 @@ use Rattle.bit_set.proofs.BitLaws.{has-with, has-with-other}
 use Rattle.graph.specs.Tables.{rowStart, rowEnd, Edge, upTo}
 use Rattle.graph.specs.Search.{Marked, State, state, zeros}
 use Rattle.graph.proofs.SearchLaws.{mark-kept, mark-new, mark-old, no-mark, work, zeros-mark, zeros-replicate}
-use Rattle.infer.specs.Search.{inCode, Follows, Chained, Along, Stopped, Reach, here, step, pushed, visited, nexts, row, left, Roomy, Leaf, isLeaf, Reaches}
+use Rattle.infer.specs.Search.{inCode, Chained, Along, Stopped, Reach, here, step, pushed, visited, nexts, row, left, Roomy, Leaf, isLeaf, Reaches}
 use Rattle.infer.proofs.ChainLaws.{at-zero, with-kept, has-none, up-to-le}
 
 -- ---- The invariant

@@ -9,7 +9,7 @@ ghost use Prim.Native.Nat.{_-_, _<_, _≤_};
 ghost use lib.ListN.{length};
 ghost use Rattle.nll_spec.specs.Regions.{passesEnd};
 ghost use Rattle.graph.specs.Search.{state};
-ghost use Rattle.bit_set.specs.Bits.{has, withBit};
+ghost use Rattle.bit_set.specs.Bits.{withBit};
 ghost use Rattle.graph.specs.Tables.{Edge};
 ghost use Rattle.infer.specs.Search.{ruleOf, inCode, Follows, Chained, Along, Stopped, Reach, visited, row, left, isLeaf, Roomy, Reaches, passes, withRun, Gets, In, Below, Spread, isSubset, hasEnds, addsNothing, inBounds};
 ghost use Rattle.infer.specs.Ran.{Setting, Given, Names, Ran, constraint, anyMarked};
@@ -66,7 +66,7 @@ fn follows(first: &[u16; 1025], succ: &[u16; 1536], q: usize) -> bool
     (end - start == 1) & (wide(succ[start]) == q + 1)
 }
 
-// The points below code that are followed by the next one alone.
+// The points below code that are followed by the next one alone. None where there are more than 1,024.
 pub fn chains(first: &[u16; 1025], succ: &[u16; 1536], code: usize) -> [u32; 32]
     ensures { λ r. ⌜ Chained r (now (first .entry)) (now (succ .entry)) ⌝ }
 {
@@ -137,8 +137,8 @@ fn visit_next(
     d
 }
 
-// Puts the points that a walk takes after q into the set, and returns the last of them: q + 1, or, where q + 1 begins a word that is full, all points of
-// that word. Returns q where q has no link, or the set of the words lacks q + 1, or q + 1 is there.
+// Puts the next points of a walk along the chain into the points, and returns the last of them: those of a whole word, where q + 1 begins one that the
+// chain and the inner set have in full, or q + 1 alone. Returns q where q is not of the chain, the inner set lacks q + 1, or q + 1 is among the points.
 fn advance(
     chain: &[u32; 32],
     words: &[u32],
@@ -175,7 +175,7 @@ fn advance(
     next
 }
 
-// Puts q and the points that a walk takes after it along the chain into the set, and returns the last of them.
+// Puts q and the points that a walk takes after it along the chain into the points, and returns the last of them.
 fn follow(
     chain: &[u32; 32],
     words: &[u32],
@@ -199,7 +199,7 @@ fn follow(
     }
 }
 
-// Visits each point that follows q, where q has no link. Returns the stack's new depth.
+// Visits each point that follows q, where q is not of the chain. Returns the stack's new depth.
 fn leave(
     chain: &[u32; 32],
     first: &[u16; 1025],
@@ -222,7 +222,7 @@ fn leave(
     visit_next(first, succ, words, from, code, q, seen, stack, depth)
 }
 
-// Whether q has no link and no point after it.
+// Whether q is not of the chain and has no point after it.
 fn is_leaf(chain: &[u32; 32], first: &[u16; 1025], q: usize) -> bool
     requires { ⌜ q < 1024 ⌝ }
     ensures { λ r. ⌜ r ≡ isLeaf (now (chain .entry)) (now (first .entry)) q ⌝ }

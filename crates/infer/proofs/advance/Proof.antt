@@ -1,7 +1,6 @@
 -- `infer::advance`: each return is a law of ChainLaws. Assumes nothing.
 use mathlib.Core.Path.{sym, _∙_}
-use Prim.Native.Nat.{_+_, _/_, _<_}
-use lib.ListN.{length}
+use Prim.Native.Nat.{_+_}
 use native.Mathlib.Omega.{arith}
 use borrow.Author.Tests.{not-true, not-false}
 use Rattle.infer.proofs.ChainLaws.{held-word, past-code, no-link, not-held, there-yet, one-point, one-word}

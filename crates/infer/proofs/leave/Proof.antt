@@ -1,5 +1,4 @@
 -- `infer::leave`: a return for each case of `left`. Assumes nothing.
-use borrow.Author.Tests.{not-false}
 use Rattle.graph.specs.Search.{state}
 use Rattle.infer.specs.Search.{inCode}
 use Rattle.infer.proofs.SearchLaws.{left-linked, left-row}

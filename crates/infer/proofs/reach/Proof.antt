@@ -1,5 +1,5 @@
 -- `infer::reach`. The loop's invariant: `Going`. The measure is `work`. Assumes nothing.
-use Prim.Native.Nat.{_-_, _<_}
+use Prim.Native.Nat.{_-_}
 use mathlib.Core.Bool.{_||_}
 use native.Mathlib.Omega.{arith}
 use Rattle.graph.specs.Search.{state}
