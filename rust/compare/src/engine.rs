@@ -111,34 +111,8 @@ fn word(points: &[bool]) -> u32 {
 pub struct Proved;
 
 #[cfg(feature = "proved")]
-mod linked {
-    extern "C" {
-        /// Slices are passed as a pointer and a length.
-        pub fn nll_analyse(
-            record: *const u8,
-            record_len: usize,
-            words: *mut u32,
-            words_len: usize,
-            bytes: *mut u8,
-            bytes_len: usize,
-        ) -> u8;
-    }
-}
-
-#[cfg(feature = "proved")]
 impl Engine for Proved {
     fn call(&mut self, record: &[u8], words: &mut [u32], bytes: &mut [u8]) -> Outcome {
-        // each pointer comes with the length of the slice that it points to
-        let number = unsafe {
-            linked::nll_analyse(
-                record.as_ptr(),
-                record.len(),
-                words.as_mut_ptr(),
-                words.len(),
-                bytes.as_mut_ptr(),
-                bytes.len(),
-            )
-        };
-        Outcome::Number(number)
+        Outcome::Number(nll::call(record, words, bytes))
     }
 }

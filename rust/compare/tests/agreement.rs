@@ -97,7 +97,8 @@ fn a_wrong_refusal_is_a_disagreement() {
 
 #[test]
 fn the_recorded_answers_are_the_originals() {
-    let file = std::fs::read(concat!(env!("CARGO_MANIFEST_DIR"), "/../../crates/replay/data/answers.bin")).expect("recorded answers");
+    let file = std::fs::read(concat!(env!("CARGO_MANIFEST_DIR"), "/../../crates/replay/data/answers.bin"))
+        .expect("recorded answers");
     let entries = recorded::read(&file).expect("the format of recorded answers");
     assert!(entries.len() >= 3_000);
     assert_eq!(recorded::write(&recorded::entries()), file, "`compare record` gives another file");

@@ -26,6 +26,7 @@ mod refusal;
 
 pub use accepted::{Accepted, Fault, FaultKind};
 pub use layout::{Place, Sizes};
+pub use linked::call;
 pub use refusal::Refusal;
 
 use layout::Layout;
@@ -43,7 +44,7 @@ pub const MAX_BYTES: usize = MAX_POINTS * 2 + MAX_DECLARED;
 /// Analyses a record. The words get the regions' sets; the bytes the faults, and which declared regions are grown. What they have
 /// beyond [`sizes`] is left, and a refusal changes neither.
 pub fn analyse<'a>(record: &'a [u8], words: &'a mut [u32], bytes: &'a mut [u8]) -> Result<Accepted<'a>, Refusal> {
-    match Refusal::of(linked::call(record, words, bytes)) {
+    match Refusal::of(call(record, words, bytes)) {
         None => Ok(Accepted::new(Layout::of(record), words, bytes)),
         Some(refusal) => Err(refusal),
     }
@@ -52,7 +53,7 @@ pub fn analyse<'a>(record: &'a [u8], words: &'a mut [u32], bytes: &'a mut [u8]) 
 /// The words and bytes that the answer to a record takes, or the refusal, 1 to 9, that it gets whatever the buffers.
 pub fn sizes(record: &[u8]) -> Result<Sizes, Refusal> {
     // A job has at least one point, so an answer has at least two bytes: without any, a record that passes 1 to 9 gets 10.
-    match Refusal::of(linked::call(record, &mut [], &mut [])) {
+    match Refusal::of(call(record, &mut [], &mut [])) {
         None | Some(Refusal::Room) => Ok(Layout::of(record).sizes()),
         Some(refusal) => Err(refusal),
     }

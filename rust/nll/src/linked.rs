@@ -11,8 +11,9 @@ extern "C" {
     ) -> u8;
 }
 
-/// 0, or a refusal's number.
+/// The call itself: 0, or a refusal's number.
 #[allow(unsafe_code)]
+#[inline]
 pub fn call(record: &[u8], words: &mut [u32], bytes: &mut [u8]) -> u8 {
     // SAFETY: the call asks that each pointer is valid for its length and aligned, and that what is written overlaps nothing
     // else. Slices are, and `&mut` keeps the three apart. The call keeps no pointer and asks nothing of what the slices hold.
