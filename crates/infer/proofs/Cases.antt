@@ -57,14 +57,14 @@ line-edges = record { ordered = omega arith; few = omega arith; sized = refl; st
 abbrev setting : Setting
 setting = record { ends = everyEnd; graph = line; regions = 1; width = 1 }
 
-pub line-given : Given setting (record { width = 1; code = 2; points = 3; chain = replicate 32 0 }) EveryEnd starts nexts (0 ∷ []) (replicate 128 0)
+pub line-given : Given setting (record { width = 1; code = 2; points = 3 }) EveryEnd starts nexts (replicate 32 0) (0 ∷ []) (replicate 128 0)
 line-given =
     record {
       edges = line-edges;
       code = refl;
       points = refl;
       width = refl;
-      chain = chained-none starts nexts;
+      linked = chained-none starts nexts;
       ends = refl;
       wide = omega arith;
       narrow = omega arith;

@@ -3,7 +3,7 @@ use mathlib.Core.Path.{_≡_, refl, sym, ap, _∙_, subst}
 use mathlib.Core.Logic.{_⊎_, inl, inr, ⊎-elim}
 use mathlib.Core.Bool.{Bool, true, false, _&&_, true≢false}
 use mathlib.Core.List.{List, [], _∷_}
-use Prim.Native.Nat.{ℕ, _+_, _*_, _≤_, _<_}
+use Prim.Native.Nat.{ℕ, _+_, _*_, _/_, _≤_, _<_}
 use native.Mathlib.Nat.{mul-le-mul-right, suc-mul}
 use native.Mathlib.Decide.{ℕ-discrete}
 use native.Mathlib.Omega.{arith}
@@ -22,13 +22,14 @@ use Rattle.nll_spec.proofs.MonotoneLaws.{looser-same}
 use Rattle.bit_set.specs.Bits.{has}
 use Rattle.graph.specs.Search.{Marked}
 use Rattle.graph.specs.Tables.{Edge}
-use Rattle.infer.specs.Search.{ruleOf, Gets, Spread, addsNothing, inBounds, inCode, Reach}
+use Rattle.infer.specs.Search.{ruleOf, Gets, Spread, addsNothing, inBounds, inCode, Reach, Covered}
 use Rattle.infer.specs.Ran.{Setting, bitAt, setsOf, Met, Within, AllReady, Ran, Given, Names}
 use Rattle.infer.specs.declared.EndRule as declared
 use Rattle.infer.specs.declared.Shape.{Shape}
 use Rattle.graph.proofs.SearchLaws.{mark-kept, mark-new, mark-old}
 use Rattle.infer.proofs.TableLaws.{leaf-exit, exit-leaf, reach-below, reach-walk, walk-reach}
 use Rattle.infer.proofs.SubsetLaws.{nothing-new}
+use Rattle.infer.proofs.CoverLaws.{covered-nothing}
 use Rattle.infer.proofs.RanLaws.{true-T, bit-region, sets-has, sets-below, has-sets, walk-mono}
 
 -- ---- The bounds
@@ -118,7 +119,7 @@ ran-absent s last ws grew c e = ran-same s last ws grew c λ ready. inl (record 
 
 -- ---- A constraint that is run
 
-module _ (s : Setting) (shape : Shape) (rule : declared.EndRule) (first succ ws grew : List ℕ) (given : Given s shape rule first succ ws grew) (c : Outlives) (names : Names s c) where
+module _ (s : Setting) (shape : Shape) (rule : declared.EndRule) (first succ chain ws grew : List ℕ) (given : Given s shape rule first succ chain ws grew) (c : Outlives) (names : Names s c) where
   -- what the constraint puts into its outer set
   abbrev Got : Point → Type 0
   Got = Gets (s .ends) first succ ws (c .sub * s .width) (s .graph .code) (s .graph .points) (c .point)
@@ -168,6 +169,13 @@ module _ (s : Setting) (shape : Shape) (rule : declared.EndRule) (first succ ws 
       ran-same s last ws grew c λ ready.
       inl (met-in ws (λ q h. h)
       (nothing-new (s .ends) first succ ws (s .width) (s .graph .code) (s .graph .points) (c .sup * s .width) (c .sub * s .width) (c .point) n (given .edges .ordered) (given .wide)))
+
+  -- the words show that a walk stays within its outer set
+  pub ran-covered : (last : List ℕ) (a b : ℕ) → a ≡ c .sup → b ≡ c .sub → Covered chain ws (b * shape .width) (a * shape .width) (c .point / wordBits) → Ran s last (c ∷ []) ws grew ws grew
+  ran-covered last a b ea eb v =
+      let w : Covered chain ws (c .sub * s .width) (c .sup * s .width) (c .point / wordBits) = rw (ea, eb, given .width) at v in
+      ran-same s last ws grew c λ ready.
+      inl (met-in ws (λ q h. h) (covered-nothing chain first succ ws (c .sub * s .width) (c .sup * s .width) (s .graph .code) (c .point) (given .linked) w (s .ends) (s .graph .points)))
 
   module _ (last ws′ : List ℕ) (r : Bool) (x : Spread Got (s .graph .points) ws ws′ (c .sup * s .width) r) where
     -- a new point of a set is one that the constraint put into its outer set
@@ -240,7 +248,7 @@ module _ (s : Setting) (shape : Shape) (rule : declared.EndRule) (first succ ws 
 
 -- ---- As the code goes
 
-module _ (s : Setting) (shape : Shape) (rule : declared.EndRule) (first succ ws grew : List ℕ) (given : Given s shape rule first succ ws grew) (c : Outlives) (names : Names s c) where
+module _ (s : Setting) (shape : Shape) (rule : declared.EndRule) (first succ chain ws grew : List ℕ) (given : Given s shape rule first succ chain ws grew) (c : Outlives) (names : Names s c) where
   -- the bounds hold
   pub given-bounds : (a b : ℕ) → a ≡ c .sup → b ≡ c .sub → inBounds (shape .width) (shape .code) (shape .points) a b (c .point) ≡ true
   given-bounds a b ea eb =

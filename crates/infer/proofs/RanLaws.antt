@@ -149,15 +149,15 @@ ran-append {s} {last} {ws} {grew} {ws₁} {grew₁} {ws₂} {grew₂} {cs} {ds} 
     second ready c m = y .met (λ d n. later d (ready d (member-right cs ds n))) c m
 
 -- what is handed in to the next run
-pub given-kept : {s : Setting} {shape : Shape} {rule : declared.EndRule} {first succ last ws grew ws′ grew′ : List ℕ} {cs : List Outlives}
-    → Given s shape rule first succ ws grew → Ran s last cs ws grew ws′ grew′ → Given s shape rule first succ ws′ grew′
+pub given-kept : {s : Setting} {shape : Shape} {rule : declared.EndRule} {first succ chain last ws grew ws′ grew′ : List ℕ} {cs : List Outlives}
+    → Given s shape rule first succ chain ws grew → Ran s last cs ws grew ws′ grew′ → Given s shape rule first succ chain ws′ grew′
 given-kept g ran =
     record {
       edges = g .edges;
       code = g .code;
       points = g .points;
       width = g .width;
-      chain = g .chain;
+      linked = g .linked;
       ends = g .ends;
       wide = g .wide;
       narrow = g .narrow;

@@ -8,12 +8,11 @@ use native.Mathlib.Decide.{ℕ-discrete}
 use native.Mathlib.Numerals.{add-one}
 use native.Mathlib.Omega.{arith}
 use lib.ListN.{length, getD}
-use lib.Dec.{eqb, ltb}
-use borrow.Author.Tests.{ltb-true, ltb-false, lt-leb}
+use lib.Dec.{eqb, leb, ltb}
 use Rattle.nll_spec.specs.Regions.{EndRule, everyEnd, heldEnds, passesEnd}
 use Rattle.nll_spec.specs.Output.{wordBits}
 use Rattle.bit_set.specs.Bits.{has, fits, orWord, orGrows, bothFit}
-use Rattle.bit_set.proofs.RunLaws.{and-true-left, and-true-right, both-into, both-from, both-fit, joined-yes}
+use Rattle.bit_set.proofs.RunLaws.{and-true-left, and-true-right, fits-sub, both-into, both-from, both-fit, joined-yes}
 use Rattle.bit_set.proofs.SetLaws.{new-grows}
 use Rattle.infer.specs.Search.{inCode, Gets, isSubset, hasRun, hasEnds, addsNothing}
 use Rattle.infer.proofs.SearchLaws.{reach-held, code-below}
@@ -28,32 +27,21 @@ pub record Comparing (ws : List ℕ) (from to n : ℕ) (lacks : Bool) (k : ℕ) 
   pub flag : lacks ≡ orGrows ws to ws from k
 
 module _ (ws : List ℕ) (from to n : ℕ) where
-  past : (length ws < to + n) ⊎ (length ws < from + n) → false ≡ isSubset ws from to n
-  past h = go (bothFit ws to ws from n) refl h
+  pub fit-short : length ws < n → false ≡ bothFit ws to ws from n
+  fit-short l = go (bothFit ws to ws from n) refl
     where
-      go : (b : Bool) → bothFit ws to ws from n ≡ b → (length ws < to + n) ⊎ (length ws < from + n) → false ≡ (b && not (orGrows ws to ws from n))
-      go false e h = refl
-      go true e (inl l) = absurd (omega (arith, both-into ws to ws from n e))
-      go true e (inr l) = absurd (omega (arith, both-from ws to ws from n e))
+      go : (b : Bool) → bothFit ws to ws from n ≡ b → false ≡ b
+      go false e = refl
+      go true e = absurd (omega (arith, both-into ws to ws from n e))
 
-  pub subset-short : length ws < n → false ≡ isSubset ws from to n
-  subset-short l = past (inl (omega arith))
+  pub fit-tests : n ≤ length ws → (leb to (length ws - n) && leb from (length ws - n)) ≡ bothFit ws to ws from n
+  fit-tests l = ap₂ (λ (a b : Bool). a && b) (fits-sub (length ws) to n l) (fits-sub (length ws) from n l)
 
-  pub subset-past : n ≤ length ws → (ltb (length ws - n) to || ltb (length ws - n) from) ≡ true → false ≡ isSubset ws from to n
-  subset-past l e = go (ltb (length ws - n) to) (ltb (length ws - n) from) refl refl e
-    where
-      go : (a b : Bool) → ltb (length ws - n) to ≡ a → ltb (length ws - n) from ≡ b → (a || b) ≡ true → false ≡ isSubset ws from to n
-      go true b ea eb e = past (inl (omega (arith, ltb-true (length ws - n) to ea)))
-      go false true ea eb e = past (inr (omega (arith, ltb-true (length ws - n) from eb)))
-      go false false ea eb e = absurd (true≢false (sym e))
+  pub subset-out : (b : Bool) → b ≡ bothFit ws to ws from n → b ≡ false → false ≡ isSubset ws from to n
+  subset-out b e f = sym (ap (λ (x : Bool). x && not (orGrows ws to ws from n)) (sym e ∙ f))
 
-  pub subset-start : n ≤ length ws → (ltb (length ws - n) to || ltb (length ws - n) from) ≡ false → Comparing ws from to n false 0
-  subset-start l e = go (ltb (length ws - n) to) (ltb (length ws - n) from) refl refl e
-    where
-      go : (a b : Bool) → ltb (length ws - n) to ≡ a → ltb (length ws - n) from ≡ b → (a || b) ≡ false → Comparing ws from to n false 0
-      go true b ea eb e = absurd (true≢false e)
-      go false true ea eb e = absurd (true≢false e)
-      go false false ea eb e = record { turns = omega arith; into = omega (arith, ltb-false (length ws - n) to ea); inner = omega (arith, ltb-false (length ws - n) from eb); flag = refl }
+  pub subset-start : (b : Bool) → b ≡ bothFit ws to ws from n → b ≡ true → Comparing ws from to n false 0
+  subset-start b e t = let f = sym e ∙ t in record { turns = omega arith; into = both-into ws to ws from n f; inner = both-from ws to ws from n f; flag = refl }
 
   pub subset-turn : (lacks : Bool) (k : ℕ) → Comparing ws from to n lacks k → k < n
       → Comparing ws from to n (lacks || not (eqb (getD ws (to + k) 0) (orWord ws to ws from k))) (k + 1)

@@ -95,12 +95,12 @@ pub record Rounds (s : Setting) (cs : List Outlives) (ws ws′ : List ℕ) : Typ
   pub within : (sets : Sets) → Within s (setsOf s ws) sets → ((c : Outlives) → Member c cs → Met s sets c) → Within s (setsOf s ws′) sets
 
 -- What is handed in is a setting's, and the words and the marks have room for its regions.
-pub record Given (s : Setting) (shape : Shape) (rule : declared.EndRule) (first succ ws grew : List ℕ) : Type 0 where
+pub record Given (s : Setting) (shape : Shape) (rule : declared.EndRule) (first succ chain ws grew : List ℕ) : Type 0 where
   pub edges : Edges (s .graph) first succ
   pub code : shape .code ≡ s .graph .code
   pub points : shape .points ≡ s .graph .points
   pub width : shape .width ≡ s .width
-  pub chain : Chained (shape .chain) first succ
+  pub linked : Chained chain first succ
   pub ends : ruleOf rule ≡ s .ends
   pub wide : s .graph .points ≤ wordBits * s .width
   pub narrow : s .width ≤ 32

@@ -3,12 +3,13 @@ use mathlib.Core.Path.{_≡_}
 use mathlib.Core.Logic.{_⊎_}
 use mathlib.Core.Bool.{Bool, true, false, not, _&&_, _||_, cond}
 use mathlib.Core.List.{List}
-use Prim.Native.Nat.{ℕ, zero, suc, _+_, _-_, _*_, _^_, _≤_, _<_}
+use Prim.Native.Nat.{ℕ, zero, suc, _+_, _-_, _*_, _/_, _^_, _≤_, _<_}
 use lib.ListN.{length, getD, set}
 use lib.Dec.{eqb, leb, ltb}
+use lib.Bits.{bitOr}
 use Rattle.nll_spec.specs.Regions.{EndRule, everyEnd, heldEnds, passesEnd}
 use Rattle.nll_spec.specs.Output.{wordBits}
-use Rattle.bit_set.specs.Bits.{has, withBit, orGrows, bothFit}
+use Rattle.bit_set.specs.Bits.{has, withBit, orWord, orGrows, bothFit}
 use Rattle.graph.specs.Tables.{rowStart, rowEnd, upTo, Edge}
 use Rattle.graph.specs.Search.{zeros, State, state}
 use Rattle.infer.specs.declared.EndRule as declared
@@ -153,6 +154,18 @@ hasEnds rule ws to code points = not (passesEnd rule false) || hasRun ws to code
 -- the words show that what a constraint puts into the set from word `to` is there, where the inner set starts at word `from`
 abbrev pub addsNothing : EndRule → List ℕ → ℕ → ℕ → ℕ → ℕ → ℕ → Bool
 addsNothing rule ws width code points to from = isSubset ws from to width && hasEnds rule ws to code points
+
+-- the word k of the inner set has only numbers of the chain, all of them in the outer set
+abbrev pub isCovered : List ℕ → List ℕ → ℕ → ℕ → ℕ → Bool
+isCovered chain ws from to k = eqb (getD ws (to + k) 0) (orWord ws to ws from k) && eqb (getD chain k 0) (bitOr (getD chain k 0) (getD ws (from + k) 0))
+
+-- The inner set's numbers in the words from k on are of the chain and in the outer set, up to a word `last` whose last number it lacks.
+pub record Covered (chain ws : List ℕ) (from to k : ℕ) : Type 0 where
+  pub last : ℕ
+  pub up : k ≤ last
+  pub linked : (q : ℕ) → k ≤ q / wordBits → q / wordBits ≤ last → has ws (wordBits * from + q) ≡ true → has chain q ≡ true
+  pub held : (q : ℕ) → k ≤ q / wordBits → q / wordBits ≤ last → has ws (wordBits * from + q) ≡ true → has ws (wordBits * to + q) ≡ true
+  pub stops : has ws (wordBits * from + (wordBits * last + 31)) ≡ false
 
 -- ---- The bounds that are tested
 

@@ -5,13 +5,14 @@ use graph::tables::up_to;
 ghost use mathlib.Core.Path.{_≡_};
 ghost use mathlib.Core.Bool.{true};
 ghost use mathlib.Core.List.{[], _∷_};
-ghost use Prim.Native.Nat.{_-_, _<_, _≤_};
+ghost use Prim.Native.Nat.{_+_, _-_, _/_, _<_, _≤_};
 ghost use lib.ListN.{length};
 ghost use Rattle.nll_spec.specs.Regions.{passesEnd};
 ghost use Rattle.graph.specs.Search.{state};
-ghost use Rattle.bit_set.specs.Bits.{withBit};
+ghost use Rattle.nll_spec.specs.Output.{wordBits};
+ghost use Rattle.bit_set.specs.Bits.{withBit, bothFit};
 ghost use Rattle.graph.specs.Tables.{Edge};
-ghost use Rattle.infer.specs.Search.{ruleOf, inCode, Follows, Chained, Along, Stopped, Reach, visited, row, left, isLeaf, Roomy, Reaches, passes, withRun, Gets, In, Below, Spread, isSubset, hasEnds, addsNothing, inBounds};
+ghost use Rattle.infer.specs.Search.{ruleOf, inCode, Follows, Chained, Along, Stopped, Reach, visited, row, left, isLeaf, Roomy, Reaches, passes, withRun, Gets, In, Below, Spread, isSubset, hasEnds, addsNothing, inBounds, isCovered, Covered};
 ghost use Rattle.infer.specs.Ran.{Setting, Given, Names, Ran, constraint, anyMarked};
 
 // A region's number.
@@ -23,13 +24,11 @@ pub enum EndRule {
     HeldEnds,
 }
 
-// How many words a region's set takes, how many points the blocks have, and how many points there are with the declared ends. `chain` is a set of points,
-// each followed by the next one alone.
+// How many words a region's set takes, how many points the blocks have, and how many points there are with the declared ends.
 pub struct Shape {
     pub width: usize,
     pub code: usize,
     pub points: usize,
-    pub chain: [u32; 32],
 }
 
 // The points that a walk reached, and whether one of them has no point after it.
@@ -323,6 +322,7 @@ fn spread(
     words: &mut [u32],
     first: &[u16; 1025],
     succ: &[u16; 1536],
+    chain: &[u32; 32],
     shape: Shape,
     rule: EndRule,
     to: usize,
@@ -330,14 +330,13 @@ fn spread(
     p: usize,
 ) -> bool
     requires { ⌜ (shape .code ≤ shape .points) × (shape .points ≤ 1024) × (inCode (now words) from (shape .code) p ≡ true) ⌝ }
-    ensures { λ r. ⌜ (Chained (shape .chain) (now (first .entry)) (now (succ .entry))
+    ensures { λ r. ⌜ (Chained (now (chain .entry)) (now (first .entry)) (now (succ .entry))
         → Spread (Gets (ruleOf rule) (now (first .entry)) (now (succ .entry)) (now (words .entry)) from (shape .code) (shape .points) p)
         (shape .points) (now (words .entry)) (now (words .exit)) to r) ⌝ }
 {
     let code = shape.code;
     let end = shape.points;
-    let chain = shape.chain;
-    let reached = reach(&chain, first, succ, words, from, code, p);
+    let reached = reach(chain, first, succ, words, from, code, p);
     let mut points = reached.points;
     if reached.exit {
         put_ends(words, from, code, end, rule, &mut points);
@@ -345,16 +344,22 @@ fn spread(
     put(words, to, end, &points)
 }
 
-// Whether the run of n words from word from has no number that the run from word to lacks. False where a run is not among the words.
-fn is_subset(words: &[u32], from: usize, to: usize, n: usize) -> bool
-    ensures { λ r. ⌜ r ≡ isSubset (now (words .entry)) from to n ⌝ }
+// Whether both runs of n words are among the words.
+fn both_fit(words: &[u32], from: usize, to: usize, n: usize) -> bool
+    ensures { λ r. ⌜ r ≡ bothFit (now (words .entry)) to (now (words .entry)) from n ⌝ }
 {
     let count = words.len();
     if count < n {
         return false;
     }
-    let last = count - n;
-    if (last < to) | (last < from) {
+    (to <= count - n) & (from <= count - n)
+}
+
+// Whether the run of n words from word from has no number that the run from word to lacks. False where a run is not among the words.
+fn is_subset(words: &[u32], from: usize, to: usize, n: usize) -> bool
+    ensures { λ r. ⌜ r ≡ isSubset (now (words .entry)) from to n ⌝ }
+{
+    if !both_fit(words, from, to, n) {
         return false;
     }
     let mut lacks = false;
@@ -363,6 +368,46 @@ fn is_subset(words: &[u32], from: usize, to: usize, n: usize) -> bool
         lacks = lacks | (w != (w | words[from + k]));
     }
     !lacks
+}
+
+// Whether word k has only points of the chain, all of them in the set from word to, where the inner set starts at word from.
+fn is_covered(chain: &[u32; 32], words: &[u32], from: usize, to: usize, k: usize) -> bool
+    requires { ⌜ (k < 32) × (from + k < length (now words)) × (to + k < length (now words)) ⌝ }
+    ensures { λ r. ⌜ r ≡ isCovered (now (chain .entry)) (now (words .entry)) from to k ⌝ }
+{
+    let inner = words[from + k];
+    let outer = words[to + k];
+    let links = chain[k];
+    (outer == (outer | inner)) & (links == (links | inner))
+}
+
+// Whether the words show that a walk from p stays within the set from word to: from p's word on, the inner set has only points of the chain that the outer
+// one has too, up to a word whose last point the inner set lacks.
+fn stays_within(
+    chain: &[u32; 32],
+    words: &[u32],
+    from: usize,
+    to: usize,
+    width: usize,
+    p: usize,
+) -> bool
+    requires { ⌜ width ≤ 32 ⌝ }
+    ensures { λ r. ⌜ (r ≡ true → Covered (now (chain .entry)) (now (words .entry)) from to (p / wordBits)) ⌝ }
+{
+    if !both_fit(words, from, to, width) {
+        return false;
+    }
+    let mut k = p / 32;
+    while k < width {
+        if !is_covered(chain, words, from, to, k) {
+            return false;
+        }
+        if words[from + k] < 2147483648 {
+            return true;
+        }
+        k += 1;
+    }
+    false
 }
 
 // Whether the set from word to has each end that the end rule passes on whether or not the inner region holds it.
@@ -402,11 +447,13 @@ fn in_bounds(shape: Shape, s: usize, t: usize, p: usize) -> bool
 }
 
 // Runs the constraint "sup outlives sub at point". It is passed by where neither the last round nor this one marks sub, so that nothing is new in it,
-// where sub does not hold the point, and where the words show that it adds nothing. If the set of sup grows, sup is marked.
+// where sub does not hold the point, and where the words show that it adds nothing. If the set of sup grows, sup is marked. `chain` is a set of points, each
+// followed by the next one alone.
 pub fn outlives(
     words: &mut [u32],
     first: &[u16; 1025],
     succ: &[u16; 1536],
+    chain: &[u32; 32],
     shape: Shape,
     rule: EndRule,
     last: &[u8; 128],
@@ -415,7 +462,7 @@ pub fn outlives(
     sub: RegionVariable,
     point: usize,
 )
-    ensures { λ _. ⌜ ((s : Setting) → Given s shape rule (now (first .entry)) (now (succ .entry)) (now (words .entry)) (now (grew .entry))
+    ensures { λ _. ⌜ ((s : Setting) → Given s shape rule (now (first .entry)) (now (succ .entry)) (now (chain .entry)) (now (words .entry)) (now (grew .entry))
         → Names s (constraint (sup .0) (sub .0) point)
         → Ran s (now (last .entry)) (constraint (sup .0) (sub .0) point ∷ []) (now (words .entry)) (now (grew .entry)) (now (words .exit)) (now (grew .exit))) ⌝ }
 {
@@ -432,10 +479,13 @@ pub fn outlives(
         return;
     }
     let to = s * shape.width;
+    if stays_within(chain, words, from, to, shape.width, point) {
+        return;
+    }
     if adds_nothing(words, shape, rule, to, from) {
         return;
     }
-    if spread(words, first, succ, shape, rule, to, from, point) {
+    if spread(words, first, succ, chain, shape, rule, to, from, point) {
         grew[s] = 1;
     }
 }

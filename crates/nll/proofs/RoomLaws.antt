@@ -6,7 +6,6 @@ use Prim.Native.Nat.{ℕ, _+_, _*_, _/_, _<_, _≤_}
 use native.Mathlib.Nat.{mul-le-mul-right}
 use native.Mathlib.Omega.{arith}
 use lib.Seq.{paste}
-use lib.ListN.{replicate}
 use lib.Dec.{leb}
 use borrow.Author.Tests.{leb-true, le-leb, lt-leb}
 use Rattle.nll_spec.specs.Output.{verdictBytes}
@@ -29,11 +28,11 @@ none a b c d e (h, k) = true≢false (sym (ap₂ (λ (x y : Bool). x && y) (le-l
 
 -- ---- A head's sizes
 
-pub shape-is : (h : Head) {code declared : ℕ} → code ≡ h .code → declared ≡ h .declared → record { width = (code + declared + 31) / 32; code = code; points = code + declared; chain = replicate 32 0 } ≡ shapeOf h
+pub shape-is : (h : Head) {code declared : ℕ} → code ≡ h .code → declared ≡ h .declared → record { width = (code + declared + 31) / 32; code = code; points = code + declared } ≡ shapeOf h
 shape-is h c d = ap₂ shape c d
   where
     shape : ℕ → ℕ → Shape
-    shape x y = record { width = (x + y + 31) / 32; code = x; points = x + y; chain = replicate 32 0 }
+    shape x y = record { width = (x + y + 31) / 32; code = x; points = x + y }
 
 pub product-fits : (r w : ℕ) → r ≤ 255 → w ≤ 2056 → r * w ≤ 524280
 product-fits r w hr hw = omega (arith, mul-le-mul-right w hr)

@@ -3,7 +3,7 @@ use mathlib.Core.Path.{_≡_}
 use mathlib.Core.Bool.{Bool, _&&_}
 use mathlib.Core.List.{List, [], _∷_, map}
 use Prim.Native.Nat.{ℕ, _+_, _*_, _<_, _≤_}
-use lib.ListN.{length, take, replicate}
+use lib.ListN.{length, take}
 use lib.Dec.{leb}
 use Rattle.nll_spec.specs.Lists.{gather}
 use Rattle.nll_spec.specs.Syntax.{Job, Point}
@@ -25,7 +25,7 @@ use Rattle.seeds.specs.Seeded.{Seeded}
 
 -- how many words a set takes and how many points there are, by a job's head
 abbrev pub shapeOf : Head → Shape
-shapeOf h = record { width = wordCount (h .code + h .declared); code = h .code; points = h .code + h .declared; chain = replicate 32 0 }
+shapeOf h = record { width = wordCount (h .code + h .declared); code = h .code; points = h .code + h .declared }
 
 -- so many words and bytes have room for the answer
 abbrev pub roomFor : Head → ℕ → ℕ → Bool

@@ -27,7 +27,6 @@ pub fn shape_of(head: Head) -> Shape
         width: (points + 31) / 32,
         code,
         points,
-        chain: [0; 32],
     }
 }
 

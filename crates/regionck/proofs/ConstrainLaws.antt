@@ -63,31 +63,31 @@ module _ (at : Point) (kinds names : List ℕ) (shortest r i : ℕ) where
 is-ref : (kind : ℕ) → (kind ≡ 0 → ⊥) → not (eqb kind 0) ≡ true
 is-ref kind h = ap not (ne-eqb kind 0 h)
 
-module _ {run : Run} {first succ last : List ℕ} where
-  runs-as : {cs ds : List Outlives} {ws grew ws′ grew′ : List ℕ} → cs ≡ ds → Runs run first succ last cs ws grew ws′ grew′ → Runs run first succ last ds ws grew ws′ grew′
-  runs-as {ws = ws} {grew = grew} {ws′ = ws′} {grew′ = grew′} e x = subst (λ (cs : List Outlives). Runs run first succ last cs ws grew ws′ grew′) e x
+module _ {run : Run} {first succ chain last : List ℕ} where
+  runs-as : {cs ds : List Outlives} {ws grew ws′ grew′ : List ℕ} → cs ≡ ds → Runs run first succ chain last cs ws grew ws′ grew′ → Runs run first succ chain last ds ws grew ws′ grew′
+  runs-as {ws = ws} {grew = grew} {ws′ = ws′} {grew′ = grew′} e x = subst (λ (cs : List Outlives). Runs run first succ chain last cs ws grew ws′ grew′) e x
 
   module _ (kinds names : List ℕ) (shortest r i : ℕ) where
-    pub step-other : {ws grew : List ℕ} → getD kinds i 0 ≡ 0 → Runs run first succ last (stepConstraints (run .at) kinds names shortest r i) ws grew ws grew
+    pub step-other : {ws grew : List ℕ} → getD kinds i 0 ≡ 0 → Runs run first succ chain last (stepConstraints (run .at) kinds names shortest r i) ws grew ws grew
     step-other e = runs-none (made (run .at) kinds names shortest r i false (leb shortest (i + 1)) (ap not (eq-eqb (getD kinds i 0) 0 e)) refl)
 
-    pub step-out : {ws grew : List ℕ} → length kinds ≡ 8 → 8 ≤ i → Runs run first succ last (stepConstraints (run .at) kinds names shortest r i) ws grew ws grew
+    pub step-out : {ws grew : List ℕ} → length kinds ≡ 8 → 8 ≤ i → Runs run first succ chain last (stepConstraints (run .at) kinds names shortest r i) ws grew ws grew
     step-out e l = step-other (List·getD-eq-default kinds 0 {n = i} (omega arith))
 
     module _ (ref : getD kinds i 0 ≡ 0 → ⊥) where
-      pub step-short : {ws grew : List ℕ} → i + 1 < shortest → Runs run first succ last (stepConstraints (run .at) kinds names shortest r i) ws grew ws grew
+      pub step-short : {ws grew : List ℕ} → i + 1 < shortest → Runs run first succ chain last (stepConstraints (run .at) kinds names shortest r i) ws grew ws grew
       step-short l = runs-none (made (run .at) kinds names shortest r i true false (is-ref (getD kinds i 0) ref) (lt-leb shortest (i + 1) l))
 
-      pub step-made : {ws grew ws′ grew′ : List ℕ} → shortest ≤ i + 1 → Runs run first succ last (requireOutlives (run .at) (Free (getD names i 0)) (Free r)) ws grew ws′ grew′
-          → Runs run first succ last (stepConstraints (run .at) kinds names shortest r i) ws grew ws′ grew′
+      pub step-made : {ws grew ws′ grew′ : List ℕ} → shortest ≤ i + 1 → Runs run first succ chain last (requireOutlives (run .at) (Free (getD names i 0)) (Free r)) ws grew ws′ grew′
+          → Runs run first succ chain last (stepConstraints (run .at) kinds names shortest r i) ws grew ws′ grew′
       step-made l x = runs-as (sym (made (run .at) kinds names shortest r i true true (is-ref (getD kinds i 0) ref) (le-leb shortest (i + 1) l))) x
 
   module _ (kinds names : List ℕ) (shortest r : ℕ) where
-    pub source-none : {ws grew : List ℕ} → Runs run first succ last (sourceConstraints (run .at) kinds names shortest r 0) ws grew ws grew
+    pub source-none : {ws grew : List ℕ} → Runs run first succ chain last (sourceConstraints (run .at) kinds names shortest r 0) ws grew ws grew
     source-none = runs-none refl
 
-    pub source-more : {ws grew ws₁ grew₁ ws₂ grew₂ : List ℕ} (i : ℕ) → Runs run first succ last (sourceConstraints (run .at) kinds names shortest r i) ws grew ws₁ grew₁
-        → Runs run first succ last (stepConstraints (run .at) kinds names shortest r i) ws₁ grew₁ ws₂ grew₂ → Runs run first succ last (sourceConstraints (run .at) kinds names shortest r (i + 1)) ws grew ws₂ grew₂
+    pub source-more : {ws grew ws₁ grew₁ ws₂ grew₂ : List ℕ} (i : ℕ) → Runs run first succ chain last (sourceConstraints (run .at) kinds names shortest r i) ws grew ws₁ grew₁
+        → Runs run first succ chain last (stepConstraints (run .at) kinds names shortest r i) ws₁ grew₁ ws₂ grew₂ → Runs run first succ chain last (sourceConstraints (run .at) kinds names shortest r (i + 1)) ws grew ws₂ grew₂
     source-more i x y = runs-as (sym (gather-below (stepConstraints (run .at) kinds names shortest r) i)) (runs-append x y)
 
 pub source-says : {s : List ℕ} {p : Path} {region : RegionName} {kinds : List ℕ} {n m c : ℕ} {of : Shortest} → n ≡ length (pathOf s p .steps) → ShortestIn kinds n of → c ≡ of .supporting → m ≡ n
@@ -121,12 +121,12 @@ module _ {s t : List ℕ} {h : Head} {p q : Path} {a b kinds names : List ℕ} {
 
 -- ---- An assignment and a borrow
 
-module _ {s t : List ℕ} {run : Run} {first succ last : List ℕ} {dest source : Path} {ws grew : List ℕ} where
+module _ {s t : List ℕ} {run : Run} {first succ chain last : List ℕ} {dest source : Path} {ws grew : List ℕ} where
   module _ {a b kinds names : List ℕ} {d : PathTypes} (v : PathTypesSay s t (run .head) source dest a b kinds names d) where
-    pub assign-untyped : d ≡ pathTypes.Refused → Assigns s t run first succ last dest source ws grew ws grew
+    pub assign-untyped : d ≡ pathTypes.Refused → Assigns s t run first succ chain last dest source ws grew ws grew
     assign-untyped e = record { runs = λ j l td ts z. absurd (typed v e j l ts td) }
 
-    pub assign-runs : {x y : Cursor} {ws′ grew′ : List ℕ} → d ≡ pathTypes.At x y → Relates s t run first succ last a (x .at) b (y .at) Co ws grew ws′ grew′ → Assigns s t run first succ last dest source ws grew ws′ grew′
+    pub assign-runs : {x y : Cursor} {ws′ grew′ : List ℕ} → d ≡ pathTypes.At x y → Relates s t run first succ chain last a (x .at) b (y .at) Co ws grew ws′ grew′ → Assigns s t run first succ chain last dest source ws grew ws′ grew′
     assign-runs e m =
         record {
           runs = λ j l td ts z.
@@ -135,12 +135,12 @@ module _ {s t : List ℕ} {run : Run} {first succ last : List ℕ} {dest source 
         }
 
   module _ {r : RegionName} {a b kinds names : List ℕ} {d : PathTypes} (v : PathTypesSay s t (run .head) dest source a b kinds names d) where
-    pub borrow-untyped : d ≡ pathTypes.Refused → Borrows s t run first succ last dest (r .0) source ws grew ws grew
+    pub borrow-untyped : d ≡ pathTypes.Refused → Borrows s t run first succ chain last dest (r .0) source ws grew ws grew
     borrow-untyped e = record { runs = λ j l accepted td ts k z. absurd (typed v e j l td ts) }
 
-    pub borrow-runs : {x y : Cursor} {ws₁ grew₁ ws₂ grew₂ : List ℕ} {of : Source} → d ≡ pathTypes.At x y → RelatesRef (r .0) s t run first succ last a (x .at) b (y .at) Contra ws grew ws₁ grew₁
-        → SourceSays s source r kinds of → Runs run first succ last (sourceConstraints (run .at) kinds names (of .supporting) (of .region .0) (of .steps)) ws₁ grew₁ ws₂ grew₂
-        → Borrows s t run first succ last dest (r .0) source ws grew ws₂ grew₂
+    pub borrow-runs : {x y : Cursor} {ws₁ grew₁ ws₂ grew₂ : List ℕ} {of : Source} → d ≡ pathTypes.At x y → RelatesRef (r .0) s t run first succ chain last a (x .at) b (y .at) Contra ws grew ws₁ grew₁
+        → SourceSays s source r kinds of → Runs run first succ chain last (sourceConstraints (run .at) kinds names (of .supporting) (of .region .0) (of .steps)) ws₁ grew₁ ws₂ grew₂
+        → Borrows s t run first succ chain last dest (r .0) source ws grew ws₂ grew₂
     borrow-runs {of = of} e rel u src =
         record {
           runs = λ j l accepted td ts k z.
@@ -157,8 +157,8 @@ module _ {s t : List ℕ} {run : Run} {first succ last : List ℕ} {dest source 
 
 -- ---- An action
 
-module _ {s t : List ℕ} {run : Run} {first succ last : List ℕ} {ws grew : List ℕ} where
-  pub point-far : 1024 < run .at → Constrains s t run first succ last ws grew ws grew
+module _ {s t : List ℕ} {run : Run} {first succ chain last : List ℕ} {ws grew : List ℕ} where
+  pub point-far : 1024 < run .at → Constrains s t run first succ chain last ws grew ws grew
   point-far f = record { runs = λ j l accepted h. absurd (omega (arith, f, h, code-count j, l .few)) }
 
 -- what is read there, for every job
@@ -185,17 +185,17 @@ none-made s c j p (actions.Use q) o i = carry (λ y z. constraintsAt j p y ≡ [
 none-made s c j p (actions.Drop q) o i = carry (λ y z. constraintsAt j p y ≡ []) i refl
 none-made s c j p (actions.StorageDead v) o i = carry (λ y z. constraintsAt j p y ≡ []) i refl
 
-module _ {s t : List ℕ} {run : Run} {first succ last : List ℕ} {ws grew : List ℕ} {r : ActionStep} (act : Read s t (run .at) r) where
-  pub action-refused : {k : ℕ} → r ≡ actionStep.Refused k → Constrains s t run first succ last ws grew ws grew
+module _ {s t : List ℕ} {run : Run} {first succ chain last : List ℕ} {ws grew : List ℕ} {r : ActionStep} (act : Read s t (run .at) r) where
+  pub action-refused : {k : ℕ} → r ≡ actionStep.Refused k → Constrains s t run first succ chain last ws grew ws grew
   action-refused e = record { runs = λ j l accepted h. absurd (clash (acts act j l h e .reads)) }
 
   module _ {a : Action} {c : Cursor} (e : r ≡ actionStep.Action a c) where
-    pub action-other : OneOf (0 ∷ 1 ∷ 5 ∷ 6 ∷ 7 ∷ []) (tagOf the-type a) → Constrains s t run first succ last ws grew ws grew
+    pub action-other : OneOf (0 ∷ 1 ∷ 5 ∷ 6 ∷ 7 ∷ []) (tagOf the-type a) → Constrains s t run first succ chain last ws grew ws grew
     action-other o = record { runs = λ j l accepted h. runs-none (none-made s c j (run .at) a o (acts act j l h e .reads)) }
 
     module _ {ws′ grew′ : List ℕ} where
       pub action-borrow : {d q : Path} {o : RegionName} {k : BorrowKind} {next : Run} → a ≡ actions.Borrow d o k q → next ≡ after run
-          → Borrows s t next first succ last d (o .0) q ws grew ws′ grew′ → Constrains s t run first succ last ws grew ws′ grew′
+          → Borrows s t next first succ chain last d (o .0) q ws grew ws′ grew′ → Constrains s t run first succ chain last ws grew ws′ grew′
       unfolding constraintsAt shapeFits
       action-borrow {d} {q} {o} {k} {next} i f b =
           record {
@@ -204,10 +204,10 @@ module _ {s t : List ℕ} {run : Run} {first succ last : List ℕ} {ws grew : Li
                 = carry (λ x y. x ≡ syntax.Borrow (pathOf s d) (o .0) (borrowKindOf k) (pathOf s q)) (is act j l h e i .reads) refl in
                 let w = borrow-takes l accepted (run .at) d q u in
                 let z : T (shapeFits j (syntax.Borrow (pathOf s d) (o .0) (borrowKindOf k) (pathOf s q))) = subst (λ (x : syntax.Action). T (shapeFits j x)) u (accepted-job j accepted .shapes (run .at)) in
-                let b′ : Borrows s t (after run) first succ last d (o .0) q ws grew ws′ grew′ = subst (λ (x : Run). Borrows s t x first succ last d (o .0) q ws grew ws′ grew′) f b in
+                let b′ : Borrows s t (after run) first succ chain last d (o .0) q ws grew ws′ grew′ = subst (λ (x : Run). Borrows s t x first succ chain last d (o .0) q ws grew ws′ grew′) f b in
                 runs-as (ap (constraintsAt j (run .at)) (sym u))
                 (record {
-                  ran = subst (λ (p : Point). Runs (after run) first succ last
+                  ran = subst (λ (p : Point). Runs (after run) first succ chain last
                       (relate p (j .structs) (pathType j (pathOf s d)) Contra (RefTy (borrowKindOf k) (Free (o .0)) (pathType j (pathOf s q)))
                       ++ relateSource p (j .structs) (Free (o .0)) (variableType j (q .base .0)) (pathOf s q .steps)) ws grew ws′ grew′)
                       (add-one (run .at)) (b′ .runs j l accepted (w .0) (w .1) (borrowKindOf k) z) .ran;
@@ -215,7 +215,7 @@ module _ {s t : List ℕ} {run : Run} {first succ last : List ℕ} {ws grew : Li
           }
 
       pub action-assign : {d q : Path} {next : Run} → a ≡ actions.Assign d q → next ≡ after run
-          → Assigns s t next first succ last d q ws grew ws′ grew′ → Constrains s t run first succ last ws grew ws′ grew′
+          → Assigns s t next first succ chain last d q ws grew ws′ grew′ → Constrains s t run first succ chain last ws grew ws′ grew′
       unfolding constraintsAt shapeFits
       action-assign {d} {q} {next} i f b =
           record {
@@ -223,16 +223,16 @@ module _ {s t : List ℕ} {run : Run} {first succ last : List ℕ} {ws grew : Li
                 let u : actionAt (graphOf j) (run .at) ≡ syntax.Assign (pathOf s d) (pathOf s q) = carry (λ x y. x ≡ syntax.Assign (pathOf s d) (pathOf s q)) (is act j l h e i .reads) refl in
                 let w = assign-takes l accepted (run .at) d q u in
                 let z : T (shapeFits j (syntax.Assign (pathOf s d) (pathOf s q))) = subst (λ (x : syntax.Action). T (shapeFits j x)) u (accepted-job j accepted .shapes (run .at)) in
-                let b′ : Assigns s t (after run) first succ last d q ws grew ws′ grew′ = subst (λ (x : Run). Assigns s t x first succ last d q ws grew ws′ grew′) f b in
+                let b′ : Assigns s t (after run) first succ chain last d q ws grew ws′ grew′ = subst (λ (x : Run). Assigns s t x first succ chain last d q ws grew ws′ grew′) f b in
                 runs-as (ap (constraintsAt j (run .at)) (sym u))
                 (record {
-                  ran = subst (λ (p : Point). Runs (after run) first succ last (relate p (j .structs) (pathType j (pathOf s q)) Co (pathType j (pathOf s d))) ws grew ws′ grew′)
+                  ran = subst (λ (p : Point). Runs (after run) first succ chain last (relate p (j .structs) (pathType j (pathOf s q)) Co (pathType j (pathOf s d))) ws grew ws′ grew′)
                       (add-one (run .at)) (b′ .runs j l (w .0) (w .1) z) .ran;
                 });
           }
 
-      pub action-constraint : {m n : RegionName} → a ≡ actions.Constraint m n → Runs run first succ last (requireOutlives (run .at) (Free (m .0)) (Free (n .0))) ws grew ws′ grew′
-          → Constrains s t run first succ last ws grew ws′ grew′
+      pub action-constraint : {m n : RegionName} → a ≡ actions.Constraint m n → Runs run first succ chain last (requireOutlives (run .at) (Free (m .0)) (Free (n .0))) ws grew ws′ grew′
+          → Constrains s t run first succ chain last ws grew ws′ grew′
       unfolding constraintsAt
       action-constraint {m} {n} i b =
           record { runs = λ j l accepted h. runs-as (ap (constraintsAt j (run .at)) (sym (carry (λ x y. x ≡ syntax.Constraint (m .0) (n .0)) (is act j l h e i .reads) refl))) b }

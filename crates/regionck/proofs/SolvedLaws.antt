@@ -160,12 +160,12 @@ pub record Going (ends : EndRule) (j : Job) (ws₀ ws last marks : List ℕ) (le
   pub told : Told (settingOf ends j) ws₀ ws marks
   pub less : missing (take (j .regions * wordCount (pointCount j)) ws) < left
 
-module _ (s t : List ℕ) (h : Head) (first succ walked : List ℕ) (shape : Shape) (rule : declared.EndRule) (ws₀ : List ℕ) where
+module _ (s t : List ℕ) (h : Head) (first succ chain walked : List ℕ) (shape : Shape) (rule : declared.EndRule) (ws₀ : List ℕ) where
   -- so for every job that is handed in
   pub record GoingOn (ws last marks : List ℕ) (left : ℕ) : Type 0 where
-    pub going : (j : Job) → Seeded s t h first succ walked shape ws₀ j → Chained (shape .chain) first succ → Going (ruleOf rule) j ws₀ ws last marks left
+    pub going : (j : Job) → Seeded s t h first succ walked shape ws₀ j → Chained chain first succ → Going (ruleOf rule) j ws₀ ws last marks left
 
-  module _ (j : Job) (x : Seeded s t h first succ walked shape ws₀ j) (chained : Chained (shape .chain) first succ) where
+  module _ (j : Job) (x : Seeded s t h first succ walked shape ws₀ j) (chained : Chained chain first succ) where
     abbrev ends : EndRule
     ends = ruleOf rule
 
@@ -191,14 +191,14 @@ module _ (s t : List ℕ) (h : Head) (first succ walked : List ℕ) (shape : Sha
     narrow : wordCount (pointCount j) ≤ 32
     narrow = omega (arith, points, x .edges .few)
 
-    given : (ws : List ℕ) → length ws ≡ length ws₀ → Given e shape rule first succ ws noMarks
+    given : (ws : List ℕ) → length ws ≡ length ws₀ → Given e shape rule first succ chain ws noMarks
     given ws el =
         record {
           edges = x .edges;
           code = x .code;
           points = x .points ∙ sym points;
           width = x .width;
-          chain = chained;
+          linked = chained;
           ends = refl;
           wide = wide;
           narrow = narrow;
@@ -229,7 +229,7 @@ module _ (s t : List ℕ) (h : Head) (first succ walked : List ℕ) (shape : Sha
         size : length (take (j .regions * wordCount (pointCount j)) ws₀) ≤ j .regions * wordCount (pointCount j)
         size = rw length-take (omega arith)
 
-    more : {ws last marks ws′ grew marks′ : List ℕ} {left : ℕ} → Going ends j ws₀ ws last marks left → RoundRuns s t h walked shape rule first succ last ws ws′ grew → anyMarked grew 128 ≡ true → Noted grew marks marks′ 128
+    more : {ws last marks ws′ grew marks′ : List ℕ} {left : ℕ} → Going ends j ws₀ ws last marks left → RoundRuns s t h walked shape rule first succ chain last ws ws′ grew → anyMarked grew 128 ≡ true → Noted grew marks marks′ 128
         → Going ends j ws₀ ws′ grew marks′ (left - 1)
     more {ws} {last} {marks} {ws′} {grew} {marks′} {left} g y m noted =
         record {
@@ -242,7 +242,7 @@ module _ (s t : List ℕ) (h : Head) (first succ walked : List ℕ) (shape : Sha
         ran : Ran e last cs ws noMarks ws′ grew
         ran = y .ran j (x .layout) (x .accepted) (x .reached) (given ws (g .rounds .as-long))
 
-    module _ {ws last marks ws′ grew : List ℕ} {left : ℕ} (g : Going ends j ws₀ ws last marks left) (y : RoundRuns s t h walked shape rule first succ last ws ws′ grew) (m : anyMarked grew 128 ≡ false) where
+    module _ {ws last marks ws′ grew : List ℕ} {left : ℕ} (g : Going ends j ws₀ ws last marks left) (y : RoundRuns s t h walked shape rule first succ chain last ws ws′ grew) (m : anyMarked grew 128 ≡ false) where
       ran : Ran e last cs ws noMarks ws′ grew
       ran = y .ran j (x .layout) (x .accepted) (x .reached) (given ws (g .rounds .as-long))
 
@@ -355,30 +355,14 @@ module _ (s t : List ℕ) (h : Head) (first succ walked : List ℕ) (shape : Sha
   pub going-start : {marks : List ℕ} → Cleared marks 128 → GoingOn ws₀ (replicate 128 1) marks 131073
   going-start z = record { going = λ j x ch. start j x ch z }
 
-  pub going-more : {ws last marks ws′ grew marks′ : List ℕ} {left : ℕ} → GoingOn ws last marks left → RoundRuns s t h walked shape rule first succ last ws ws′ grew → anyMarked grew 128 ≡ true → Noted grew marks marks′ 128
+  pub going-more : {ws last marks ws′ grew marks′ : List ℕ} {left : ℕ} → GoingOn ws last marks left → RoundRuns s t h walked shape rule first succ chain last ws ws′ grew → anyMarked grew 128 ≡ true → Noted grew marks marks′ 128
       → GoingOn ws′ grew marks′ (left - 1)
   going-more g y m noted = record { going = λ j x ch. more j x ch (g .going j x ch) y m noted }
 
-  pub going-done : {ws last marks ws′ grew : List ℕ} {left : ℕ} → GoingOn ws last marks left → RoundRuns s t h walked shape rule first succ last ws ws′ grew → anyMarked grew 128 ≡ false
-      → (j : Job) → Seeded s t h first succ walked shape ws₀ j → Chained (shape .chain) first succ → Solved (ruleOf rule) j ws₀ ws′ marks
+  pub going-done : {ws last marks ws′ grew : List ℕ} {left : ℕ} → GoingOn ws last marks left → RoundRuns s t h walked shape rule first succ chain last ws ws′ grew → anyMarked grew 128 ≡ false
+      → (j : Job) → Seeded s t h first succ walked shape ws₀ j → Chained chain first succ → Solved (ruleOf rule) j ws₀ ws′ marks
   going-done g y m j x ch = done j x ch (g .going j x ch) y m
 
   -- the rounds do not run out
-  pub going-out : {ws last marks : List ℕ} {left : ℕ} → left ≡ 0 → GoingOn ws last marks left → (j : Job) → Seeded s t h first succ walked shape ws₀ j → Chained (shape .chain) first succ → Solved (ruleOf rule) j ws₀ ws marks
+  pub going-out : {ws last marks : List ℕ} {left : ℕ} → left ≡ 0 → GoingOn ws last marks left → (j : Job) → Seeded s t h first succ walked shape ws₀ j → Chained chain first succ → Solved (ruleOf rule) j ws₀ ws marks
   going-out e g j x ch = absurd (omega (arith, e, g .going j x ch .less))
-
--- the same is handed in with another chain
-pub seeded-run : {s t : List ℕ} {h : Head} {first succ walked : List ℕ} {shape : Shape} {ws : List ℕ} {j : Job} (chain : List ℕ) → Seeded s t h first succ walked shape ws j
-    → Seeded s t h first succ walked (record { width = shape .width; code = shape .code; points = shape .points; chain = chain }) ws j
-seeded-run chain x =
-    record {
-      layout = x .layout;
-      accepted = x .accepted;
-      edges = x .edges;
-      reached = x .reached;
-      width = x .width;
-      code = x .code;
-      points = x .points;
-      fits = x .fits;
-      seeds = x .seeds;
-    }

@@ -73,17 +73,17 @@ pub record PathTypesSay (s t : List ℕ) (h : Head) (p q : Path) (a b kinds name
 
 -- ---- The constraints of an action
 
-module _ (s t : List ℕ) (run : Run) (first succ last : List ℕ) where
+module _ (s t : List ℕ) (run : Run) (first succ chain last : List ℕ) where
   -- The constraints of an assignment are run, at the run's point.
   pub record Assigns (dest source : Path) (ws grew ws′ grew′ : List ℕ) : Type 0 where
     pub runs : (j : Job) → Layout s t (run .head) j → Takes s j dest → Takes s j source → T (sameShape (pathType j (pathOf s source)) (pathType j (pathOf s dest)))
-        → Runs run first succ last (relate (run .at) (j .structs) (pathType j (pathOf s source)) Co (pathType j (pathOf s dest))) ws grew ws′ grew′
+        → Runs run first succ chain last (relate (run .at) (j .structs) (pathType j (pathOf s source)) Co (pathType j (pathOf s dest))) ws grew ws′ grew′
 
   -- The constraints of a borrow, of some kind.
   pub record Borrows (dest : Path) (r : RegionName) (source : Path) (ws grew ws′ grew′ : List ℕ) : Type 0 where
     pub runs : (j : Job) → Layout s t (run .head) j → refusal j ≡ 0 → Takes s j dest → Takes s j source → (k : BorrowKind)
         → T (sameShape (pathType j (pathOf s dest)) (RefTy k (Free r) (pathType j (pathOf s source))))
-        → Runs run first succ last
+        → Runs run first succ chain last
         (relate (run .at) (j .structs) (pathType j (pathOf s dest)) Contra (RefTy k (Free r) (pathType j (pathOf s source)))
         ++ relateSource (run .at) (j .structs) (Free r) (variableType j (source .base .0)) (pathOf s source .steps))
         ws grew ws′ grew′
@@ -91,4 +91,4 @@ module _ (s t : List ℕ) (run : Run) (first succ last : List ℕ) where
   -- The constraints of the action at the run's point, which is one of the blocks.
   pub record Constrains (ws grew ws′ grew′ : List ℕ) : Type 0 where
     pub runs : (j : Job) → Layout s t (run .head) j → refusal j ≡ 0 → run .at < graphOf j .code
-        → Runs run first succ last (constraintsAt j (run .at) (actionAt (graphOf j) (run .at))) ws grew ws′ grew′
+        → Runs run first succ chain last (constraintsAt j (run .at) (actionAt (graphOf j) (run .at))) ws grew ws′ grew′

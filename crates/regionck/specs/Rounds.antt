@@ -41,14 +41,14 @@ abbrev pub WalkedIn : Job → List ℕ → Type 0
 WalkedIn j walked = (p : Point) → p < 1024 → has walked p ≡ isWalked (graphOf j) p
 
 -- The constraints of a point are run, if its block is walked.
-pub record PointRuns (s t : List ℕ) (run : Run) (walked first succ last ws grew ws′ grew′ : List ℕ) : Type 0 where
+pub record PointRuns (s t : List ℕ) (run : Run) (walked first succ chain last ws grew ws′ grew′ : List ℕ) : Type 0 where
   pub ran : (j : Job) → Layout s t (run .head) j → refusal j ≡ 0 → WalkedIn j walked → run .at < graphOf j .code
-      → Given (settingOf (ruleOf (run .rule)) j) (run .shape) (run .rule) first succ ws grew
+      → Given (settingOf (ruleOf (run .rule)) j) (run .shape) (run .rule) first succ chain ws grew
       → Ran (settingOf (ruleOf (run .rule)) j) last (walkedAt j (run .at)) ws grew ws′ grew′
 
 -- All constraints of a job are run, from no marks on.
-pub record RoundRuns (s t : List ℕ) (h : Head) (walked : List ℕ) (shape : Shape) (rule : declared.EndRule) (first succ last ws ws′ grew : List ℕ) : Type 0 where
-  pub ran : (j : Job) → Layout s t h j → refusal j ≡ 0 → WalkedIn j walked → Given (settingOf (ruleOf rule) j) shape rule first succ ws noMarks
+pub record RoundRuns (s t : List ℕ) (h : Head) (walked : List ℕ) (shape : Shape) (rule : declared.EndRule) (first succ chain last ws ws′ grew : List ℕ) : Type 0 where
+  pub ran : (j : Job) → Layout s t h j → refusal j ≡ 0 → WalkedIn j walked → Given (settingOf (ruleOf rule) j) shape rule first succ chain ws noMarks
       → Ran (settingOf (ruleOf rule) j) last (constraintsOf j (graphOf j)) ws noMarks ws′ grew
 
 -- The first n regions have no mark.

@@ -64,11 +64,12 @@ fn relate_step(
     words: &mut [u32],
     first: &[u16; 1025],
     succ: &[u16; 1536],
+    chain: &[u32; 32],
     last: &[u8; 128],
     grew: &mut [u8; 128],
 )
     requires { ⌜ (length (now kinds) ≡ 8) × (length (now names) ≡ 8) ⌝ }
-    ensures { λ _. ⌜ Runs run (now (first .entry)) (now (succ .entry)) (now (last .entry)) (stepConstraints (run .at) (now (kinds .entry)) (now (names .entry)) (of .supporting) (of .region .0) i)
+    ensures { λ _. ⌜ Runs run (now (first .entry)) (now (succ .entry)) (now (chain .entry)) (now (last .entry)) (stepConstraints (run .at) (now (kinds .entry)) (now (names .entry)) (of .supporting) (of .region .0) i)
         (now (words .entry)) (now (grew .entry)) (now (words .exit)) (now (grew .exit)) ⌝ }
 {
     if 8 <= i {
@@ -84,7 +85,7 @@ fn relate_step(
     let region = of.region;
     let left = Region::Free(RegionName(names[i]));
     let right = Region::Free(region);
-    relate::require_outlives(left, right, run, words, first, succ, last, grew);
+    relate::require_outlives(left, right, run, words, first, succ, chain, last, grew);
 }
 
 // The steps of a borrow's source.
@@ -96,16 +97,17 @@ fn relate_source(
     words: &mut [u32],
     first: &[u16; 1025],
     succ: &[u16; 1536],
+    chain: &[u32; 32],
     last: &[u8; 128],
     grew: &mut [u8; 128],
 )
     requires { ⌜ (length (now kinds) ≡ 8) × (length (now names) ≡ 8) ⌝ }
-    ensures { λ _. ⌜ Runs run (now (first .entry)) (now (succ .entry)) (now (last .entry)) (sourceConstraints (run .at) (now (kinds .entry)) (now (names .entry)) (of .supporting) (of .region .0) (of .steps))
+    ensures { λ _. ⌜ Runs run (now (first .entry)) (now (succ .entry)) (now (chain .entry)) (now (last .entry)) (sourceConstraints (run .at) (now (kinds .entry)) (now (names .entry)) (of .supporting) (of .region .0) (of .steps))
         (now (words .entry)) (now (grew .entry)) (now (words .exit)) (now (grew .exit)) ⌝ }
 {
     let mut i = 0;
     while i < of.steps {
-        relate_step(of, kinds, names, i, run, words, first, succ, last, grew);
+        relate_step(of, kinds, names, i, run, words, first, succ, chain, last, grew);
         i += 1;
     }
 }
@@ -160,11 +162,12 @@ fn borrow(
     words: &mut [u32],
     first: &[u16; 1025],
     succ: &[u16; 1536],
+    chain: &[u32; 32],
     last: &[u8; 128],
     grew: &mut [u8; 128],
 )
     requires { ⌜ length (now layout) ≡ 1280 ⌝ }
-    ensures { λ _. ⌜ Borrows (now (s .entry)) (now (layout .entry)) run (now (first .entry)) (now (succ .entry)) (now (last .entry)) dest (region .0) source
+    ensures { λ _. ⌜ Borrows (now (s .entry)) (now (layout .entry)) run (now (first .entry)) (now (succ .entry)) (now (chain .entry)) (now (last .entry)) dest (region .0) source
         (now (words .entry)) (now (grew .entry)) (now (words .exit)) (now (grew .exit)) ⌝ }
 {
     let head = run.head;
@@ -198,11 +201,12 @@ fn borrow(
         words,
         first,
         succ,
+        chain,
         last,
         grew,
     );
     let of = source_of(s, source, region, &kinds);
-    relate_source(of, &kinds, &names, run, words, first, succ, last, grew);
+    relate_source(of, &kinds, &names, run, words, first, succ, chain, last, grew);
 }
 
 // An assignment's constraints, at the point of the run.
@@ -215,11 +219,12 @@ fn assign(
     words: &mut [u32],
     first: &[u16; 1025],
     succ: &[u16; 1536],
+    chain: &[u32; 32],
     last: &[u8; 128],
     grew: &mut [u8; 128],
 )
     requires { ⌜ length (now layout) ≡ 1280 ⌝ }
-    ensures { λ _. ⌜ Assigns (now (s .entry)) (now (layout .entry)) run (now (first .entry)) (now (succ .entry)) (now (last .entry)) dest source
+    ensures { λ _. ⌜ Assigns (now (s .entry)) (now (layout .entry)) run (now (first .entry)) (now (succ .entry)) (now (chain .entry)) (now (last .entry)) dest source
         (now (words .entry)) (now (grew .entry)) (now (words .exit)) (now (grew .exit)) ⌝ }
 {
     let head = run.head;
@@ -252,6 +257,7 @@ fn assign(
         words,
         first,
         succ,
+        chain,
         last,
         grew,
     );
@@ -265,11 +271,12 @@ pub fn constrain(
     words: &mut [u32],
     first: &[u16; 1025],
     succ: &[u16; 1536],
+    chain: &[u32; 32],
     last: &[u8; 128],
     grew: &mut [u8; 128],
 )
     requires { ⌜ length (now layout) ≡ 1280 ⌝ }
-    ensures { λ _. ⌜ Constrains (now (s .entry)) (now (layout .entry)) run (now (first .entry)) (now (succ .entry)) (now (last .entry))
+    ensures { λ _. ⌜ Constrains (now (s .entry)) (now (layout .entry)) run (now (first .entry)) (now (succ .entry)) (now (chain .entry)) (now (last .entry))
         (now (words .entry)) (now (grew .entry)) (now (words .exit)) (now (grew .exit)) ⌝ }
 {
     let p = run.at;
@@ -295,6 +302,7 @@ pub fn constrain(
             words,
             first,
             succ,
+            chain,
             last,
             grew,
         ),
@@ -307,13 +315,14 @@ pub fn constrain(
             words,
             first,
             succ,
+            chain,
             last,
             grew,
         ),
         Action::Constraint { sup, sub } => {
             let left = Region::Free(sup);
             let right = Region::Free(sub);
-            relate::require_outlives(left, right, run, words, first, succ, last, grew)
+            relate::require_outlives(left, right, run, words, first, succ, chain, last, grew)
         }
         _ => {}
     }

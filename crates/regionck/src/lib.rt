@@ -54,6 +54,7 @@ fn solve(
     head: Head,
     first: &[u16; 1025],
     succ: &[u16; 1536],
+    chain: &[u32; 32],
     walked: &[u32; 32],
     shape: Shape,
     rule: EndRule,
@@ -62,7 +63,7 @@ fn solve(
 )
     requires { ⌜ (length (now layout) ≡ 1280) × (length (now grown) ≡ 128) ⌝ }
     ensures { λ _. ⌜ (length (now (grown .exit)) ≡ 128) × ((j : Job) → Seeded (now (s .entry)) (now (layout .entry)) head (now (first .entry)) (now (succ .entry)) (now (walked .entry)) shape (now (words .entry)) j
-        → Chained (shape .chain) (now (first .entry)) (now (succ .entry)) → Solved (ruleOf rule) j (now (words .entry)) (now (words .exit)) (now (grown .exit))) ⌝ }
+        → Chained (now (chain .entry)) (now (first .entry)) (now (succ .entry)) → Solved (ruleOf rule) j (now (words .entry)) (now (words .exit)) (now (grown .exit))) ⌝ }
 {
     clear(grown);
     let mut last = [1; 128];
@@ -78,6 +79,7 @@ fn solve(
             words,
             first,
             succ,
+            chain,
             &last,
         );
         if !infer::any_marked(&grew) {
@@ -106,22 +108,16 @@ pub fn regionck(
     ensures { λ _. ⌜ (length (now (grown .exit)) ≡ 128) × ((j : Job) → Seeded (now (s .entry)) (now (layout .entry)) head (now (first .entry)) (now (succ .entry)) (now (walked .entry)) shape (now (words .entry)) j
         → Solved (ruleOf rule) j (now (words .entry)) (now (words .exit)) (now (grown .exit))) ⌝ }
 {
-    let code = shape.code;
-    let chain = infer::chains(first, succ, code);
-    let run = Shape {
-        width: shape.width,
-        code,
-        points: shape.points,
-        chain,
-    };
+    let chain = infer::chains(first, succ, shape.code);
     solve(
         s,
         layout,
         head,
         first,
         succ,
+        &chain,
         walked,
-        run,
+        shape,
         rule,
         words,
         grown,

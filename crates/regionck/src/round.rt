@@ -17,17 +17,18 @@ fn point(
     words: &mut [u32],
     first: &[u16; 1025],
     succ: &[u16; 1536],
+    chain: &[u32; 32],
     last: &[u8; 128],
     grew: &mut [u8; 128],
 )
     requires { ⌜ length (now layout) ≡ 1280 ⌝ }
-    ensures { λ _. ⌜ PointRuns (now (s .entry)) (now (layout .entry)) run (now (walked .entry)) (now (first .entry)) (now (succ .entry)) (now (last .entry))
+    ensures { λ _. ⌜ PointRuns (now (s .entry)) (now (layout .entry)) run (now (walked .entry)) (now (first .entry)) (now (succ .entry)) (now (chain .entry)) (now (last .entry))
         (now (words .entry)) (now (grew .entry)) (now (words .exit)) (now (grew .exit)) ⌝ }
 {
     if !bit_set::test(walked, 0, run.at) {
         return;
     }
-    constrain(s, layout, run, words, first, succ, last, grew);
+    constrain(s, layout, run, words, first, succ, chain, last, grew);
 }
 
 // Runs the constraints of each point of walked blocks, and returns the marks of the regions that grew.
@@ -41,10 +42,11 @@ pub fn round(
     words: &mut [u32],
     first: &[u16; 1025],
     succ: &[u16; 1536],
+    chain: &[u32; 32],
     last: &[u8; 128],
 ) -> [u8; 128]
     requires { ⌜ length (now layout) ≡ 1280 ⌝ }
-    ensures { λ r. ⌜ RoundRuns (now (s .entry)) (now (layout .entry)) head (now (walked .entry)) shape rule (now (first .entry)) (now (succ .entry))
+    ensures { λ r. ⌜ RoundRuns (now (s .entry)) (now (layout .entry)) head (now (walked .entry)) shape rule (now (first .entry)) (now (succ .entry)) (now (chain .entry))
         (now (last .entry)) (now (words .entry)) (now (words .exit)) r ⌝ }
 {
     let code = shape.code;
@@ -57,7 +59,7 @@ pub fn round(
             shape,
             rule,
         };
-        point(s, layout, run, walked, words, first, succ, last, &mut grew);
+        point(s, layout, run, walked, words, first, succ, chain, last, &mut grew);
         p += 1;
     }
     grew

@@ -21,8 +21,8 @@ use Rattle.relate.specs.declared.Both.{Both}
 use Rattle.relate.specs.declared.Both.the-variants as both
 
 -- The constraints cs are run, in every setting that is given and has their names.
-pub record Runs (run : Run) (first succ last : List ℕ) (cs : List Outlives) (ws grew ws′ grew′ : List ℕ) : Type 0 where
-  pub ran : (e : Setting) → Given e (run .shape) (run .rule) first succ ws grew → AllNamed e cs → Ran e last cs ws grew ws′ grew′
+pub record Runs (run : Run) (first succ chain last : List ℕ) (cs : List Outlives) (ws grew ws′ grew′ : List ℕ) : Type 0 where
+  pub ran : (e : Setting) → Given e (run .shape) (run .rule) first succ chain ws grew → AllNamed e cs → Ran e last cs ws grew ws′ grew′
 
 -- ---- Two types, or two rows of arguments, of one shape
 
@@ -77,24 +77,24 @@ abbrev pub Others : List ℕ → ℕ → List ℕ → ℕ → ℕ → Args → A
 Others a m b n left g h p q (both.Ended l c d) = OthersAt a (record { from = c; count = m - 1 }) b (record { from = d; count = n - 1 }) left l g h p q
 Others a m b n left g h p q both.Stopped = ⊥
 
-module _ (s t : List ℕ) (run : Run) (first succ last : List ℕ) where
+module _ (s t : List ℕ) (run : Run) (first succ chain last : List ℕ) where
   pub record TypesRelate (a : List ℕ) (x : ℕ) (b : List ℕ) (y left : ℕ) (v : Variance) (ws grew ws′ grew′ : List ℕ) (r : Both) : Type 0 where
     pub runs : (j : Job) → Layout s t (run .head) j → (m n : Ty) (p q : List ℕ) → Types a x b y left m n p q
-        → Runs run first succ last (relate (run .at) (j .structs) m v n) ws grew ws′ grew′
+        → Runs run first succ chain last (relate (run .at) (j .structs) m v n) ws grew ws′ grew′
     pub ends : (m n : Ty) (p q : List ℕ) → Types a x b y left m n p q → Ends a b (left - typeNodes m) p q r
     pub fewer : Fewer left r
 
   -- The first arguments, under their own variance.
   pub record FirstRelates (a : List ℕ) (x : Row) (b : List ℕ) (y : Row) (left : ℕ) (v : Variance) (ws grew ws′ grew′ : List ℕ) (r : Both) : Type 0 where
     pub runs : (j : Job) → Layout s t (run .head) j → (g h : Args) (p q : List ℕ) → Arguments a x b y left g h p q
-        → Runs run first succ last (relateFirst (run .at) (j .structs) g v h) ws grew ws′ grew′
+        → Runs run first succ chain last (relateFirst (run .at) (j .structs) g v h) ws grew ws′ grew′
     pub ends : (g h : Args) (p q : List ℕ) → Arguments a x b y left g h p q → Others a (x .count) b (y .count) left g h p q r
     pub fewer : Fewer left r
 
   pub record ArgumentsRelate (params : Row) (a : List ℕ) (x : Row) (b : List ℕ) (y : Row) (left : ℕ) (v : Variance) (ws grew ws′ grew′ : List ℕ) (r : Both) : Type 0 where
     pub runs : (j : Job) → Layout s t (run .head) j → (ds : List Param) → Stands (items (params .count) param) ds (rest s (params .from))
         → (g h : Args) (p q : List ℕ) → Arguments a x b y left g h p q
-        → Runs run first succ last (relateArgs (run .at) (j .structs) g v ds h) ws grew ws′ grew′
+        → Runs run first succ chain last (relateArgs (run .at) (j .structs) g v ds h) ws grew ws′ grew′
     pub ends : (g h : Args) (p q : List ℕ) → Arguments a x b y left g h p q → Ends a b (left - argNodes g) p q r
     pub fewer : Fewer left r
 
@@ -103,10 +103,10 @@ module _ (s t : List ℕ) (run : Run) (first succ last : List ℕ) where
   -- The constraints of the two types that stand there are run, if the types have one shape.
   pub record Relates (a : List ℕ) (x : ℕ) (b : List ℕ) (y : ℕ) (v : Variance) (ws grew ws′ grew′ : List ℕ) : Type 0 where
     pub runs : (j : Job) → Layout s t (run .head) j → (m n : Ty) → TypeAt a x m → TypeAt b y n → typeNodes m ≤ maxNodes → typeNodes n ≤ maxNodes → T (sameShape m n)
-        → Runs run first succ last (relate (run .at) (j .structs) m v n) ws grew ws′ grew′
+        → Runs run first succ chain last (relate (run .at) (j .structs) m v n) ws grew ws′ grew′
 
 -- The same for a Ref of a region to the second.
-pub record RelatesRef (o : RegionName) (s t : List ℕ) (run : Run) (first succ last a : List ℕ) (x : ℕ) (b : List ℕ) (y : ℕ) (v : Variance) (ws grew ws′ grew′ : List ℕ) : Type 0 where
+pub record RelatesRef (o : RegionName) (s t : List ℕ) (run : Run) (first succ chain last a : List ℕ) (x : ℕ) (b : List ℕ) (y : ℕ) (v : Variance) (ws grew ws′ grew′ : List ℕ) : Type 0 where
   pub runs : (j : Job) → Layout s t (run .head) j → (m n : Ty) (k : BorrowKind) → TypeAt a x m → TypeAt b y n → typeNodes m ≤ maxNodes → typeNodes n ≤ maxNodes
       → T (sameShape m (RefTy k (Free o) n))
-      → Runs run first succ last (relate (run .at) (j .structs) m v (RefTy k (Free o) n)) ws grew ws′ grew′
+      → Runs run first succ chain last (relate (run .at) (j .structs) m v (RefTy k (Free o) n)) ws grew ws′ grew′

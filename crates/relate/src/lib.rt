@@ -65,10 +65,11 @@ pub fn require_outlives(
     words: &mut [u32],
     first: &[u16; 1025],
     succ: &[u16; 1536],
+    chain: &[u32; 32],
     last: &[u8; 128],
     grew: &mut [u8; 128],
 )
-    ensures { λ _. ⌜ Runs run (now (first .entry)) (now (succ .entry)) (now (last .entry)) (requireOutlives (run .at) (regionOf sup) (regionOf sub))
+    ensures { λ _. ⌜ Runs run (now (first .entry)) (now (succ .entry)) (now (chain .entry)) (now (last .entry)) (requireOutlives (run .at) (regionOf sup) (regionOf sub))
         (now (words .entry)) (now (grew .entry)) (now (words .exit)) (now (grew .exit)) ⌝ }
 {
     let Region::Free(m) = sup else {
@@ -83,6 +84,7 @@ pub fn require_outlives(
         words,
         first,
         succ,
+        chain,
         shape,
         rule,
         last,
@@ -102,18 +104,19 @@ fn relate_regions(
     words: &mut [u32],
     first: &[u16; 1025],
     succ: &[u16; 1536],
+    chain: &[u32; 32],
     last: &[u8; 128],
     grew: &mut [u8; 128],
 )
-    ensures { λ _. ⌜ Runs run (now (first .entry)) (now (succ .entry)) (now (last .entry)) (relateRegions (run .at) (varianceOf variance) (regionOf a) (regionOf b))
+    ensures { λ _. ⌜ Runs run (now (first .entry)) (now (succ .entry)) (now (chain .entry)) (now (last .entry)) (relateRegions (run .at) (varianceOf variance) (regionOf a) (regionOf b))
         (now (words .entry)) (now (grew .entry)) (now (words .exit)) (now (grew .exit)) ⌝ }
 {
     match variance {
-        Variance::Co => require_outlives(b, a, run, words, first, succ, last, grew),
-        Variance::Contra => require_outlives(a, b, run, words, first, succ, last, grew),
+        Variance::Co => require_outlives(b, a, run, words, first, succ, chain, last, grew),
+        Variance::Contra => require_outlives(a, b, run, words, first, succ, chain, last, grew),
         Variance::In => {
-            require_outlives(a, b, run, words, first, succ, last, grew);
-            require_outlives(b, a, run, words, first, succ, last, grew)
+            require_outlives(a, b, run, words, first, succ, chain, last, grew);
+            require_outlives(b, a, run, words, first, succ, chain, last, grew)
         }
     }
 }
@@ -143,11 +146,12 @@ fn relate_types(
     words: &mut [u32],
     first: &[u16; 1025],
     succ: &[u16; 1536],
+    chain: &[u32; 32],
     last: &[u8; 128],
     grew: &mut [u8; 128],
 ) -> Both
     requires { ⌜ length (now layout) ≡ 1280 ⌝ }
-    ensures { λ r. ⌜ TypesRelate (now (s .entry)) (now (layout .entry)) run (now (first .entry)) (now (succ .entry)) (now (last .entry))
+    ensures { λ r. ⌜ TypesRelate (now (s .entry)) (now (layout .entry)) run (now (first .entry)) (now (succ .entry)) (now (chain .entry)) (now (last .entry))
         (now (a .entry)) (two .a .at) (now (b .entry)) (two .b .at) (two .left) (varianceOf v)
         (now (words .entry)) (now (grew .entry)) (now (words .exit)) (now (grew .exit)) r ⌝ }
 {
@@ -167,10 +171,10 @@ fn relate_types(
             o,
             b: q,
         } => {
-            relate_regions(invert(v), r, o, run, words, first, succ, last, grew);
+            relate_regions(invert(v), r, o, run, words, first, succ, chain, last, grew);
             let w = within(v, referent_variance(kind));
             let to = Types { a: p, b: q, left };
-            relate_types(s, layout, a, b, to, w, run, words, first, succ, last, grew)
+            relate_types(s, layout, a, b, to, w, run, words, first, succ, chain, last, grew)
         }
         Heads::Structs { name, a: g, b: h } => {
             let head = run.head;
@@ -181,7 +185,7 @@ fn relate_types(
                 b: h,
                 left,
             };
-            relate_arguments(s, layout, a, b, of, v, run, words, first, succ, last, grew)
+            relate_arguments(s, layout, a, b, of, v, run, words, first, succ, chain, last, grew)
         }
     }
 }
@@ -198,11 +202,12 @@ fn relate_first(
     words: &mut [u32],
     first: &[u16; 1025],
     succ: &[u16; 1536],
+    chain: &[u32; 32],
     last: &[u8; 128],
     grew: &mut [u8; 128],
 ) -> Both
     requires { ⌜ (length (now layout) ≡ 1280) × (two .a .count ≡ 0 → ⊥) ⌝ }
-    ensures { λ r. ⌜ FirstRelates (now (s .entry)) (now (layout .entry)) run (now (first .entry)) (now (succ .entry)) (now (last .entry))
+    ensures { λ r. ⌜ FirstRelates (now (s .entry)) (now (layout .entry)) run (now (first .entry)) (now (succ .entry)) (now (chain .entry)) (now (last .entry))
         (now (a .entry)) (two .a) (now (b .entry)) (two .b) (two .left) (varianceOf v)
         (now (words .entry)) (now (grew .entry)) (now (words .exit)) (now (grew .exit)) r ⌝ }
 {
@@ -213,7 +218,7 @@ fn relate_first(
     match first_pair(a, x, b, h) {
         Pair::Differ => Both::Stopped,
         Pair::Regions { r, a: p, o, b: q } => {
-            relate_regions(v, r, o, run, words, first, succ, last, grew);
+            relate_regions(v, r, o, run, words, first, succ, chain, last, grew);
             Both::Ended { left, a: p, b: q }
         }
         Pair::Units(p, q) => {
@@ -228,7 +233,7 @@ fn relate_first(
         }
         Pair::Types(p, q) => {
             let to = Types { a: p, b: q, left };
-            relate_types(s, layout, a, b, to, v, run, words, first, succ, last, grew)
+            relate_types(s, layout, a, b, to, v, run, words, first, succ, chain, last, grew)
         }
     }
 }
@@ -245,11 +250,12 @@ fn relate_arguments(
     words: &mut [u32],
     first: &[u16; 1025],
     succ: &[u16; 1536],
+    chain: &[u32; 32],
     last: &[u8; 128],
     grew: &mut [u8; 128],
 ) -> Both
     requires { ⌜ length (now layout) ≡ 1280 ⌝ }
-    ensures { λ r. ⌜ ArgumentsRelate (now (s .entry)) (now (layout .entry)) run (now (first .entry)) (now (succ .entry)) (now (last .entry))
+    ensures { λ r. ⌜ ArgumentsRelate (now (s .entry)) (now (layout .entry)) run (now (first .entry)) (now (succ .entry)) (now (chain .entry)) (now (last .entry))
         (two .params) (now (a .entry)) (two .a) (now (b .entry)) (two .b) (two .left) (varianceOf v)
         (now (words .entry)) (now (grew .entry)) (now (words .exit)) (now (grew .exit)) r ⌝ }
 {
@@ -271,7 +277,7 @@ fn relate_arguments(
     let own = first_parameter(s, params);
     let declared = own.variance;
     let w = within(v, declared);
-    match relate_first(s, layout, a, b, two, w, run, words, first, succ, last, grew) {
+    match relate_first(s, layout, a, b, two, w, run, words, first, succ, chain, last, grew) {
         Both::Stopped => Both::Stopped,
         Both::Ended { left, a: p, b: q } => {
             let others = own.others;
@@ -281,7 +287,7 @@ fn relate_arguments(
                 b: after(h, q),
                 left,
             };
-            relate_arguments(s, layout, a, b, to, v, run, words, first, succ, last, grew)
+            relate_arguments(s, layout, a, b, to, v, run, words, first, succ, chain, last, grew)
         }
     }
 }
@@ -299,11 +305,12 @@ pub fn relate(
     words: &mut [u32],
     first: &[u16; 1025],
     succ: &[u16; 1536],
+    chain: &[u32; 32],
     last: &[u8; 128],
     grew: &mut [u8; 128],
 )
     requires { ⌜ length (now layout) ≡ 1280 ⌝ }
-    ensures { λ _. ⌜ Relates (now (s .entry)) (now (layout .entry)) run (now (first .entry)) (now (succ .entry)) (now (last .entry))
+    ensures { λ _. ⌜ Relates (now (s .entry)) (now (layout .entry)) run (now (first .entry)) (now (succ .entry)) (now (chain .entry)) (now (last .entry))
         (now (a .entry)) (x .at) (now (b .entry)) (y .at) (varianceOf variance)
         (now (words .entry)) (now (grew .entry)) (now (words .exit)) (now (grew .exit)) ⌝ }
 {
@@ -323,6 +330,7 @@ pub fn relate(
         words,
         first,
         succ,
+        chain,
         last,
         grew,
     );
@@ -342,11 +350,12 @@ pub fn relate_ref(
     words: &mut [u32],
     first: &[u16; 1025],
     succ: &[u16; 1536],
+    chain: &[u32; 32],
     last: &[u8; 128],
     grew: &mut [u8; 128],
 )
     requires { ⌜ length (now layout) ≡ 1280 ⌝ }
-    ensures { λ _. ⌜ RelatesRef (region .0) (now (s .entry)) (now (layout .entry)) run (now (first .entry)) (now (succ .entry)) (now (last .entry))
+    ensures { λ _. ⌜ RelatesRef (region .0) (now (s .entry)) (now (layout .entry)) run (now (first .entry)) (now (succ .entry)) (now (chain .entry)) (now (last .entry))
         (now (a .entry)) (x .at) (now (b .entry)) (y .at) (varianceOf variance)
         (now (words .entry)) (now (grew .entry)) (now (words .exit)) (now (grew .exit)) ⌝ }
 {
@@ -366,6 +375,7 @@ pub fn relate_ref(
         words,
         first,
         succ,
+        chain,
         last,
         grew,
     );
@@ -382,6 +392,7 @@ pub fn relate_ref(
         words,
         first,
         succ,
+        chain,
         last,
         grew,
     );

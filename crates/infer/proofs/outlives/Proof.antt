@@ -5,7 +5,7 @@ use mathlib.Core.Path.{sym, _∙_}
 use mathlib.Core.Bool.{true, false, true≢false}
 use native.Mathlib.Omega.{arith}
 use Rattle.infer.specs.Ran.{constraint}
-use Rattle.infer.proofs.OneLaws.{Bounds, bounds-in, start-fits, given-bounds, quiet-tests, absent-test, here-test, spread-got, ran-quiet, ran-absent, ran-nothing, ran-still, ran-grew}
+use Rattle.infer.proofs.OneLaws.{Bounds, bounds-in, start-fits, given-bounds, quiet-tests, absent-test, here-test, spread-got, ran-quiet, ran-absent, ran-covered, ran-nothing, ran-still, ran-grew}
 use borrow.Author.Needs.{needs}
 use Rattle.infer.proofs.outlives.Statement.{statement}
 use Rattle.infer.proofs.outlives.Tie as tie
@@ -22,7 +22,7 @@ in-bounds-requires c κs = search needs
 returns : tie.Need-returns
 returns c = λ s given names.
     let a = c .before .before .before .before .before .args in
-    absurd (true≢false (sym (given-bounds s (a .shape) (a .rule) (a .first .now) (a .succ .now) (a .words .now) (a .grew .now) given _ names (c .before .before .before .wide8 .result) (c .before .before .wide82 .result) (c .before .before .before .wide8 .ensures) (c .before .before .wide82 .ensures)) ∙ sym (c .before .in-bounds .ensures) ∙ not-true _ (c .if1 .taken)))
+    absurd (true≢false (sym (given-bounds s (a .shape) (a .rule) (a .first .now) (a .succ .now) (a .chain .now) (a .words .now) (a .grew .now) given _ names (c .before .before .before .wide8 .result) (c .before .before .wide82 .result) (c .before .before .before .wide8 .ensures) (c .before .before .wide82 .ensures)) ∙ sym (c .before .in-bounds .ensures) ∙ not-true _ (c .if1 .taken)))
 
 -- the bounds that were tested
 bounded : (c : tie.Else1)
@@ -60,8 +60,8 @@ returns-3 c = λ s given names.
 mul-to : tie.Need-mul-to
 mul-to c = let a = c .before .before .before .before .before .before .before .before .before .before .before .before .before .args in omega (arith, start-fits (a .shape .width) (a .shape .code) (a .shape .points) (c .before .before .before .before .before .before .before .before .before .before .before .wide8 .result) (c .before .before .before .before .before .before .before .before .before .before .wide82 .result) (a .point) (bounded (c .before .before .before .before .before .before .before .before)) .0)
 
-adds-nothing-requires : tie.Need-adds-nothing-requires
-adds-nothing-requires c κs = search needs
+stays-within-requires : tie.Need-stays-within-requires
+stays-within-requires c κs = bounded (c .before .before .before .before .before .before .before .before .before) .narrow
 
 same-length-2 : tie.Need-same-length-2
 same-length-2 c = search needs
@@ -71,43 +71,61 @@ returns-4 c = λ s given names.
     let a = c .before .before .before .before .before .before .before .before .before .before .before .before .before .before .before .before .args in
     let sup = c .before .before .before .before .before .before .before .before .before .before .before .before .before .before .wide8 in
     let sub = c .before .before .before .before .before .before .before .before .before .before .before .before .before .wide82 in
-    ran-nothing s (a .shape) (a .rule) (a .first .now) (a .succ .now) (a .words .now) (a .grew .now) given (constraint (a .sup .0) (a .sub .0) (a .point)) names (a .last .now) (sup .result) (sub .result) (sup .ensures) (sub .ensures)
-    (sym (c .before .adds-nothing .ensures) ∙ c .if4 .taken)
+    ran-covered s (a .shape) (a .rule) (a .first .now) (a .succ .now) (a .chain .now) (a .words .now) (a .grew .now) given (constraint (a .sup .0) (a .sub .0) (a .point)) names (a .last .now) (sup .result) (sub .result) (sup .ensures) (sub .ensures)
+    (c .before .stays-within .ensures (c .if4 .taken))
 
-spread-requires : tie.Need-spread-requires
-spread-requires c κs = let a = c .before .before .before .before .before .before .before .before .before .before .before .before .before .before .before .before .before .args in
-    let b = bounded (c .before .before .before .before .before .before .before .before .before .before .before .before) in
-    (b .ordered, b .few, here-test (a .words .now) (c .before .before .before .before .before .before .before .before .before .before .before .before .before .before .wide82 .result * a .shape .width) (a .shape .code) (a .point) (c .before .before .before .before .before .before .test .result) (b .point) (c .before .before .before .before .before .before .test .ensures) (not-false _ (c .before .before .before .before .before .if3 .left)))
-
-element-write-grew : tie.Need-element-write-grew
-element-write-grew c = bounded (c .before .before .before .before .before .before .before .before .before .before .before .before .before .before .before .before) .sup
+adds-nothing-requires : tie.Need-adds-nothing-requires
+adds-nothing-requires c κs = search needs
 
 same-length-3 : tie.Need-same-length-3
 same-length-3 c = search needs
 
 returns-5 : tie.Need-returns-5
 returns-5 c = λ s given names.
-    let a = c .before .before .before .before .before .before .before .before .before .before .before .before .before .before .before .before .before .before .before .before .before .args in
-    let ws = a .words .now in
-    let d = constraint (a .sup .0) (a .sub .0) (a .point) in
-    let x = c .before .before .before .spread in
-    rw (c .before .before .before .before .before .before .before .before .before .before .before .before .before .before .before .before .before .before .before .wide8 .ensures)
-    (ran-grew s (a .shape) (a .rule) (a .first .now) (a .succ .now) ws (a .grew .now) given d names (a .last .now) (x .last .0) (x .result)
-    (spread-got s (a .shape) (a .rule) (a .first .now) (a .succ .now) ws (a .grew .now) given d names (c .before .before .before .before .before .before .before .before .before .before .before .before .before .before .before .before .before .before .before .wide8 .result) (c .before .before .before .before .before .before .before .before .before .before .before .before .before .before .before .before .before .before .wide82 .result) (c .before .before .before .before .before .before .before .before .before .before .before .before .before .before .before .before .before .before .before .wide8 .ensures) (c .before .before .before .before .before .before .before .before .before .before .before .before .before .before .before .before .before .before .wide82 .ensures) (x .last .0) (x .result) (x .ensures (given .chain)))
-    (c .if5 .taken))
+    let a = c .before .before .before .before .before .before .before .before .before .before .before .before .before .before .before .before .before .before .before .args in
+    let sup = c .before .before .before .before .before .before .before .before .before .before .before .before .before .before .before .before .before .wide8 in
+    let sub = c .before .before .before .before .before .before .before .before .before .before .before .before .before .before .before .before .wide82 in
+    ran-nothing s (a .shape) (a .rule) (a .first .now) (a .succ .now) (a .chain .now) (a .words .now) (a .grew .now) given (constraint (a .sup .0) (a .sub .0) (a .point)) names (a .last .now) (sup .result) (sub .result) (sup .ensures) (sub .ensures)
+    (sym (c .before .adds-nothing .ensures) ∙ c .if5 .taken)
+
+spread-requires : tie.Need-spread-requires
+spread-requires c κs = let a = c .before .before .before .before .before .before .before .before .before .before .before .before .before .before .before .before .before .before .before .before .args in
+    let b = bounded (c .before .before .before .before .before .before .before .before .before .before .before .before .before .before .before) in
+    (b .ordered, b .few, here-test (a .words .now) (c .before .before .before .before .before .before .before .before .before .before .before .before .before .before .before .before .before .wide82 .result * a .shape .width) (a .shape .code) (a .point) (c .before .before .before .before .before .before .before .before .before .test .result) (b .point) (c .before .before .before .before .before .before .before .before .before .test .ensures) (not-false _ (c .before .before .before .before .before .before .before .before .if3 .left)))
+
+element-write-grew : tie.Need-element-write-grew
+element-write-grew c = bounded (c .before .before .before .before .before .before .before .before .before .before .before .before .before .before .before .before .before .before .before) .sup
 
 same-length-4 : tie.Need-same-length-4
 same-length-4 c = search needs
 
 returns-6 : tie.Need-returns-6
 returns-6 c = λ s given names.
-    let a = c .before .before .before .before .before .before .before .before .before .before .before .before .before .before .before .before .before .before .before .before .before .args in
+    let a = c .before .before .before .before .before .before .before .before .before .before .before .before .before .before .before .before .before .before .before .before .before .before .before .before .args in
     let ws = a .words .now in
     let d = constraint (a .sup .0) (a .sub .0) (a .point) in
     let x = c .before .before .before .spread in
-    ran-still s (a .shape) (a .rule) (a .first .now) (a .succ .now) ws (a .grew .now) given d names (a .last .now) (x .last .0) (x .result)
-    (spread-got s (a .shape) (a .rule) (a .first .now) (a .succ .now) ws (a .grew .now) given d names (c .before .before .before .before .before .before .before .before .before .before .before .before .before .before .before .before .before .before .before .wide8 .result) (c .before .before .before .before .before .before .before .before .before .before .before .before .before .before .before .before .before .before .wide82 .result) (c .before .before .before .before .before .before .before .before .before .before .before .before .before .before .before .before .before .before .before .wide8 .ensures) (c .before .before .before .before .before .before .before .before .before .before .before .before .before .before .before .before .before .before .wide82 .ensures) (x .last .0) (x .result) (x .ensures (given .chain)))
-    (c .if5 .left)
+    let sup = c .before .before .before .before .before .before .before .before .before .before .before .before .before .before .before .before .before .before .before .before .before .before .wide8 in
+    let sub = c .before .before .before .before .before .before .before .before .before .before .before .before .before .before .before .before .before .before .before .before .before .wide82 in
+    rw (sup .ensures)
+    (ran-grew s (a .shape) (a .rule) (a .first .now) (a .succ .now) (a .chain .now) ws (a .grew .now) given d names (a .last .now) (x .last .0) (x .result)
+    (spread-got s (a .shape) (a .rule) (a .first .now) (a .succ .now) (a .chain .now) ws (a .grew .now) given d names (sup .result) (sub .result) (sup .ensures) (sub .ensures) (x .last .0) (x .result) (x .ensures (given .linked)))
+    (c .if6 .taken))
+
+same-length-5 : tie.Need-same-length-5
+same-length-5 c = search needs
+
+returns-7 : tie.Need-returns-7
+returns-7 c = λ s given names.
+    let a = c .before .before .before .before .before .before .before .before .before .before .before .before .before .before .before .before .before .before .before .before .before .before .before .before .args in
+    let ws = a .words .now in
+    let d = constraint (a .sup .0) (a .sub .0) (a .point) in
+    let x = c .before .before .before .spread in
+    let sup = c .before .before .before .before .before .before .before .before .before .before .before .before .before .before .before .before .before .before .before .before .before .before .wide8 in
+    let sub = c .before .before .before .before .before .before .before .before .before .before .before .before .before .before .before .before .before .before .before .before .before .wide82 in
+    ran-still s (a .shape) (a .rule) (a .first .now) (a .succ .now) (a .chain .now) ws (a .grew .now) given d names (a .last .now) (x .last .0) (x .result)
+    (spread-got s (a .shape) (a .rule) (a .first .now) (a .succ .now) (a .chain .now) ws (a .grew .now) given d names (sup .result) (sub .result) (sup .ensures) (sub .ensures) (x .last .0) (x .result) (x .ensures (given .linked)))
+    (c .if6 .left)
 
 pub outlives-spec : {M : Type 1} → statement M
 outlives-spec =
@@ -125,12 +143,15 @@ outlives-spec =
     same-length
     returns-3
     mul-to
-    adds-nothing-requires
+    stays-within-requires
     same-length-2
     returns-4
-    spread-requires
-    element-write-grew
+    adds-nothing-requires
     same-length-3
     returns-5
+    spread-requires
+    element-write-grew
     same-length-4
-    returns-6)
+    returns-6
+    same-length-5
+    returns-7)

@@ -23,7 +23,7 @@ same-length : tie.Need-same-length
 same-length c = search needs
 
 returns : tie.Need-returns
-returns c = let st = c .before .before .before .before .before .before .before .before .before .before .before .before in
+returns c = let st = c .before .before .before .before .before .before .before .before .before .before in
     let a = st .args in
     let first = a .first .now in
     let succ = a .succ .now in

@@ -10,18 +10,18 @@ use Rattle.regionck.proofs.solve.Statement.{statement}
 use Rattle.regionck.proofs.solve.Tie as tie
 
 abbrev Inv-loop : tie.InvT-loop
-Inv-loop s layout head first succ walked shape rule words₀ grown₀ last₀ left₀ words grown last left =
-    (length words ≡ length words₀) × (length grown ≡ 128) × GoingOn s layout head first succ walked shape rule words₀ words last grown left
+Inv-loop s layout head first succ chain walked shape rule words₀ grown₀ last₀ left₀ words grown last left =
+    (length words ≡ length words₀) × (length grown ≡ 128) × GoingOn s layout head first succ chain walked shape rule words₀ words last grown left
 
 abbrev μ-loop : tie.MeasureT-loop
-μ-loop s layout head first succ walked shape rule words₀ grown₀ last₀ left₀ words grown last left = left
+μ-loop s layout head first succ chain walked shape rule words₀ grown₀ last₀ left₀ words grown last left = left
 
 clear-requires : tie.Need-clear-requires Inv-loop μ-loop
 clear-requires c κs = search needs
 
 loop-holds : tie.Need-loop-holds Inv-loop μ-loop
 loop-holds c = let a = c .before .before .before .before .args in
-    (search needs, c .clear .ensures .sized, going-start (a .s .now) (a .layout .now) (a .head) (a .first .now) (a .succ .now) (a .walked .now) (a .shape) (a .rule) (a .words .now) (c .clear .ensures))
+    (search needs, c .clear .ensures .sized, going-start (a .s .now) (a .layout .now) (a .head) (a .first .now) (a .succ .now) (a .chain .now) (a .walked .now) (a .shape) (a .rule) (a .words .now) (c .clear .ensures))
 
 round-requires : tie.Need-round-requires Inv-loop μ-loop
 round-requires c κs = search needs
@@ -35,7 +35,7 @@ same-length c = search needs
 returns : tie.Need-returns Inv-loop μ-loop
 returns c = let a = c .before .before .before .before .before .before .before .before .before .before .before .before .before .before .args in
     let l = c .before .before .before .before .before .before .before .before .before .loop in
-    (l .inv .1, going-done (a .s .now) (a .layout .now) (a .head) (a .first .now) (a .succ .now) (a .walked .now) (a .shape) (a .rule) (a .words .now) (l .inv .2) (c .before .before .before .before .before .round .ensures) (sym (c .before .any-marked .ensures) ∙ not-true _ (c .if1 .taken)))
+    (l .inv .1, going-done (a .s .now) (a .layout .now) (a .head) (a .first .now) (a .succ .now) (a .chain .now) (a .walked .now) (a .shape) (a .rule) (a .words .now) (l .inv .2) (c .before .before .before .before .before .round .ensures) (sym (c .before .any-marked .ensures) ∙ not-true _ (c .if1 .taken)))
 
 note-requires : tie.Need-note-requires Inv-loop μ-loop
 note-requires c κs = search needs
@@ -49,7 +49,7 @@ loop-less c = search needs
 loop-again : tie.Need-loop-again Inv-loop μ-loop
 loop-again c = let a = c .before .before .before .before .before .before .before .before .before .before .before .before .before .before .before .before .before .args in
     let l = c .before .before .before .before .before .before .before .before .before .before .before .before .loop in
-    (search needs, c .note .ensures .sized, going-more (a .s .now) (a .layout .now) (a .head) (a .first .now) (a .succ .now) (a .walked .now) (a .shape) (a .rule) (a .words .now) (l .inv .2) (c .before .before .before .before .before .before .before .before .round .ensures) (sym (c .before .before .before .before .any-marked .ensures) ∙ not-false _ (c .before .before .before .if1 .left)) (c .note .ensures))
+    (search needs, c .note .ensures .sized, going-more (a .s .now) (a .layout .now) (a .head) (a .first .now) (a .succ .now) (a .chain .now) (a .walked .now) (a .shape) (a .rule) (a .words .now) (l .inv .2) (c .before .before .before .before .before .before .before .before .round .ensures) (sym (c .before .before .before .before .any-marked .ensures) ∙ not-false _ (c .before .before .before .if1 .left)) (c .note .ensures))
 
 same-length-2 : tie.Need-same-length-2 Inv-loop μ-loop
 same-length-2 c = search needs
@@ -57,7 +57,7 @@ same-length-2 c = search needs
 returns-2 : tie.Need-returns-2 Inv-loop μ-loop
 returns-2 c = let a = c .before .before .before .before .before .before .args in
     let l = c .before .loop in
-    (l .inv .1, going-out (a .s .now) (a .layout .now) (a .head) (a .first .now) (a .succ .now) (a .walked .now) (a .shape) (a .rule) (a .words .now) (omega arith) (l .inv .2))
+    (l .inv .1, going-out (a .s .now) (a .layout .now) (a .head) (a .first .now) (a .succ .now) (a .chain .now) (a .walked .now) (a .shape) (a .rule) (a .words .now) (omega arith) (l .inv .2))
 
 pub solve-spec : {M : Type 1} → statement M
 solve-spec =

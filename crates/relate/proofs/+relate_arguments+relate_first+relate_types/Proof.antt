@@ -28,53 +28,53 @@ use Rattle.repr.proofs.Cursor.type_node.Reads as type-node-reads
 use Rattle.relate.proofs.+relate_arguments+relate_first+relate_types.{statement}
 use Rattle.relate.proofs.+relate_arguments+relate_first+relate_types.Tie.{close}
 
-abbrev μ-relate-arguments : Measures 9 relate-arguments-kinds.ps ℕ
+abbrev μ-relate-arguments : Measures 10 relate-arguments-kinds.ps ℕ
 μ-relate-arguments κs a = 300 * a .1 .1 .1 .1 .0 .left + a .1 .1 .1 .1 .0 .a .count + 1
 
-abbrev μ-relate-first : Measures 9 relate-first-kinds.ps ℕ
+abbrev μ-relate-first : Measures 10 relate-first-kinds.ps ℕ
 μ-relate-first κs a = 300 * a .1 .1 .1 .1 .0 .left + 1
 
-abbrev μ-relate-types : Measures 9 relate-types-kinds.ps ℕ
+abbrev μ-relate-types : Measures 10 relate-types-kinds.ps ℕ
 μ-relate-types κs a = 300 * a .1 .1 .1 .1 .0 .left
 
-abbrev relate-arguments-at : ℕ → In 9 relate-arguments-kinds.ps
+abbrev relate-arguments-at : ℕ → In 10 relate-arguments-kinds.ps
 relate-arguments-at t =
     and
-    9
+    10
     relate-arguments-kinds.ps
-    (is 9 relate-arguments-kinds.ps μ-relate-arguments t)
+    (is 10 relate-arguments-kinds.ps μ-relate-arguments t)
     relate-arguments.Pre
 
-abbrev relate-arguments-below : ℕ → In 9 relate-arguments-kinds.ps
+abbrev relate-arguments-below : ℕ → In 10 relate-arguments-kinds.ps
 relate-arguments-below t =
     and
-    9
+    10
     relate-arguments-kinds.ps
-    (falls 9 relate-arguments-kinds.ps _<_ μ-relate-arguments t)
+    (falls 10 relate-arguments-kinds.ps _<_ μ-relate-arguments t)
     relate-arguments.Pre
 
-abbrev relate-first-at : ℕ → In 9 relate-first-kinds.ps
+abbrev relate-first-at : ℕ → In 10 relate-first-kinds.ps
 relate-first-at t =
-    and 9 relate-first-kinds.ps (is 9 relate-first-kinds.ps μ-relate-first t) relate-first.Pre
+    and 10 relate-first-kinds.ps (is 10 relate-first-kinds.ps μ-relate-first t) relate-first.Pre
 
-abbrev relate-first-below : ℕ → In 9 relate-first-kinds.ps
+abbrev relate-first-below : ℕ → In 10 relate-first-kinds.ps
 relate-first-below t =
     and
-    9
+    10
     relate-first-kinds.ps
-    (falls 9 relate-first-kinds.ps _<_ μ-relate-first t)
+    (falls 10 relate-first-kinds.ps _<_ μ-relate-first t)
     relate-first.Pre
 
-abbrev relate-types-at : ℕ → In 9 relate-types-kinds.ps
+abbrev relate-types-at : ℕ → In 10 relate-types-kinds.ps
 relate-types-at t =
-    and 9 relate-types-kinds.ps (is 9 relate-types-kinds.ps μ-relate-types t) relate-types.Pre
+    and 10 relate-types-kinds.ps (is 10 relate-types-kinds.ps μ-relate-types t) relate-types.Pre
 
-abbrev relate-types-below : ℕ → In 9 relate-types-kinds.ps
+abbrev relate-types-below : ℕ → In 10 relate-types-kinds.ps
 relate-types-below t =
     and
-    9
+    10
     relate-types-kinds.ps
-    (falls 9 relate-types-kinds.ps _<_ μ-relate-types t)
+    (falls 10 relate-types-kinds.ps _<_ μ-relate-types t)
     relate-types.Pre
 
 abbrev relate-arguments-calls : ℕ → relate-arguments-lts.Claims
@@ -157,8 +157,8 @@ relate-first-enum-known-p t c = search needs
 relate-first-returns : (t : ℕ) → relate-first-lts.Need-returns (relate-first-calls t) (relate-first-at t) relate-first.Post
 relate-first-returns t c = laws.first-spent (c .before .before .before .before .before .before .before .before .before .before .before .before .pre .1 .1) (c .before .before .before .before .first-pair .ensures) (c .before .before .p .given .1) (c .if1 .taken)
 
-relate-first-sub-t33 : (t : ℕ) → relate-first-lts.Need-sub-t33 (relate-first-calls t) (relate-first-at t) relate-first.Post
-relate-first-sub-t33 t c = search needs
+relate-first-sub-t34 : (t : ℕ) → relate-first-lts.Need-sub-t34 (relate-first-calls t) (relate-first-at t) relate-first.Post
+relate-first-sub-t34 t c = search needs
 
 relate-first-enum-known-p-2 : (t : ℕ) → relate-first-lts.Need-enum-known-p-2 (relate-first-calls t) (relate-first-at t) relate-first.Post
 relate-first-enum-known-p-2 t c = search needs
@@ -282,7 +282,7 @@ pub +relate-arguments+relate-first+relate-types-spec : {M : Type 1} → statemen
     (relate-first-relate-regions-requires t)
     (relate-first-enum-known-p t)
     (relate-first-returns t)
-    (relate-first-sub-t33 t)
+    (relate-first-sub-t34 t)
     (relate-first-enum-known-p-2 t)
     (relate-first-relate-types-requires t)
     (relate-first-returns-2 t)

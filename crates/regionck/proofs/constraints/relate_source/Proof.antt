@@ -11,11 +11,11 @@ use Rattle.regionck.proofs.constraints.relate_source.Statement.{stateme
 use Rattle.regionck.proofs.constraints.relate_source.Tie as tie
 
 abbrev Inv-loop : tie.InvT-loop
-Inv-loop of kinds names run words₀ first succ last grew₀ i₀ words grew i =
-    (i ≤ of .steps) × (length words ≡ length words₀) × Runs run first succ last (sourceConstraints (run .at) kinds names (of .supporting) (of .region .0) i) words₀ grew₀ words grew
+Inv-loop of kinds names run words₀ first succ chain last grew₀ i₀ words grew i =
+    (i ≤ of .steps) × (length words ≡ length words₀) × Runs run first succ chain last (sourceConstraints (run .at) kinds names (of .supporting) (of .region .0) i) words₀ grew₀ words grew
 
 abbrev μ-loop : tie.MeasureT-loop
-μ-loop of kinds names run words₀ first succ last grew₀ i₀ words grew i = of .steps - i
+μ-loop of kinds names run words₀ first succ chain last grew₀ i₀ words grew i = of .steps - i
 
 loop-holds : tie.Need-loop-holds Inv-loop μ-loop
 loop-holds c = let a = c .before .args in (search needs, search needs, source-none (a .kinds .now) (a .names .now) (a .of .supporting) (a .of .region .0))

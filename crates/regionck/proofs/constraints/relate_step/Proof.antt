@@ -19,8 +19,8 @@ add-if3 c = search needs
 returns-3 : tie.Need-returns-3
 returns-3 c = let a = c .before .before .before .before .before .args in step-short (a .kinds .now) (a .names .now) (a .of .supporting) (a .of .region .0) (a .i) (c .before .if2 .left) (c .if3 .taken)
 
-element-copy-out-t18 : tie.Need-element-copy-out-t18
-element-copy-out-t18 c = search needs
+element-copy-out-t19 : tie.Need-element-copy-out-t19
+element-copy-out-t19 c = search needs
 
 require-outlives-requires : tie.Need-require-outlives-requires
 require-outlives-requires c κs = search needs
@@ -41,7 +41,7 @@ relate-step-spec =
     returns-2
     add-if3
     returns-3
-    element-copy-out-t18
+    element-copy-out-t19
     require-outlives-requires
     same-length
     returns-4)

@@ -9,15 +9,15 @@ use Rattle.regionck.proofs.round.round.Statement.{statement}
 use Rattle.regionck.proofs.round.round.Tie as tie
 
 abbrev Inv-loop : tie.InvT-loop
-Inv-loop s layout head walked shape rule words₀ first succ last code grew₀ p₀ words grew p =
-    (p ≤ code) × (length words ≡ length words₀) × RunsBelow s layout head walked shape rule first succ last words₀ words grew p
+Inv-loop s layout head walked shape rule words₀ first succ chain last code grew₀ p₀ words grew p =
+    (p ≤ code) × (length words ≡ length words₀) × RunsBelow s layout head walked shape rule first succ chain last words₀ words grew p
 
 abbrev μ-loop : tie.MeasureT-loop
-μ-loop s layout head walked shape rule words₀ first succ last code grew₀ p₀ words grew p = code - p
+μ-loop s layout head walked shape rule words₀ first succ chain last code grew₀ p₀ words grew p = code - p
 
 loop-holds : tie.Need-loop-holds Inv-loop μ-loop
 loop-holds c = let a = c .before .before .args in
-    (search needs, search needs, below-none (a .s .now) (a .layout .now) (a .head) (a .walked .now) (a .shape) (a .rule) (a .first .now) (a .succ .now) (a .last .now) (a .words .now))
+    (search needs, search needs, below-none (a .s .now) (a .layout .now) (a .head) (a .walked .now) (a .shape) (a .rule) (a .first .now) (a .succ .now) (a .chain .now) (a .last .now) (a .words .now))
 
 point-requires : tie.Need-point-requires Inv-loop μ-loop
 point-requires c κs = search needs
@@ -31,7 +31,7 @@ loop-less c = search needs
 loop-again : tie.Need-loop-again Inv-loop μ-loop
 loop-again c = let a = c .before .before .before .before .before .before .before .before .before .args in
     let l = c .before .before .before .before .before .before .loop in
-    (omega arith, search needs, below-more (a .s .now) (a .layout .now) (a .head) (a .walked .now) (a .shape) (a .rule) (a .first .now) (a .succ .now) (a .last .now) (a .words .now) (l .p) (omega arith) (l .inv .2) (c .before .before .point .ensures))
+    (omega arith, search needs, below-more (a .s .now) (a .layout .now) (a .head) (a .walked .now) (a .shape) (a .rule) (a .first .now) (a .succ .now) (a .chain .now) (a .last .now) (a .words .now) (l .p) (omega arith) (l .inv .2) (c .before .before .point .ensures))
 
 same-length : tie.Need-same-length Inv-loop μ-loop
 same-length c = search needs
@@ -39,7 +39,7 @@ same-length c = search needs
 returns : tie.Need-returns Inv-loop μ-loop
 returns c = let a = c .before .before .before .before .args in
     let l = c .before .loop in
-    below-all (a .s .now) (a .layout .now) (a .head) (a .walked .now) (a .shape) (a .rule) (a .first .now) (a .succ .now) (a .last .now) (a .words .now) (l .p) (omega arith) (l .inv .2)
+    below-all (a .s .now) (a .layout .now) (a .head) (a .walked .now) (a .shape) (a .rule) (a .first .now) (a .succ .now) (a .chain .now) (a .last .now) (a .words .now) (l .p) (omega arith) (l .inv .2)
 
 pub round-spec : {M : Type 1} → statement M
 round-spec =
