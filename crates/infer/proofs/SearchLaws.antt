@@ -483,3 +483,16 @@ module _ (chain first succ : List ℕ) (h : ℕ → Bool) (p : ℕ) (small : (s 
       is-leaf : (x : ℕ) → Leaf first x → (c : Bool) → has chain x ≡ c → isLeaf chain first x ≡ true
       is-leaf x l true e = let w = ch .links x e .next in absurd (omega (arith, w .1, w .2, l, up-to-le (rowEnd first x)))
       is-leaf x l false e = rw (e, le-leb (rowEnd first x) (rowStart first x) l)
+
+  -- a walk that goes along the chain to its end reaches the points along it
+  pub straight : (ps : List ℕ) (e : ℕ) (t : Bool) → h p ≡ true → Along chain h (withBit (replicate 32 0) p) ps p e × Stopped chain h ps e → t ≡ has chain (wordBits * 0 + e) → t ≡ true
+      → Chained chain first succ → Reaches (Reach (Edge first succ) h p) first ps false
+  straight ps e t hp w et y ch =
+      let c : has chain e ≡ true = sym (at-zero chain e) ∙ sym et ∙ y in
+      let zeros : List ℕ = replicate 1024 0 in
+      let st : State = pushed p (state zeros zeros 0) in
+      let eq : p ≡ getD (st .stack) 0 0 = sym (getD-set-same zeros 0 p 0 (rw length-replicate (omega arith))) in
+      let es : state (st .seen) (st .stack) 0 ≡ left chain h first succ e (state (st .seen) (st .stack) 0) = rw c in
+      let ex : false ≡ isLeaf chain first e = rw c in
+      let turn = turn-code (replicate 32 0) ps false st (state (st .seen) (st .stack) 0) p e false (going-start hp) (omega arith) eq w ex es in
+      finish ps false (state (st .seen) (st .stack) 0) (turn .going) refl ch

@@ -229,8 +229,8 @@ fn is_leaf(chain: &[u32; 32], first: &[u16; 1025], q: usize) -> bool
     !bit_set::test(chain, 0, q) & (first[q + 1] <= first[q])
 }
 
-// The points that a walk from p through the set from word from reaches.
-fn reach(
+// The points that a walk from p through the set from word from reaches, by a search with marks and a stack.
+fn search(
     chain: &[u32; 32],
     first: &[u16; 1025],
     succ: &[u16; 1536],
@@ -269,6 +269,31 @@ fn reach(
         );
     }
     Reached { points, exit }
+}
+
+// The same. A walk that goes along the chain to its end needs no search.
+fn reach(
+    chain: &[u32; 32],
+    first: &[u16; 1025],
+    succ: &[u16; 1536],
+    words: &[u32],
+    from: usize,
+    code: usize,
+    p: usize,
+) -> Reached
+    requires { ⌜ (code ≤ 1024) × (inCode (now words) from code p ≡ true) ⌝ }
+    ensures { λ r. ⌜ (Chained (now (chain .entry)) (now (first .entry)) (now (succ .entry))
+        → Reaches (Reach (Edge (now (first .entry)) (now (succ .entry))) (inCode (now (words .entry)) from code) p) (now (first .entry)) (r .points) (r .exit)) ⌝ }
+{
+    let mut points = [0; 32];
+    let end = follow(chain, words, from, code, &mut points, p);
+    if bit_set::test(chain, 0, end) {
+        return Reached {
+            points,
+            exit: false,
+        };
+    }
+    search(chain, first, succ, words, from, code, p)
 }
 
 // Whether the end rule passes on an end that the inner region holds or not.
