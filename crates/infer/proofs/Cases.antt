@@ -13,7 +13,7 @@ use Rattle.nll_spec.proofs.Tests.{contains-one}
 use Rattle.graph.specs.Tables.{rowStart, rowEnd, Edges}
 use Rattle.infer.specs.Ran.{Setting, Given, Names, constraint}
 use Rattle.infer.specs.declared.EndRule.the-variants.{EveryEnd}
-use Rattle.infer.proofs.ChainLaws.{chained-none}
+use Rattle.dfs.proofs.ChainLaws.{chained-none}
 
 abbrev line : Graph
 line =

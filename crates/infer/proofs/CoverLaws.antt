@@ -17,9 +17,10 @@ use Rattle.bit_set.specs.Bits.{has, bothFit, orWord}
 use Rattle.bit_set.proofs.BitLaws.{digit, digit-lt, digit-or, place}
 use Rattle.bit_set.proofs.RunLaws.{and-true-left, and-true-right, both-into, both-from}
 use Rattle.graph.specs.Tables.{Edge, rowEnd}
-use Rattle.infer.proofs.ChainLaws.{up-to-le}
-use Rattle.infer.specs.Search.{inCode, Chained, Reach, here, step, Leaf, Gets, isCovered, Covered}
-use Rattle.infer.proofs.SearchLaws.{reach-held}
+use Rattle.dfs.proofs.ChainLaws.{up-to-le}
+use Rattle.dfs.specs.Walk.{inCode, Chained, Reach, here, step, Leaf}
+use Rattle.infer.specs.Search.{Gets, isCovered, Covered}
+use Rattle.dfs.proofs.SearchLaws.{reach-held}
 
 -- ---- Words
 

@@ -12,9 +12,10 @@ use Rattle.nll_spec.specs.Output.{wordBits}
 use Rattle.bit_set.specs.Bits.{has, withBit}
 use Rattle.bit_set.proofs.BitLaws.{length-with, has-with, has-with-other}
 use Rattle.graph.specs.Tables.{Edge}
-use Rattle.infer.specs.Search.{inCode, Reach, Reaches, passes, withRun, Gets}
-use Rattle.infer.proofs.ChainLaws.{with-kept}
-use Rattle.infer.proofs.SearchLaws.{reach-held, code-below}
+use Rattle.dfs.specs.Walk.{inCode, Reach, Reaches}
+use Rattle.infer.specs.Search.{passes, withRun, Gets}
+use Rattle.dfs.proofs.ChainLaws.{with-kept}
+use Rattle.dfs.proofs.SearchLaws.{reach-held, code-below}
 
 module _ (f : ℕ → Bool) (ps : List ℕ) (a : ℕ) where
   -- what one number more does, where it is put and where it is not

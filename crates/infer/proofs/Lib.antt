@@ -1,5 +1,3 @@
-pub mod ChainLaws
-pub mod SearchLaws
 pub mod EndLaws
 pub mod PutLaws
 pub mod TableLaws

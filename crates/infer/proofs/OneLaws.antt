@@ -22,7 +22,8 @@ use Rattle.nll_spec.proofs.MonotoneLaws.{looser-same}
 use Rattle.bit_set.specs.Bits.{has}
 use Rattle.graph.specs.Search.{Marked}
 use Rattle.graph.specs.Tables.{Edge}
-use Rattle.infer.specs.Search.{ruleOf, Gets, Spread, addsNothing, inBounds, inCode, Reach, Covered}
+use Rattle.dfs.specs.Walk.{inCode, Reach}
+use Rattle.infer.specs.Search.{ruleOf, Gets, Spread, addsNothing, inBounds, Covered}
 use Rattle.infer.specs.Ran.{Setting, bitAt, setsOf, Met, Within, AllReady, Ran, Given, Names}
 use Rattle.infer.specs.declared.EndRule as declared
 use Rattle.infer.specs.declared.Shape.{Shape}

@@ -13,7 +13,7 @@ use Rattle.bit_set.proofs.BitLaws.{Words}
 use Rattle.bit_set.proofs.RunLaws.{and-true-left, both-into, joined-no}
 use Rattle.bit_set.proofs.SetLaws.{length-joined, joined-fits, has-joined-other, has-joined, grows-not, grows-new}
 use Rattle.infer.specs.Search.{In, Below, Spread}
-use Rattle.infer.proofs.ChainLaws.{at-zero}
+use Rattle.dfs.proofs.ChainLaws.{at-zero}
 use Rattle.infer.proofs.EndLaws.{Holds}
 
 or-split : (a b : Bool) → (a || b) ≡ true → (a ≡ true) ⊎ (b ≡ true)

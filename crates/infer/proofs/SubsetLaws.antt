@@ -14,8 +14,9 @@ use Rattle.nll_spec.specs.Output.{wordBits}
 use Rattle.bit_set.specs.Bits.{has, fits, orWord, orGrows, bothFit}
 use Rattle.bit_set.proofs.RunLaws.{and-true-left, and-true-right, fits-sub, both-into, both-from, both-fit, joined-yes}
 use Rattle.bit_set.proofs.SetLaws.{new-grows}
-use Rattle.infer.specs.Search.{inCode, Gets, isSubset, hasRun, hasEnds, addsNothing}
-use Rattle.infer.proofs.SearchLaws.{reach-held, code-below}
+use Rattle.dfs.specs.Walk.{inCode}
+use Rattle.infer.specs.Search.{Gets, isSubset, hasRun, hasEnds, addsNothing}
+use Rattle.dfs.proofs.SearchLaws.{reach-held, code-below}
 
 -- ---- Words
 

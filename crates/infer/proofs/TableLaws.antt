@@ -15,9 +15,9 @@ use Rattle.nll_spec.proofs.Tests.{and-intro, and-left, and-right, is-true}
 use Rattle.bit_set.specs.Bits.{has}
 use Rattle.graph.specs.Tables.{Edges, Edge}
 use Rattle.graph.proofs.EntryLaws.{length-after, edge-next, next-edge}
-use Rattle.infer.specs.Search.{inCode, Reach, here, step, Leaf}
+use Rattle.dfs.specs.Walk.{inCode, Reach, here, step, Leaf}
 use Rattle.infer.specs.Ran.{Setting, setsOf, bitAt}
-use Rattle.infer.proofs.SearchLaws.{reach-held, code-below}
+use Rattle.dfs.proofs.SearchLaws.{reach-held, code-below}
 use Rattle.infer.proofs.RanLaws.{true-T, has-sets, sets-has}
 
 -- ---- Points that nothing follows

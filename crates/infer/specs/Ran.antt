@@ -16,7 +16,8 @@ use Rattle.nll_spec.specs.Meaning.{Sets, Meets}
 use Rattle.bit_set.specs.Bits.{has}
 use Rattle.graph.specs.Tables.{Edges}
 use Rattle.graph.specs.Search.{Marked, isMarked}
-use Rattle.infer.specs.Search.{ruleOf, Chained}
+use Rattle.dfs.specs.Walk.{Chained}
+use Rattle.infer.specs.Search.{ruleOf}
 use Rattle.infer.specs.declared.EndRule as declared
 use Rattle.infer.specs.declared.Shape.{Shape}
 

@@ -35,7 +35,7 @@ use Rattle.infer.specs.Search.{ruleOf}
 use Rattle.infer.specs.Ran.{Setting, bitAt, setsOf as setsIn, Words, AllReady, Ran, Rounds, Quiet, Given, AllNamed, anyMarked}
 use Rattle.infer.specs.declared.EndRule as declared
 use Rattle.infer.specs.declared.Shape.{Shape}
-use Rattle.infer.specs.Search.{Chained}
+use Rattle.dfs.specs.Walk.{Chained}
 use Rattle.infer.proofs.RanLaws.{true-T, sets-has, sets-below, has-sets, first-ready, next-ready, quiet-none, quiet-same, found-mark, rounds-none, rounds-more, rounds-unused, solved}
 use Rattle.regionck.specs.Rounds.{settingOf, noMarks, RoundRuns, Cleared, Noted, Seeded, leastSets, Solved}
 use Rattle.regionck.proofs.NamedLaws.{all-named}

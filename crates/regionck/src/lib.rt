@@ -11,7 +11,8 @@ ghost use mathlib.Core.Bool.{cond};
 ghost use lib.ListN.{length};
 ghost use lib.Dec.{eqb};
 ghost use Rattle.nll_spec.specs.Syntax.{Job};
-ghost use Rattle.infer.specs.Search.{ruleOf, Chained};
+ghost use Rattle.infer.specs.Search.{ruleOf};
+ghost use Rattle.dfs.specs.Walk.{Chained};
 ghost use Rattle.regionck.specs.Rounds.{Cleared, Noted, Seeded, Solved};
 
 // Each round but the last puts a point into a region's set, and 128 sets of 1024 points hold no more.
@@ -108,7 +109,7 @@ pub fn regionck(
     ensures { λ _. ⌜ (length (now (grown .exit)) ≡ 128) × ((j : Job) → Seeded (now (s .entry)) (now (layout .entry)) head (now (first .entry)) (now (succ .entry)) (now (walked .entry)) shape (now (words .entry)) j
         → Solved (ruleOf rule) j (now (words .entry)) (now (words .exit)) (now (grown .exit))) ⌝ }
 {
-    let chain = infer::chains(first, succ, shape.code);
+    let chain = dfs::chains(first, succ, shape.code);
     solve(
         s,
         layout,

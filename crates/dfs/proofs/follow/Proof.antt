@@ -1,11 +1,11 @@
--- `infer::follow`. The loop's invariant: `Along`. Assumes nothing.
+-- `dfs::follow`. The loop's invariant: `Along`. Assumes nothing.
 use Prim.Native.Nat.{_-_}
 use native.Mathlib.Omega.{arith}
-use Rattle.infer.specs.Search.{inCode, Along}
-use Rattle.infer.proofs.ChainLaws.{with-sized, along-none, along-trans, follow-end}
+use Rattle.dfs.specs.Walk.{inCode, Along}
+use Rattle.dfs.proofs.ChainLaws.{with-sized, along-none, along-trans, follow-end}
 use borrow.Author.Needs.{needs}
-use Rattle.infer.proofs.follow.Statement.{statement}
-use Rattle.infer.proofs.follow.Tie as tie
+use Rattle.dfs.proofs.follow.Statement.{statement}
+use Rattle.dfs.proofs.follow.Tie as tie
 
 abbrev Inv-loop : tie.InvT-loop
 Inv-loop chain words from code points₀ q at₀ points at = Along chain (inCode words from code) points₀ points q at

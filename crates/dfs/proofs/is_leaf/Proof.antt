@@ -1,12 +1,12 @@
--- `infer::is_leaf`. Assumes nothing.
+-- `dfs::is_leaf`. Assumes nothing.
 use mathlib.Core.Path.{ap, _∙_}
 use mathlib.Core.Bool.{Bool, not, _&&_}
 use lib.Dec.{leb}
 use Rattle.graph.specs.Tables.{rowStart, rowEnd}
-use Rattle.infer.proofs.ChainLaws.{at-zero}
+use Rattle.dfs.proofs.ChainLaws.{at-zero}
 use borrow.Author.Needs.{needs}
-use Rattle.infer.proofs.is_leaf.Statement.{statement}
-use Rattle.infer.proofs.is_leaf.Tie as tie
+use Rattle.dfs.proofs.is_leaf.Statement.{statement}
+use Rattle.dfs.proofs.is_leaf.Tie as tie
 
 test-requires : tie.Need-test-requires
 test-requires c κs = search needs

@@ -1,14 +1,14 @@
--- `infer::visit_next`. The loop's invariant: the points of the row up to k are visited. Assumes nothing.
+-- `dfs::visit_next`. The loop's invariant: the points of the row up to k are visited. Assumes nothing.
 use Prim.Native.Nat.{_-_, _≤_}
 use mathlib.Core.Path.{_≡_, sym, ap, _∙_, subst}
 use native.Mathlib.Omega.{arith}
 use lib.ListN.{getD}
 use Rattle.graph.specs.Search.{State, state}
-use Rattle.infer.specs.Search.{inCode, visited, nexts, Roomy}
-use Rattle.infer.proofs.SearchLaws.{visited-roomy, nexts-none, nexts-more, code-below}
+use Rattle.dfs.specs.Walk.{inCode, visited, nexts, Roomy}
+use Rattle.dfs.proofs.SearchLaws.{visited-roomy, nexts-none, nexts-more, code-below}
 use borrow.Author.Needs.{needs}
-use Rattle.infer.proofs.visit_next.Statement.{statement}
-use Rattle.infer.proofs.visit_next.Tie as tie
+use Rattle.dfs.proofs.visit_next.Statement.{statement}
+use Rattle.dfs.proofs.visit_next.Tie as tie
 
 abbrev Inv-loop : tie.InvT-loop
 Inv-loop first succ words from code q seen₀ stack₀ depth start end k₀ d₀ seen stack k d =

@@ -18,8 +18,8 @@ use Rattle.bit_set.proofs.BitLaws.{has-with, has-with-other}
 use Rattle.graph.specs.Tables.{rowStart, rowEnd, Edge, upTo}
 use Rattle.graph.specs.Search.{Marked, State, state, zeros}
 use Rattle.graph.proofs.SearchLaws.{mark-kept, mark-new, mark-old, no-mark, work, zeros-mark, zeros-replicate}
-use Rattle.infer.specs.Search.{inCode, Chained, Along, Stopped, Reach, here, step, pushed, visited, nexts, row, left, Roomy, Leaf, isLeaf, Reaches}
-use Rattle.infer.proofs.ChainLaws.{at-zero, with-kept, has-none, up-to-le}
+use Rattle.dfs.specs.Walk.{inCode, Chained, Along, Stopped, Reach, here, step, pushed, visited, nexts, row, left, Roomy, Leaf, isLeaf, Reaches}
+use Rattle.dfs.proofs.ChainLaws.{at-zero, with-kept, has-none, up-to-le}
 
 -- ---- The invariant
 

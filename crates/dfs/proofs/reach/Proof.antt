@@ -1,10 +1,10 @@
--- `infer::reach`. Assumes nothing.
+-- `dfs::reach`. Assumes nothing.
 use mathlib.Core.Path.{refl}
-use Rattle.infer.specs.Search.{inCode}
-use Rattle.infer.proofs.SearchLaws.{straight, code-small}
+use Rattle.dfs.specs.Walk.{inCode}
+use Rattle.dfs.proofs.SearchLaws.{straight, code-small}
 use borrow.Author.Needs.{needs}
-use Rattle.infer.proofs.reach.Statement.{statement}
-use Rattle.infer.proofs.reach.Tie as tie
+use Rattle.dfs.proofs.reach.Statement.{statement}
+use Rattle.dfs.proofs.reach.Tie as tie
 
 follow-requires : tie.Need-follow-requires
 follow-requires c κs = let a = c .before .before .args in (c .before .before .pre .0, code-small (a .words .now) (a .from) (a .code) (c .before .before .pre .0) (a .p) (c .before .before .pre .1), refl)

@@ -1,12 +1,12 @@
--- `infer::advance`: each return is a law of ChainLaws. Assumes nothing.
+-- `dfs::advance`: each return is a law of ChainLaws. Assumes nothing.
 use mathlib.Core.Path.{sym, _∙_}
 use Prim.Native.Nat.{_+_}
 use native.Mathlib.Omega.{arith}
 use borrow.Author.Tests.{not-true, not-false}
-use Rattle.infer.proofs.ChainLaws.{held-word, past-code, no-link, not-held, there-yet, one-point, one-word}
+use Rattle.dfs.proofs.ChainLaws.{held-word, past-code, no-link, not-held, there-yet, one-point, one-word}
 use borrow.Author.Needs.{needs}
-use Rattle.infer.proofs.advance.Statement.{statement}
-use Rattle.infer.proofs.advance.Tie as tie
+use Rattle.dfs.proofs.advance.Statement.{statement}
+use Rattle.dfs.proofs.advance.Tie as tie
 
 add-next : tie.Need-add-next
 add-next c = search needs

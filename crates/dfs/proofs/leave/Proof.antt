@@ -1,10 +1,10 @@
--- `infer::leave`: a return for each case of `left`. Assumes nothing.
+-- `dfs::leave`: a return for each case of `left`. Assumes nothing.
 use Rattle.graph.specs.Search.{state}
-use Rattle.infer.specs.Search.{inCode}
-use Rattle.infer.proofs.SearchLaws.{left-linked, left-row}
+use Rattle.dfs.specs.Walk.{inCode}
+use Rattle.dfs.proofs.SearchLaws.{left-linked, left-row}
 use borrow.Author.Needs.{needs}
-use Rattle.infer.proofs.leave.Statement.{statement}
-use Rattle.infer.proofs.leave.Tie as tie
+use Rattle.dfs.proofs.leave.Statement.{statement}
+use Rattle.dfs.proofs.leave.Tie as tie
 
 test-requires : tie.Need-test-requires
 test-requires c κs = search needs

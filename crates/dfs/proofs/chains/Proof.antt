@@ -1,15 +1,15 @@
--- `infer::chains`. The loop's invariant: `Chained`. Assumes nothing.
+-- `dfs::chains`. The loop's invariant: `Chained`. Assumes nothing.
 use Prim.Native.Nat.{ℕ, _-_, _≤_}
 use mathlib.Core.Path.{_≡_, sym, ap, _∙_, subst}
 use mathlib.Core.List.{List}
 use mathlib.Core.Logic.{⊎-elim}
 use native.Mathlib.Omega.{arith}
 use lib.ListN.{length, length-replicate}
-use Rattle.infer.specs.Search.{Chained}
-use Rattle.infer.proofs.ChainLaws.{with-sized, chained-none, chained-more}
+use Rattle.dfs.specs.Walk.{Chained}
+use Rattle.dfs.proofs.ChainLaws.{with-sized, chained-none, chained-more}
 use borrow.Author.Needs.{needs}
-use Rattle.infer.proofs.chains.Statement.{statement}
-use Rattle.infer.proofs.chains.Tie as tie
+use Rattle.dfs.proofs.chains.Statement.{statement}
+use Rattle.dfs.proofs.chains.Tie as tie
 
 abbrev Inv-loop : tie.InvT-loop
 Inv-loop first succ code chain₀ q₀ chain q = (q ≤ code) × (length chain ≡ 32) × Chained chain first succ

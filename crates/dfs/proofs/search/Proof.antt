@@ -1,14 +1,14 @@
--- `infer::search`. The loop's invariant: `Going`. The measure is `work`. Assumes nothing.
+-- `dfs::search`. The loop's invariant: `Going`. The measure is `work`. Assumes nothing.
 use Prim.Native.Nat.{_-_}
 use mathlib.Core.Bool.{_||_}
 use native.Mathlib.Omega.{arith}
 use Rattle.graph.specs.Search.{state}
 use Rattle.graph.proofs.SearchLaws.{work}
-use Rattle.infer.specs.Search.{inCode}
-use Rattle.infer.proofs.SearchLaws.{Going, Turn, going-start, top-small, turn-code, finish, code-small}
+use Rattle.dfs.specs.Walk.{inCode}
+use Rattle.dfs.proofs.SearchLaws.{Going, Turn, going-start, top-small, turn-code, finish, code-small}
 use borrow.Author.Needs.{needs}
-use Rattle.infer.proofs.search.Statement.{statement}
-use Rattle.infer.proofs.search.Tie as tie
+use Rattle.dfs.proofs.search.Statement.{statement}
+use Rattle.dfs.proofs.search.Tie as tie
 
 abbrev Inv-loop : tie.InvT-loop
 Inv-loop chain first succ words from code p points₀ exit₀ seen₀ stack₀ depth₀ points exit seen stack depth = Going chain first succ (inCode words from code) p points exit (state seen stack depth)

@@ -1,10 +1,10 @@
--- `infer::follows`. Assumes nothing.
+-- `dfs::follows`. Assumes nothing.
 use mathlib.Core.Path.{sym}
 use mathlib.Core.Bool.{true≢false}
-use Rattle.infer.proofs.ChainLaws.{follows-tests}
+use Rattle.dfs.proofs.ChainLaws.{follows-tests}
 use borrow.Author.Needs.{needs}
-use Rattle.infer.proofs.follows.Statement.{statement}
-use Rattle.infer.proofs.follows.Tie as tie
+use Rattle.dfs.proofs.follows.Statement.{statement}
+use Rattle.dfs.proofs.follows.Tie as tie
 
 mul-wide : tie.Need-mul-wide
 mul-wide c = search needs

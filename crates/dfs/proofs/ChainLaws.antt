@@ -15,7 +15,7 @@ use Rattle.bit_set.specs.Bits.{has, withBit}
 use Rattle.bit_set.proofs.BitLaws.{digit, place, has-out, length-with, has-with, has-with-other, with-out}
 use Rattle.graph.specs.Tables.{rowStart, rowEnd, upTo}
 use Rattle.graph.proofs.SearchLaws.{no-mark}
-use Rattle.infer.specs.Search.{inCode, Follows, Chained, Along, Stopped}
+use Rattle.dfs.specs.Walk.{inCode, Follows, Chained, Along, Stopped}
 
 -- ---- Bits
 

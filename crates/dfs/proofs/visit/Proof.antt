@@ -1,12 +1,12 @@
--- `infer::visit`: each return is a way that a visit goes. The stack has a place, since the point had no mark. Assumes nothing.
+-- `dfs::visit`: each return is a way that a visit goes. The stack has a place, since the point had no mark. Assumes nothing.
 use borrow.Author.Tests.{not-true, not-false}
 use native.Mathlib.Omega.{arith}
 use Rattle.graph.specs.Search.{state}
 use Rattle.graph.proofs.SearchLaws.{zeros-mark}
-use Rattle.infer.proofs.SearchLaws.{visit-far, visit-seen, visit-out, visit-new}
+use Rattle.dfs.proofs.SearchLaws.{visit-far, visit-seen, visit-out, visit-new}
 use borrow.Author.Needs.{needs}
-use Rattle.infer.proofs.visit.Statement.{statement}
-use Rattle.infer.proofs.visit.Tie as tie
+use Rattle.dfs.proofs.visit.Statement.{statement}
+use Rattle.dfs.proofs.visit.Tie as tie
 
 wide-requires : tie.Need-wide-requires
 wide-requires c κs = search needs
