@@ -1,16 +1,15 @@
--- `loans_in_scope::compute`. Assumes nothing.
-use Prim.Native.Nat.{_*_}
+-- `loans_in_scope::by_tables`. Assumes nothing.
 use native.Mathlib.Omega.{arith}
-use Rattle.loans_in_scope.proofs.ScopeLaws.{sized-zeros, cleared-size, gathered-size, scope-says}
+use Rattle.loans_in_scope.proofs.ScopeLaws.{scope-says}
 use borrow.Author.Needs.{needs}
-use Rattle.loans_in_scope.proofs.compute.Statement.{statement}
-use Rattle.loans_in_scope.proofs.compute.Tie as tie
+use Rattle.loans_in_scope.proofs.by_tables.Statement.{statement}
+use Rattle.loans_in_scope.proofs.by_tables.Tie as tie
 
 fill-requires : tie.Need-fill-requires
-fill-requires c κs = let r = c .before .before .before .before .before .pre in (r .0, r .1, sized-zeros, r .3, r .4, r .5)
+fill-requires c κs = let r = c .before .before .before .before .before .before .before .before .before .pre in (r .0, r .1, r .2, r .4, r .5)
 
 flow-requires : tie.Need-flow-requires
-flow-requires c κs = c .before .before .fill .ensures .sized .start
+flow-requires c κs = let r = c .before .before .before .before .before .before .before .before .before .before .before .before .before .before .before .before .before .before .pre .2 in (omega (arith, r .start), omega (arith, r .pass))
 
 mul-clear : tie.Need-mul-clear
 mul-clear c = search needs
@@ -19,25 +18,32 @@ clear-requires : tie.Need-clear-requires
 clear-requires c κs = search needs
 
 gather-requires : tie.Need-gather-requires
-gather-requires c κs = let a = c .before .before .before .before .before .before .before .before .before .before .before .before .before .args in
-    let r = c .before .before .before .before .before .before .before .before .before .before .before .before .before .pre in
-    (r .5, c .before .before .before .before .flow .ensures .0, cleared-size (a .scope .now) (4 * a .code) (r .2) (c .before .before .clear .ensures))
+gather-requires c κs = let r = c .before .before .before .before .before .before .before .before .before .before .before .before .before .before .before .before .before .before .before .before .before .before .before .before .before .before .before .pre in (r .6, omega (arith, r .2 .start), omega (arith, r .7))
 
 mul-mask : tie.Need-mul-mask
-mul-mask c = search needs
+mul-mask c = let r = c .before .before .before .before .before .before .before .before .before .before .before .before .before .before .before .before .before .before .before .before .before .before .before .before .before .before .before .before .before .before .before .pre in omega (arith, r .6)
 
 mask-requires : tie.Need-mask-requires
-mask-requires c κs = let a = c .before .before .before .before .before .before .before .before .before .before .before .before .before .before .before .before .args in
-    let r = c .before .before .before .before .before .before .before .before .before .before .before .before .before .before .before .before .pre in
-    (omega (arith, r .5), gathered-size (cleared-size (a .scope .now) (4 * a .code) (r .2) (c .before .before .before .before .before .clear .ensures)) (c .before .before .gather .ensures))
+mask-requires c κs = let r = c .before .before .before .before .before .before .before .before .before .before .before .before .before .before .before .before .before .before .before .before .before .before .before .before .before .before .before .before .before .before .before .before .pre in (omega (arith, r .2 .region), omega (arith, r .7))
+
+same-length : tie.Need-same-length
+same-length c = search needs
+
+same-length-2 : tie.Need-same-length-2
+same-length-2 c = search needs
+
+same-length-3 : tie.Need-same-length-3
+same-length-3 c = search needs
+
+same-length-4 : tie.Need-same-length-4
+same-length-4 c = search needs
 
 returns : tie.Need-returns
-returns c = let a = c .before .before .before .before .before .before .before .before .before .before .before .before .before .before .before .before .before .args in
-    let r = c .before .before .before .before .before .before .before .before .before .before .before .before .before .before .before .before .before .pre in
-    λ h e. scope-says (r .5) e (c .before .before .before .before .before .before .before .before .before .before .before .fill .ensures) (c .before .before .before .before .before .before .before .before .flow .ensures .1) (a .scope .now) (r .2) (c .before .before .before .before .before .before .clear .ensures) (c .before .before .before .gather .ensures) (c .mask .ensures)
+returns c = let r = c .before .before .before .before .before .before .before .before .before .before .before .before .before .before .before .before .before .before .before .before .before .before .before .before .before .before .before .before .before .before .before .before .before .before .before .pre in
+    λ h e. scope-says e (r .3) (c .before .before .before .before .before .before .before .before .before .before .before .before .before .before .before .before .before .before .before .before .before .before .before .before .before .fill .ensures) (c .before .before .before .before .before .before .before .before .before .before .before .before .before .before .before .before .flow .ensures .1) (c .before .before .before .before .before .before .before .before .before .before .before .before .before .before .before .before .before .before .before .before .before .before .before .before .before .before .before .before .before .before .before .before .before .before .before .args .scope .now) (r .7) (c .before .before .before .before .before .before .before .before .before .before .before .before .clear .ensures) (c .before .before .before .before .before .before .before .gather .ensures) (c .before .before .mask .ensures)
 
-pub compute-spec : {M : Type 1} → statement M
-compute-spec =
+pub by-tables-spec : {M : Type 1} → statement M
+by-tables-spec =
     tie.close
     (tie.spec
     fill-requires
@@ -47,4 +53,8 @@ compute-spec =
     gather-requires
     mul-mask
     mask-requires
+    same-length
+    same-length-2
+    same-length-3
+    same-length-4
     returns)
