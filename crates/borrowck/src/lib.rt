@@ -75,7 +75,7 @@ pub fn verdict(
     layout: &[u16; 1280],
     table: &[u16; 1024],
     count: usize,
-    scope: &[u32; 4096],
+    scope: &[u32],
     p: usize,
 ) -> Fault
     requires { ⌜ (length (now layout) ≡ 1280) × (length (now table) ≡ 1024) ⌝ }
@@ -107,7 +107,7 @@ fn verdict_at(
     head: Head,
     table: &[u16; 1024],
     count: usize,
-    scope: &[u32; 4096],
+    scope: &[u32],
     p: usize,
 ) -> Fault
     requires { ⌜ (length (now layout) ≡ 1280) × (length (now table) ≡ 1024) ⌝ }
@@ -129,7 +129,7 @@ pub fn borrow_check(
     head: Head,
     table: &[u16; 1024],
     count: usize,
-    scope: &[u32; 4096],
+    scope: &[u32],
     bytes: &mut [u8],
 )
     requires { ⌜ (length (now layout) ≡ 1280) × (length (now table) ≡ 1024) ⌝ }

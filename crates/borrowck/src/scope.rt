@@ -20,7 +20,7 @@ fn at_most(count: usize) -> usize
 }
 
 // Whether a loan is in scope at point p.
-pub fn some_in_scope(count: usize, scope: &[u32; 4096], p: usize) -> bool
+pub fn some_in_scope(count: usize, scope: &[u32], p: usize) -> bool
     ensures { λ r. ⌜ SomeIn count (now (scope .entry)) p r ⌝ }
 {
     if 1024 <= p {
@@ -37,7 +37,7 @@ pub fn some_in_scope(count: usize, scope: &[u32; 4096], p: usize) -> bool
 }
 
 // The loans that are in scope at point p, in the order of the table.
-pub fn in_scope(table: &[u16; 1024], count: usize, scope: &[u32; 4096], p: usize) -> InScope
+pub fn in_scope(table: &[u16; 1024], count: usize, scope: &[u32], p: usize) -> InScope
     requires { ⌜ length (now table) ≡ 1024 ⌝ }
     ensures { λ r. ⌜ Gathered (now (table .entry)) count (now (scope .entry)) p r ⌝ }
 {

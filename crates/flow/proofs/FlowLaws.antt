@@ -4,7 +4,7 @@ use mathlib.Core.Bool.{Bool, true, false}
 use mathlib.Core.List.{List}
 use Prim.Native.Nat.{ℕ, _+_, _-_, _*_, _/_, _%_, _<_}
 use native.Mathlib.Omega.{arith}
-use lib.ListN.{length, getD}
+use lib.ListN.{getD}
 use Rattle.nll_spec.specs.Syntax.{Point}
 use Rattle.nll_spec.specs.Graph.{Graph}
 use Rattle.nll_spec.specs.Output.{wordBits}
@@ -121,10 +121,9 @@ module _ (d : Direction) (code : ℕ) (first succ pass ws : List ℕ) where
     pub rounds-less : r ≡ true → missing x < missing u
     rounds-less e = let n = a .grew e in missing-lt u x (a .since .as-long) (a .since .kept) (n .0) (n .1) (n .2)
 
-    pub rounds-all : r ≡ false → length ws ≡ 4096 → (g : Graph) → Edges g first succ → code ≡ g .code → FlowSays g d pass ws x
-    rounds-all e l g t k =
+    pub rounds-all : r ≡ false → (g : Graph) → Edges g first succ → code ≡ g .code → FlowSays g d pass ws x
+    rounds-all e g t k =
         record {
-          size = v .as-long ∙ l;
           sets = λ p b m n. (
             λ h.
                 let z : wordBits * (4 * p + b / wordBits) + b % wordBits ≡ bitAt p b = omega arith in

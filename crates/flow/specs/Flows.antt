@@ -4,7 +4,6 @@ use mathlib.Core.Logic.{_↔_}
 use mathlib.Core.Bool.{true}
 use mathlib.Core.List.{List}
 use Prim.Native.Nat.{ℕ, _+_, _*_, _<_}
-use lib.ListN.{length}
 use Rattle.nll_spec.specs.Syntax.{Point}
 use Rattle.nll_spec.specs.Graph.{Graph}
 use Rattle.nll_spec.specs.Output.{wordBits}
@@ -29,5 +28,4 @@ pub data Flows (g : Graph) (d : Direction) (pass start : List ℕ) (b : ℕ) : P
 
 -- Each point's set has the numbers that come to it.
 pub record FlowSays (g : Graph) (d : Direction) (pass start after : List ℕ) : Type 0 where
-  pub size : length after ≡ 4096
   pub sets : (p : Point) (b : ℕ) → p < g .code → b < 128 → (has after (bitAt p b) ≡ true) ↔ Flows g d pass start b p

@@ -2,7 +2,7 @@
 // The points that follow point p are succ[first[p]..first[p + 1]].
 use graph::tables::up_to;
 ghost use mathlib.Core.Path.{_≡_};
-ghost use Prim.Native.Nat.{_<_, _≤_};
+ghost use Prim.Native.Nat.{_+_, _*_, _<_, _≤_};
 ghost use lib.ListN.{length};
 ghost use Rattle.nll_spec.specs.Graph.{Graph};
 ghost use Rattle.graph.specs.Tables.{Edges};
@@ -29,8 +29,8 @@ fn mixed(old: u32, from: u32, pass: u32) -> u32
 }
 
 // Puts what word v has and word w lets pass into word w, and says whether that changed it.
-fn word(sets: &mut [u32; 4096], pass: &[u32; 4096], v: usize, w: usize) -> bool
-    requires { ⌜ (v < 4096) × (w < 4096) × (length (now sets) ≡ 4096) ⌝ }
+fn word(sets: &mut [u32], pass: &[u32], v: usize, w: usize) -> bool
+    requires { ⌜ (v < length (now sets)) × (w < length (now sets)) × (w < length (now pass)) ⌝ }
     ensures { λ r. ⌜ Ran (One v w) (now (pass .entry)) (now (sets .entry)) (now (sets .exit)) r ⌝ }
 {
     let old = sets[w];
@@ -40,8 +40,8 @@ fn word(sets: &mut [u32; 4096], pass: &[u32; 4096], v: usize, w: usize) -> bool
 }
 
 // The same for the sets of the points p and q.
-fn edge(sets: &mut [u32; 4096], pass: &[u32; 4096], p: usize, q: usize) -> bool
-    requires { ⌜ (p < 1024) × (q < 1024) × (length (now sets) ≡ 4096) ⌝ }
+fn edge(sets: &mut [u32], pass: &[u32], p: usize, q: usize) -> bool
+    requires { ⌜ (4 * p + 4 ≤ length (now sets)) × (4 * q + 4 ≤ length (now sets)) × (4 * q + 4 ≤ length (now pass)) ⌝ }
     ensures { λ r. ⌜ Ran (Lanes 4 p q) (now (pass .entry)) (now (sets .entry)) (now (sets .exit)) r ⌝ }
 {
     let mut changed = false;
@@ -55,14 +55,14 @@ fn edge(sets: &mut [u32; 4096], pass: &[u32; 4096], p: usize, q: usize) -> bool
 
 // The same for p and the point s that follows it, in the direction. A number that is no point of a block is passed by.
 fn turned(
-    sets: &mut [u32; 4096],
-    pass: &[u32; 4096],
+    sets: &mut [u32],
+    pass: &[u32],
     code: usize,
     p: usize,
     s: u16,
     direction: Direction,
 ) -> bool
-    requires { ⌜ (code ≤ 1024) × (p < code) × (length (now sets) ≡ 4096) ⌝ }
+    requires { ⌜ (code ≤ 1024) × (p < code) × (4 * code ≤ length (now sets)) × (4 * code ≤ length (now pass)) ⌝ }
     ensures { λ r. ⌜ Ran (Turned direction code p s) (now (pass .entry)) (now (sets .entry)) (now (sets .exit)) r ⌝ }
 {
     let q = wide(s);
@@ -77,15 +77,15 @@ fn turned(
 
 // The same for p and each point that follows it.
 fn row(
-    sets: &mut [u32; 4096],
-    pass: &[u32; 4096],
+    sets: &mut [u32],
+    pass: &[u32],
     first: &[u16; 1025],
     succ: &[u16; 1536],
     code: usize,
     p: usize,
     direction: Direction,
 ) -> bool
-    requires { ⌜ (code ≤ 1024) × (p < code) × (length (now sets) ≡ 4096) ⌝ }
+    requires { ⌜ (code ≤ 1024) × (p < code) × (4 * code ≤ length (now sets)) × (4 * code ≤ length (now pass)) ⌝ }
     ensures { λ r. ⌜ Ran (Row direction code (now (first .entry)) (now (succ .entry)) p) (now (pass .entry)) (now (sets .entry)) (now (sets .exit)) r ⌝ }
 {
     let start = wide(first[p]);
@@ -112,14 +112,14 @@ fn point(code: usize, i: usize, direction: Direction) -> usize
 
 // Every edge once.
 fn round(
-    sets: &mut [u32; 4096],
-    pass: &[u32; 4096],
+    sets: &mut [u32],
+    pass: &[u32],
     first: &[u16; 1025],
     succ: &[u16; 1536],
     code: usize,
     direction: Direction,
 ) -> bool
-    requires { ⌜ (code ≤ 1024) × (length (now sets) ≡ 4096) ⌝ }
+    requires { ⌜ (code ≤ 1024) × (4 * code ≤ length (now sets)) × (4 * code ≤ length (now pass)) ⌝ }
     ensures { λ r. ⌜ Ran (Rows direction code (now (first .entry)) (now (succ .entry)) code) (now (pass .entry)) (now (sets .entry)) (now (sets .exit)) r ⌝ }
 {
     let mut changed = false;
@@ -134,15 +134,15 @@ fn round(
 
 // Puts into each point's set the numbers that come to it along edges, through points that let them pass.
 pub fn flow(
-    sets: &mut [u32; 4096],
-    pass: &[u32; 4096],
+    sets: &mut [u32],
+    pass: &[u32],
     first: &[u16; 1025],
     succ: &[u16; 1536],
     code: usize,
     direction: Direction,
 )
-    requires { ⌜ length (now sets) ≡ 4096 ⌝ }
-    ensures { λ _. ⌜ (length (now (sets .exit)) ≡ 4096) × ((g : Graph) → Edges g (now (first .entry)) (now (succ .entry)) → code ≡ g .code
+    requires { ⌜ (4 * code ≤ length (now sets)) × (4 * code ≤ length (now pass)) ⌝ }
+    ensures { λ _. ⌜ (length (now (sets .exit)) ≡ length (now (sets .entry))) × ((g : Graph) → Edges g (now (first .entry)) (now (succ .entry)) → code ≡ g .code
         → FlowSays g direction (now (pass .entry)) (now (sets .entry)) (now (sets .exit))) ⌝ }
 {
     if 1024 < code {

@@ -1,12 +1,12 @@
 -- The points' sets, filled one by one. Assumes nothing.
-use mathlib.Core.Path.{_≡_, refl, sym, ap, ap₂, _∙_}
+use mathlib.Core.Path.{_≡_, refl, sym, ap, ap₂, subst, _∙_}
 use mathlib.Core.Bool.{Bool, true, false, not, _&&_, _||_, or-false}
 use mathlib.Core.List.{List}
-use Prim.Native.Nat.{ℕ, _+_, _/_, _%_, _^_, _≤_, _<_}
+use Prim.Native.Nat.{ℕ, _+_, _*_, _/_, _%_, _^_, _≤_, _<_}
 use native.Mathlib.Omega.{arith}
 use native.Mathlib.Nat.{zero-div}
 use native.Mathlib.Decide.{ℕ-discrete, decLt}
-use lib.ListN.{replicate, getD-replicate, length-replicate}
+use lib.ListN.{replicate, getD-replicate}
 use lib.Dec.{eqb, ltb}
 use borrow.Author.Tests.{eq-eqb, ne-eqb, lt-ltb, le-ltb}
 use Rattle.nll_spec.specs.Lists.{below}
@@ -28,7 +28,7 @@ use Rattle.record.specs.declared.Head.{Head}
 use Rattle.repr.proofs.SpellLaws.{clash}
 use Rattle.bit_set.proofs.BitLaws.{digit}
 use Rattle.flow.specs.Flows.{bitAt}
-use Rattle.liveness.specs.Needs.{inEither, neededBy, Added, Removed, Needed, Defined, Filled, Sized, Blank, Acted, AllActed}
+use Rattle.liveness.specs.Needs.{inEither, neededBy, Added, Removed, Needed, Defined, Filled, Blank, Acted, AllActed}
 
 -- ---- One more
 
@@ -49,9 +49,9 @@ filled-more : (j : Job) (x : ℕ) {sets pass u w : List ℕ} → Filled j x sets
 filled-more j x v a r =
     record {
       starts = λ p b l m.
-          a .bits p b l m ∙ ap (λ (c : Bool). c || (eqb p x && neededBy (actionAt (graphOf j) x) b)) (v .starts p b l m) ∙ one-more (λ q. neededBy (actionAt (graphOf j) q) b) p x;
+          a .bits p b m ∙ ap (λ (c : Bool). c || (eqb p x && neededBy (actionAt (graphOf j) x) b)) (v .starts p b l m) ∙ one-more (λ q. neededBy (actionAt (graphOf j) q) b) p x;
       passes = λ p b l m.
-          r .bits p b l m ∙ ap (λ (c : Bool). c && not (eqb p x && inEither (defs (actionAt (graphOf j) x)) b)) (v .passes p b l m)
+          r .bits p b m ∙ ap (λ (c : Bool). c && not (eqb p x && inEither (defs (actionAt (graphOf j) x)) b)) (v .passes p b l m)
           ∙ not-or (ltb p x && inEither (defs (actionAt (graphOf j) p)) b) (eqb p x && inEither (defs (actionAt (graphOf j) x)) b)
           ∙ ap not (one-more (λ q. inEither (defs (actionAt (graphOf j) q)) b) p x);
     }
@@ -59,13 +59,12 @@ filled-more j x v a r =
 -- ---- One point
 
 module _ {s t : List ℕ} {x : ℕ} {r : ActionStep} (is : (h : Head) (j : Job) → Layout s t h j → x < codeCount (j .blocks) → Acts s (actionAt (graphOf j) x) r) where
-  pub acted-refused : {k : ℕ} {sets pass : List ℕ} → r ≡ actionStep.Refused k → Sized sets pass → Acted s t x sets pass sets pass
-  acted-refused i z = record { sized = z; filled = λ h j w l v. absurd (let a = is h j w l in clash (sym (ap (actionSays s) i) ∙ a .reads)) }
+  pub acted-refused : {k : ℕ} {sets pass : List ℕ} → r ≡ actionStep.Refused k → Acted s t x sets pass sets pass
+  acted-refused i = record { filled = λ h j w l v. absurd (let a = is h j w l in clash (sym (ap (actionSays s) i) ∙ a .reads)) }
 
   pub acted-action : {a : declared.Action} {next : Cursor} {sets pass u w : List ℕ} → r ≡ actionStep.Action a next → Needed s a next x sets u → Defined s a next x pass w → Acted s t x sets pass u w
   acted-action {a} {next} {sets} {pass} {u} {w} i n d =
       record {
-        sized = record { starts = n .size; passes = d .size };
         filled = λ h j v l f.
             let y = is h j v l in
             let e : actionSays s (actionStep.Action a next) ≡ read (actionAt (graphOf j) x) (y .over) = sym (ap (actionSays s) i) ∙ y .reads in
@@ -74,43 +73,38 @@ module _ {s t : List ℕ} {x : ℕ} {r : ActionStep} (is : (h : Head) (j : Job) 
 
 -- ---- All points
 
--- Those of the first n points are done.
-pub record Acting (s t : List ℕ) (n : ℕ) (sets pass : List ℕ) : Type 0 where
-  pub sized : Sized sets pass
-  pub filled : (h : Head) (j : Job) → Layout s t h j → n ≤ codeCount (j .blocks) → Filled j n sets pass
+-- Those of the first n of so many points are done.
+pub record Acting (s t : List ℕ) (code n : ℕ) (sets pass : List ℕ) : Type 0 where
+  pub filled : (h : Head) (j : Job) → Layout s t h j → code ≡ codeCount (j .blocks) → Filled j n sets pass
 
-module _ (s t : List ℕ) where
-  pub acting-none : {sets pass : List ℕ} → Sized sets pass → Blank sets pass → Acting s t 0 sets pass
-  acting-none z b =
-      record {
-        sized = z;
-        filled = λ h j w l. record {
-          starts = λ p i m n. b .starts p i m n ∙ sym (ap (λ (c : Bool). c && neededBy (actionAt (graphOf j) p) i) (le-ltb p 0 (omega arith)));
-          passes = λ p i m n. b .passes p i m n ∙ sym (ap (λ (c : Bool). not (c && inEither (defs (actionAt (graphOf j) p)) i)) (le-ltb p 0 (omega arith)));
-        };
-      }
+module _ (s t : List ℕ) {code : ℕ} where
+  pub acting-none : {sets pass : List ℕ} → Blank code sets pass → Acting s t code 0 sets pass
+  acting-none b = record {
+    filled = λ h j w l. record {
+      starts = λ p i m n. b .starts p i (omega arith) n ∙ sym (ap (λ (c : Bool). c && neededBy (actionAt (graphOf j) p) i) (le-ltb p 0 (omega arith)));
+      passes = λ p i m n. b .passes p i (omega arith) n ∙ sym (ap (λ (c : Bool). not (c && inEither (defs (actionAt (graphOf j) p)) i)) (le-ltb p 0 (omega arith)));
+    };
+  }
 
-  pub acting-more : {n : ℕ} {sets pass u w : List ℕ} → Acting s t n sets pass → Acted s t n sets pass u w → Acting s t (n + 1) u w
-  acting-more v a = record { sized = a .sized; filled = λ h j w l. a .filled h j w (omega arith) (v .filled h j w (omega arith)) }
+  pub acting-more : {n : ℕ} {sets pass u w : List ℕ} → n < code → Acting s t code n sets pass → Acted s t n sets pass u w → Acting s t code (n + 1) u w
+  acting-more m v a = record { filled = λ h j w l. a .filled h j w (omega arith) (v .filled h j w l) }
 
-  pub acting-all : {n code : ℕ} {sets pass : List ℕ} → Acting s t n sets pass → n ≤ code → code ≤ n → AllActed s t code sets pass
-  acting-all {n} {code} {sets} {pass} v l m =
+  pub acting-all : {n : ℕ} {sets pass : List ℕ} → Acting s t code n sets pass → n ≤ code → code ≤ n → AllActed s t code sets pass
+  acting-all {n} {sets} {pass} v l m =
       let e : code ≡ n = omega arith in
-      record { sized = v .sized; filled = λ h j w k. rw e (v .filled h j w (omega arith)) }
+      record { filled = λ h j w k. subst (λ (i : ℕ). Filled j i sets pass) (sym e) (v .filled h j w k) }
 
 -- ---- The sets at the start
 
 ones : (i : ℕ) → i < wordBits → eqb (digit 4294967295 i) 1 ≡ true
 ones i l = is-true _ (every-contains (λ (k : ℕ). eqb (digit 4294967295 k) 1) (below wordBits) i tt (contains-below wordBits i l))
 
-pub start-sized : Sized (replicate {A = ℕ} 4096 0) (replicate {A = ℕ} 4096 4294967295)
-start-sized = record { starts = length-replicate {A = ℕ} 4096 0; passes = length-replicate {A = ℕ} 4096 4294967295 }
-
-pub start-blank : Blank (replicate 4096 0) (replicate 4096 4294967295)
-start-blank =
+-- n words that have room for the points
+pub start-blank : (n code : ℕ) → 4 * code ≤ n → Blank code (replicate n 0) (replicate n 4294967295)
+start-blank n code z =
     record {
       starts = λ p b l m.
-          ap (λ (w : ℕ). eqb (digit w (bitAt p b % wordBits)) 1) (getD-replicate 4096 (bitAt p b / wordBits) 0 0 (omega arith)) ∙ ap (λ (k : ℕ). eqb (k % 2) 1) (zero-div (2 ^ (bitAt p b % wordBits)));
+          ap (λ (w : ℕ). eqb (digit w (bitAt p b % wordBits)) 1) (getD-replicate n (bitAt p b / wordBits) 0 0 (omega arith)) ∙ ap (λ (k : ℕ). eqb (k % 2) 1) (zero-div (2 ^ (bitAt p b % wordBits)));
       passes = λ p b l m.
-          ap (λ (w : ℕ). eqb (digit w (bitAt p b % wordBits)) 1) (getD-replicate 4096 (bitAt p b / wordBits) 4294967295 0 (omega arith)) ∙ ones (bitAt p b % wordBits) (omega arith);
+          ap (λ (w : ℕ). eqb (digit w (bitAt p b % wordBits)) 1) (getD-replicate n (bitAt p b / wordBits) 4294967295 0 (omega arith)) ∙ ones (bitAt p b % wordBits) (omega arith);
     }

@@ -92,24 +92,24 @@ and-spread true true false g = refl
 
 module _ (x : ℕ) where
   pub added-as : {f g : ℕ → Bool} {ws u : List ℕ} → Added x f ws u → ((b : ℕ) → f b ≡ g b) → Added x g ws u
-  added-as {ws = ws} a e = record { bits = λ p b l m. a .bits p b l m ∙ ap (λ (c : Bool). has ws (bitAt p b) || (eqb p x && c)) (e b) }
+  added-as {ws = ws} a e = record { bits = λ p b m. a .bits p b m ∙ ap (λ (c : Bool). has ws (bitAt p b) || (eqb p x && c)) (e b) }
 
   pub added-none : {f : ℕ → Bool} (ws : List ℕ) → ((b : ℕ) → false ≡ f b) → Added x f ws ws
-  added-none {f} ws e = added-as {f = λ b. false} (record { bits = λ p b l m. sym (ap (λ (c : Bool). has ws (bitAt p b) || c) (and-false (eqb p x)) ∙ or-false (has ws (bitAt p b))) }) e
+  added-none {f} ws e = added-as {f = λ b. false} (record { bits = λ p b m. sym (ap (λ (c : Bool). has ws (bitAt p b) || c) (and-false (eqb p x)) ∙ or-false (has ws (bitAt p b))) }) e
 
   pub added-then : {f g : ℕ → Bool} {ws u w : List ℕ} → Added x f ws u → Added x g u w → Added x (λ b. f b || g b) ws w
   added-then {f} {g} {ws} a c =
-      record { bits = λ p b l m. c .bits p b l m ∙ ap (λ (d : Bool). d || (eqb p x && g b)) (a .bits p b l m) ∙ or-spread (has ws (bitAt p b)) (eqb p x) (f b) (g b) }
+      record { bits = λ p b m. c .bits p b m ∙ ap (λ (d : Bool). d || (eqb p x && g b)) (a .bits p b m) ∙ or-spread (has ws (bitAt p b)) (eqb p x) (f b) (g b) }
 
   pub removed-as : {f g : ℕ → Bool} {ws u : List ℕ} → Removed x f ws u → ((b : ℕ) → f b ≡ g b) → Removed x g ws u
-  removed-as {ws = ws} a e = record { bits = λ p b l m. a .bits p b l m ∙ ap (λ (c : Bool). has ws (bitAt p b) && not (eqb p x && c)) (e b) }
+  removed-as {ws = ws} a e = record { bits = λ p b m. a .bits p b m ∙ ap (λ (c : Bool). has ws (bitAt p b) && not (eqb p x && c)) (e b) }
 
   pub removed-none : {f : ℕ → Bool} (ws : List ℕ) → ((b : ℕ) → false ≡ f b) → Removed x f ws ws
-  removed-none {f} ws e = removed-as {f = λ b. false} (record { bits = λ p b l m. sym (ap (λ (c : Bool). has ws (bitAt p b) && not c) (and-false (eqb p x)) ∙ and-true (has ws (bitAt p b))) }) e
+  removed-none {f} ws e = removed-as {f = λ b. false} (record { bits = λ p b m. sym (ap (λ (c : Bool). has ws (bitAt p b) && not c) (and-false (eqb p x)) ∙ and-true (has ws (bitAt p b))) }) e
 
   pub removed-then : {f g : ℕ → Bool} {ws u w : List ℕ} → Removed x f ws u → Removed x g u w → Removed x (λ b. f b || g b) ws w
   removed-then {f} {g} {ws} a c =
-      record { bits = λ p b l m. c .bits p b l m ∙ ap (λ (d : Bool). d && not (eqb p x && g b)) (a .bits p b l m) ∙ and-spread (has ws (bitAt p b)) (eqb p x) (f b) (g b) }
+      record { bits = λ p b m. c .bits p b m ∙ ap (λ (d : Bool). d && not (eqb p x && g b)) (a .bits p b m) ∙ and-spread (has ws (bitAt p b)) (eqb p x) (f b) (g b) }
 
 -- ---- One number
 
@@ -123,8 +123,8 @@ module _ (x n : ℕ) (hn : n < 128) where
   together : (p b : ℕ) → b < 128 → bitAt p b ≡ bitAt x n → (eqb p x && eqb b n) ≡ true
   together p b l e = ap₂ (λ (c d : Bool). c && d) (eq-eqb p x (omega arith)) (eq-eqb b n (omega arith))
 
-  added-one : (ws : List ℕ) → x < 1024 → length ws ≡ 4096 → Added x (λ b. eqb b n) ws (withBit ws (bitAt x n))
-  added-one ws hx hl = record { bits = λ p b l m. go p b m (ℕ-discrete (bitAt p b) (bitAt x n)) }
+  added-one : (ws : List ℕ) → 4 * x + 4 ≤ length ws → Added x (λ b. eqb b n) ws (withBit ws (bitAt x n))
+  added-one ws hl = record { bits = λ p b m. go p b m (ℕ-discrete (bitAt p b) (bitAt x n)) }
     where
       go : (p b : ℕ) → b < 128 → Dec (bitAt p b ≡ bitAt x n) → has (withBit ws (bitAt x n)) (bitAt p b) ≡ (has ws (bitAt p b) || (eqb p x && eqb b n))
       go p b m (yes e) =
@@ -133,7 +133,7 @@ module _ (x n : ℕ) (hn : n < 128) where
           has-with-other ws (bitAt x n) (bitAt p b) e ∙ sym (ap (λ (c : Bool). has ws (bitAt p b) || c) (apart p b m (ℕ-discrete p x) (ℕ-discrete b n) e) ∙ or-false (has ws (bitAt p b)))
 
   removed-one : (ws : List ℕ) → Removed x (λ b. eqb b n) ws (withoutBit ws (bitAt x n))
-  removed-one ws = record { bits = λ p b l m. go p b m (ℕ-discrete (bitAt p b) (bitAt x n)) }
+  removed-one ws = record { bits = λ p b m. go p b m (ℕ-discrete (bitAt p b) (bitAt x n)) }
     where
       go : (p b : ℕ) → b < 128 → Dec (bitAt p b ≡ bitAt x n) → has (withoutBit ws (bitAt x n)) (bitAt p b) ≡ (has ws (bitAt p b) && not (eqb p x && eqb b n))
       go p b m (yes e) =
@@ -147,18 +147,15 @@ module _ (x : ℕ) (ws : List ℕ) (k v : ℕ) (e : k ≡ v) where
   pub add-large : (from : ℕ) → 64 ≤ k → Added x (inHalf from (v ∷ [])) ws ws
   add-large from h = added-none x ws (λ b. half-large from v b (omega arith))
 
-  pub add-small : {u : List ℕ} (from : ℕ) → from ≤ 64 → x < 1024 → length ws ≡ 4096 → k < 64 → u ≡ withBit ws (wordBits * (4 * x) + (from + k)) → (length u ≡ 4096) × Added x (inHalf from (v ∷ [])) ws u
-  add-small {u} from l hx hl h q =
-      (ap length q ∙ length-with ws _ ∙ hl, rw q (added-as x (added-one x (from + k) (omega arith) ws hx hl) (λ b. rw (← e) (half-one from k b h))))
+  pub add-small : {u : List ℕ} (from : ℕ) → from ≤ 64 → 4 * x + 4 ≤ length ws → k < 64 → u ≡ withBit ws (wordBits * (4 * x) + (from + k)) → Added x (inHalf from (v ∷ [])) ws u
+  add-small {u} from l hl h q = rw q (added-as x (added-one x (from + k) (omega arith) ws hl) (λ b. rw (← e) (half-one from k b h)))
 
   pub kill-large : 64 ≤ k → Removed x (inEither (v ∷ [])) ws ws
   kill-large h = removed-none x ws (λ b. ap₂ (λ (c d : Bool). c || d) (half-large 0 v b (omega arith)) (half-large 64 v b (omega arith)))
 
-  pub kill-small : {u w : List ℕ} → length ws ≡ 4096 → k < 64 → u ≡ withoutBit ws (wordBits * (4 * x) + k) → w ≡ withoutBit u (wordBits * (4 * x) + (64 + k)) → (length w ≡ 4096) × Removed x (inEither (v ∷ [])) ws w
-  kill-small {u} {w} hl h q r =
+  pub kill-small : {u w : List ℕ} → k < 64 → u ≡ withoutBit ws (wordBits * (4 * x) + k) → w ≡ withoutBit u (wordBits * (4 * x) + (64 + k)) → Removed x (inEither (v ∷ [])) ws w
+  kill-small {u} {w} h q r =
       let z : 0 + k ≡ k = omega arith in
       let a : Removed x (λ b. eqb b k) ws u = rw q (removed-one x k (omega arith) ws) in
-      let c : Removed x (λ b. eqb b (64 + k)) u w = rw r (removed-one x (64 + k) (omega arith) u) in (
-        ap length r ∙ length-without u _ ∙ ap length q ∙ length-without ws _ ∙ hl,
-        removed-as x (removed-then x a c) (λ b. rw (← e) (ap₂ (λ (c d : Bool). c || d) (ap (eqb b) (sym z) ∙ half-one 0 k b h) (half-one 64 k b h))),
-      )
+      let c : Removed x (λ b. eqb b (64 + k)) u w = rw r (removed-one x (64 + k) (omega arith) u) in
+      removed-as x (removed-then x a c) (λ b. rw (← e) (ap₂ (λ (c d : Bool). c || d) (ap (eqb b) (sym z) ∙ half-one 0 k b h) (half-one 64 k b h)))

@@ -2,7 +2,7 @@
 use mathlib.Core.Path.{_≡_, refl, sym, ap, ap₂, subst, _∙_}
 use mathlib.Core.Bool.{Bool, true, false, not, _&&_, _||_, true≢false}
 use mathlib.Core.List.{List}
-use Prim.Native.Nat.{ℕ, _+_, _≤_, _<_}
+use Prim.Native.Nat.{ℕ, _+_, _*_, _≤_, _<_}
 use native.Mathlib.Omega.{arith}
 use lib.ListN.{length}
 use lib.Dec.{T, ltb}
@@ -14,6 +14,7 @@ use Rattle.nll_spec.specs.Fixpoint.{holds}
 use Rattle.nll_spec.specs.Graph.{graphOf, actionAt, isWalked}
 use Rattle.nll_spec.specs.Liveness.{defs, uses, drops, liveTable}
 use Rattle.nll_spec.specs.Meaning.{Live, now, later}
+use Rattle.nll_spec.specs.Output.{wordBits}
 use Rattle.nll_spec.proofs.Tests.{is-true, and-intro, and-left, and-right}
 use Rattle.nll_spec.proofs.Least.{same-bool}
 use Rattle.nll_spec.proofs.GraphLaws.{code-count, next-is-code, walked-is-code}
@@ -67,7 +68,7 @@ module _ (j : Job) (first succ : List ℕ) (t : Edges (graphOf j) first succ) (n
 
 -- ---- Both halves
 
-module _ (j : Job) {code : ℕ} {sets pass : List ℕ} (f : Filled j code sets pass) (e : code ≡ graphOf j .code) (few : graphOf j .code ≤ 1024) (v : ℕ) (hv : v < 64) where
+module _ (j : Job) {code : ℕ} {sets pass : List ℕ} (f : Filled j code sets pass) (e : code ≡ graphOf j .code) (is : code ≡ codeCount (j .blocks)) (v : ℕ) (hv : v < 64) where
   inside : (p : Point) → p < graphOf j .code → ltb p code ≡ true
   inside p l = lt-ltb p code (omega arith)
 
@@ -87,18 +88,18 @@ module _ (j : Job) {code : ℕ} {sets pass : List ℕ} (f : Filled j code sets p
         passes = λ p l. f .passes p (64 + v) (omega arith) (omega arith) ∙ ap₂ (λ (a b : Bool). not (a && b)) (inside p l) (second-half (defs (actionAt (graphOf j) p)) (defs (actionAt (graphOf j) p)) v hv);
       }
 
-pub live-rows : (s t : List ℕ) (h : Head) (first succ walked : List ℕ) {code many : ℕ} {sets pass after us ds : List ℕ} → code ≡ h .code → many ≡ h .variables → AllActed s t code sets pass
+pub live-rows : (s t : List ℕ) (h : Head) (first succ walked : List ℕ) {code many w : ℕ} {sets pass after us ds : List ℕ} → w ≤ 32 → code ≡ h .code → many ≡ h .variables → AllActed s t code sets pass
     → ((j : Job) → Edges (graphOf j) first succ → code ≡ graphOf j .code → FlowSays (graphOf j) Backward pass sets after)
-    → Columns many code 0 walked after us → Columns many code 64 walked after ds
-    → (j : Job) → Layout s t h j → Edges (graphOf j) first succ → ((p : Point) → p < 1024 → has walked p ≡ isWalked (graphOf j) p) → LiveRows j us ds
-live-rows s t h first succ walked {code} {many} {sets} {pass} {after} e m acted flowed used dropped j w edges is =
+    → Columns w many code 0 walked after us → Columns w many code 64 walked after ds
+    → (j : Job) → Layout s t h j → Edges (graphOf j) first succ → ((p : Point) → p < 1024 → has walked p ≡ isWalked (graphOf j) p) → LiveRows j w us ds
+live-rows s t h first succ walked {code} {many} {sets = sets} {pass} {after} n e m acted flowed used dropped j w edges is =
     record {
       used = λ v p hv hp.
           used .bits v p (among v hv) hp ∙ ap (λ (c : ℕ). ltb p c && (has walked p && has after (bitAt p (0 + v)))) k
-          ∙ walked-live j first succ edges uses v (0 + v) (used-numbered j filled k few v (small v hv)) after walked says is (λ q. table-used j v q hv) p hp;
+          ∙ walked-live j first succ edges uses v (0 + v) (used-numbered j filled k c v (small v hv)) after walked says is (λ q. table-used j v q hv) p (omega arith);
       dropped = λ v p hv hp.
           dropped .bits v p (among v hv) hp ∙ ap (λ (c : ℕ). ltb p c && (has walked p && has after (bitAt p (64 + v)))) k
-          ∙ walked-live j first succ edges drops v (64 + v) (dropped-numbered j filled k few v (small v hv)) after walked says is (λ q. table-dropped j v q hv) p hp;
+          ∙ walked-live j first succ edges drops v (64 + v) (dropped-numbered j filled k c v (small v hv)) after walked says is (λ q. table-dropped j v q hv) p (omega arith);
     }
   where
     c : code ≡ codeCount (j .blocks)
@@ -106,9 +107,6 @@ live-rows s t h first succ walked {code} {many} {sets} {pass} {after} e m acted 
 
     k : code ≡ graphOf j .code
     k = c ∙ sym (code-count j)
-
-    few : graphOf j .code ≤ 1024
-    few = omega (arith, edges .ordered, edges .few)
 
     among : (v : ℕ) → v < length (j .variables) → v < many
     among v l = omega (arith, w .variableCount)
@@ -122,18 +120,19 @@ live-rows s t h first succ walked {code} {many} {sets} {pass} {after} e m acted 
     says : FlowSays (graphOf j) Backward pass sets after
     says = flowed j edges k
 
-pub live-none : (s t : List ℕ) (h : Head) (first succ walked : List ℕ) {code many : ℕ} {us ds : List ℕ} → code ≡ h .code → many ≡ h .variables → (ltb 1024 code || ltb 64 many) ≡ true
-    → (j : Job) → Layout s t h j → Edges (graphOf j) first succ → ((p : Point) → p < 1024 → has walked p ≡ isWalked (graphOf j) p) → LiveRows j us ds
-live-none s t h first succ walked {code} {many} e m l j w edges is =
-    let a : code ≤ 1024 = omega (arith, w .code, w .few) in
-    let b : many ≤ 64 = omega (arith, w .variableLimit) in
-    absurd (true≢false (sym l ∙ ap₂ (λ (x y : Bool). x || y) (le-ltb 1024 code a) (le-ltb 64 many b)))
+-- more points than a row has room for, or more variables than there are rows
+pub live-none : (s t : List ℕ) (h : Head) (first succ walked : List ℕ) {code many w : ℕ} {us ds : List ℕ} → code ≡ h .code → many ≡ h .variables → (ltb (32 * w) code || ltb 64 many) ≡ true
+    → (j : Job) → Layout s t h j → codeCount (j .blocks) ≤ wordBits * w → w ≤ 32 → Edges (graphOf j) first succ → ((p : Point) → p < 1024 → has walked p ≡ isWalked (graphOf j) p) → LiveRows j w us ds
+live-none s t h first succ walked {code} {many} {w} e m l j y k n edges is =
+    let a : code ≤ 32 * w = omega (arith, y .code) in
+    let b : many ≤ 64 = omega (arith, y .variableLimit) in
+    absurd (true≢false (sym l ∙ ap₂ (λ (x y : Bool). x || y) (le-ltb (32 * w) code a) (le-ltb 64 many b)))
 
--- the tables have room
-pub room : (code many : ℕ) → (ltb 1024 code || ltb 64 many) ≡ false → (code ≤ 1024) × (many ≤ 64)
-room code many e = go (ltb 1024 code) (ltb 64 many) refl refl e
+-- there is room
+pub room : (most code many : ℕ) → (ltb most code || ltb 64 many) ≡ false → (code ≤ most) × (many ≤ 64)
+room most code many e = go (ltb most code) (ltb 64 many) refl refl e
   where
-    go : (a b : Bool) → ltb 1024 code ≡ a → ltb 64 many ≡ b → (a || b) ≡ false → (code ≤ 1024) × (many ≤ 64)
-    go false false p q f = (ltb-false 1024 code p, ltb-false 64 many q)
+    go : (a b : Bool) → ltb most code ≡ a → ltb 64 many ≡ b → (a || b) ≡ false → (code ≤ most) × (many ≤ 64)
+    go false false p q f = (ltb-false most code p, ltb-false 64 many q)
     go false true p q f = absurd (true≢false f)
     go true b p q f = absurd (true≢false f)

@@ -67,17 +67,16 @@ pub record ToRead (s : List ℕ) (at left x : ℕ) (ws₀ ws : List ℕ) (qs : L
 
 -- Of n sources from one place on, `left` are still to be read from another on.
 pub record Sourcing (s : List ℕ) (from : Cursor) (n : ℕ) (c : Cursor) (left x : ℕ) (ws₀ ws : List ℕ) : Type 0 where
-  pub size : length ws ≡ 4096
+  pub size : length ws ≡ length ws₀
   pub goes : (qs : List syntax.Path) (over : List ℕ) → items n path (drop (from .at) s) ≡ read qs over → ToRead s (c .at) left x ws₀ ws qs over
 
-pub sourcing-none : (s : List ℕ) (from : Cursor) (n x : ℕ) {ws : List ℕ} → length ws ≡ 4096 → Sourcing s from n from n x ws ws
-sourcing-none s from n x l = record { size = l; goes = λ qs over e. record { others = qs; reads = e; onward = λ u a. a } }
+pub sourcing-none : (s : List ℕ) (from : Cursor) (n x : ℕ) {ws : List ℕ} → Sourcing s from n from n x ws ws
+sourcing-none s from n x = record { size = refl; goes = λ qs over e. record { others = qs; reads = e; onward = λ u a. a } }
 
 module _ {s : List ℕ} {from : Cursor} {n : ℕ} {c : Cursor} {left x : ℕ} {ws₀ ws : List ℕ} (g : Sourcing s from n c left x ws₀ ws) where
   pub sourcing-all : left ≡ 0 → Sourced s from n x ws₀ ws
   sourcing-all z =
       record {
-        size = g .size;
         added = λ qs over e.
             let w = g .goes qs over e in
             let k : w .others ≡ [] = none-of path left (drop (c .at) s) z (w .reads) .0 in
@@ -88,12 +87,11 @@ module _ {s : List ℕ} {from : Cursor} {n : ℕ} {c : Cursor} {left x : ℕ} {w
     pub sourcing-stop : {k : ℕ} → r ≡ pathStep.Refused k → Sourced s from n x ws₀ ws
     sourcing-stop i =
         record {
-          size = g .size;
           added = λ qs over e. absurd (clash (sym (told (pathSays s) says i) ∙ first-of path left (drop (c .at) s) z (g .goes qs over e .reads) .first));
         }
 
-    pub sourcing-more : {q : Path} {next : Cursor} {u : List ℕ} → r ≡ pathStep.Path q next → length u ≡ 4096 → Added x (inHalf 0 (q .base .0 ∷ [])) ws u → Sourcing s from n next (left - 1) x ws₀ u
-    sourcing-more {q} {next} {u} i l a = record { size = l; goes = λ qs over e. more qs over (g .goes qs over e) }
+    pub sourcing-more : {q : Path} {next : Cursor} {u : List ℕ} → r ≡ pathStep.Path q next → length u ≡ length ws → Added x (inHalf 0 (q .base .0 ∷ [])) ws u → Sourcing s from n next (left - 1) x ws₀ u
+    sourcing-more {q} {next} {u} i l a = record { size = l ∙ g .size; goes = λ qs over e. more qs over (g .goes qs over e) }
       where
         more : (qs : List syntax.Path) (over : List ℕ) → ToRead s (c .at) left x ws₀ ws qs over → ToRead s (next .at) (left - 1) x ws₀ u qs over
         more qs over w = record { others = f .others; reads = k .0; onward = λ v b. w .onward v (subst (λ (l : List syntax.Path). Added x (inHalf 0 (bases l)) ws v) (sym (k .1)) (added-as x (added-then x a b) (half-append 0 (q .base .0 ∷ []) (bases (f .others))))) }
@@ -117,85 +115,81 @@ module _ (x : ℕ) (b : syntax.Action) {ws : List ℕ} where
   disposing {u} {vs} e f a = added-as x a (λ n. rw (e, f) (ap (λ (c : Bool). c || inHalf 64 vs n) (half-none 0 n)))
 
 module _ (s : List ℕ) (next : Cursor) (x : ℕ) (ws : List ℕ) where
-  module _ (size : length ws ≡ 4096) where
-    pub needs-noop : Needed s actions.Noop next x ws ws
-    unfolding uses drops
-    needs-noop = record { size = size; added = λ b over e. carry (λ y o. Added x (neededBy y) ws ws) e (quiet x (syntax.Noop) refl refl) }
+  pub needs-noop : Needed s actions.Noop next x ws ws
+  unfolding uses drops
+  needs-noop = record { added = λ b over e. carry (λ y o. Added x (neededBy y) ws ws) e (quiet x (syntax.Noop) refl refl) }
 
-    pub needs-constraint : (r q : RegionName) → Needed s (actions.Constraint r q) next x ws ws
-    unfolding uses drops
-    needs-constraint r q = record { size = size; added = λ b over e. carry (λ y o. Added x (neededBy y) ws ws) e (quiet x (syntax.Constraint (r .0) (q .0)) refl refl) }
+  pub needs-constraint : (r q : RegionName) → Needed s (actions.Constraint r q) next x ws ws
+  unfolding uses drops
+  needs-constraint r q = record { added = λ b over e. carry (λ y o. Added x (neededBy y) ws ws) e (quiet x (syntax.Constraint (r .0) (q .0)) refl refl) }
 
-    pub needs-dead : (v : variables.Variable) → Needed s (actions.StorageDead v) next x ws ws
-    unfolding uses drops
-    needs-dead v = record { size = size; added = λ b over e. carry (λ y o. Added x (neededBy y) ws ws) e (quiet x (syntax.StorageDead (v .0)) refl refl) }
+  pub needs-dead : (v : variables.Variable) → Needed s (actions.StorageDead v) next x ws ws
+  unfolding uses drops
+  needs-dead v = record { added = λ b over e. carry (λ y o. Added x (neededBy y) ws ws) e (quiet x (syntax.StorageDead (v .0)) refl refl) }
 
-  pub needs-init : {u w : List ℕ} (dest : Path) (n : ℕ) → Sourced s next n x ws u → length w ≡ 4096 → Added x (inHalf 0 (writeUse (pathOf s dest))) u w → Needed s (actions.Init dest n) next x ws w
+  pub needs-init : {u w : List ℕ} (dest : Path) (n : ℕ) → Sourced s next n x ws u → Added x (inHalf 0 (writeUse (pathOf s dest))) u w → Needed s (actions.Init dest n) next x ws w
   unfolding uses drops done
-  needs-init {u} {w} dest n a l c =
+  needs-init {u} {w} dest n a c =
       record {
-        size = l;
         added = λ b over e.
             let t = then (items n path) _ (rest s next) e in
             carry (λ y o. Added x (neededBy y) ws w) (t .last)
             (spending x (syntax.Init (pathOf s dest) (t .got)) refl refl (added-as x (added-then x (a .added (t .got) (t .mid) (t .first)) c) (half-append 0 (bases (t .got)) (writeUse (pathOf s dest)))));
       }
 
-  pub needs-borrow : {u : List ℕ} (dest : Path) (r : RegionName) (k : BorrowKind) (source : Path) → length u ≡ 4096 → Added x (inHalf 0 (source .base .0 ∷ [])) ws u → Needed s (actions.Borrow dest r k source) next x ws u
+  pub needs-borrow : {u : List ℕ} (dest : Path) (r : RegionName) (k : BorrowKind) (source : Path) → Added x (inHalf 0 (source .base .0 ∷ [])) ws u → Needed s (actions.Borrow dest r k source) next x ws u
   unfolding uses drops
-  needs-borrow {u} dest r k source l a = record { size = l; added = λ b over e. carry (λ y o. Added x (neededBy y) ws u) e (spending x (syntax.Borrow (pathOf s dest) (r .0) (borrowKindOf k) (pathOf s source)) refl refl a) }
+  needs-borrow {u} dest r k source a = record { added = λ b over e. carry (λ y o. Added x (neededBy y) ws u) e (spending x (syntax.Borrow (pathOf s dest) (r .0) (borrowKindOf k) (pathOf s source)) refl refl a) }
 
-  pub needs-assign : {u w : List ℕ} (dest source : Path) → Added x (inHalf 0 (source .base .0 ∷ [])) ws u → length w ≡ 4096 → Added x (inHalf 0 (writeUse (pathOf s dest))) u w → Needed s (actions.Assign dest source) next x ws w
+  pub needs-assign : {u w : List ℕ} (dest source : Path) → Added x (inHalf 0 (source .base .0 ∷ [])) ws u → Added x (inHalf 0 (writeUse (pathOf s dest))) u w → Needed s (actions.Assign dest source) next x ws w
   unfolding uses drops
-  needs-assign {u} {w} dest source a l c =
+  needs-assign {u} {w} dest source a c =
       record {
-        size = l;
         added = λ b over e. carry (λ y o. Added x (neededBy y) ws w) e
             (spending x (syntax.Assign (pathOf s dest) (pathOf s source)) refl refl (added-as x (added-then x a c) (half-append 0 (source .base .0 ∷ []) (writeUse (pathOf s dest)))));
       }
 
-  pub needs-use : {u : List ℕ} (q : Path) → length u ≡ 4096 → Added x (inHalf 0 (q .base .0 ∷ [])) ws u → Needed s (actions.Use q) next x ws u
+  pub needs-use : {u : List ℕ} (q : Path) → Added x (inHalf 0 (q .base .0 ∷ [])) ws u → Needed s (actions.Use q) next x ws u
   unfolding uses drops
-  needs-use {u} q l a = record { size = l; added = λ b over e. carry (λ y o. Added x (neededBy y) ws u) e (spending x (syntax.Use (pathOf s q)) refl refl a) }
+  needs-use {u} q a = record { added = λ b over e. carry (λ y o. Added x (neededBy y) ws u) e (spending x (syntax.Use (pathOf s q)) refl refl a) }
 
-  pub needs-drop : {u : List ℕ} (q : Path) → length u ≡ 4096 → Added x (inHalf 64 (q .base .0 ∷ [])) ws u → Needed s (actions.Drop q) next x ws u
+  pub needs-drop : {u : List ℕ} (q : Path) → Added x (inHalf 64 (q .base .0 ∷ [])) ws u → Needed s (actions.Drop q) next x ws u
   unfolding uses drops
-  needs-drop {u} q l a = record { size = l; added = λ b over e. carry (λ y o. Added x (neededBy y) ws u) e (disposing x (syntax.Drop (pathOf s q)) refl refl a) }
+  needs-drop {u} q a = record { added = λ b over e. carry (λ y o. Added x (neededBy y) ws u) e (disposing x (syntax.Drop (pathOf s q)) refl refl a) }
 
   -- ---- What an action defines
 
-  module _ (size : length ws ≡ 4096) where
-    still : Removed x (inEither []) ws ws
-    still = removed-none x ws (λ n. ap₂ (λ (c d : Bool). c || d) (half-none 0 n) (half-none 64 n))
+  still : Removed x (inEither []) ws ws
+  still = removed-none x ws (λ n. ap₂ (λ (c d : Bool). c || d) (half-none 0 n) (half-none 64 n))
 
-    pub defines-noop : Defined s actions.Noop next x ws ws
-    unfolding defs
-    defines-noop = record { size = size; removed = λ b over e. carry (λ y o. Removed x (inEither (defs y)) ws ws) e still }
+  pub defines-noop : Defined s actions.Noop next x ws ws
+  unfolding defs
+  defines-noop = record { removed = λ b over e. carry (λ y o. Removed x (inEither (defs y)) ws ws) e still }
 
-    pub defines-constraint : (r q : RegionName) → Defined s (actions.Constraint r q) next x ws ws
-    unfolding defs
-    defines-constraint r q = record { size = size; removed = λ b over e. carry (λ y o. Removed x (inEither (defs y)) ws ws) e still }
+  pub defines-constraint : (r q : RegionName) → Defined s (actions.Constraint r q) next x ws ws
+  unfolding defs
+  defines-constraint r q = record { removed = λ b over e. carry (λ y o. Removed x (inEither (defs y)) ws ws) e still }
 
-    pub defines-use : (q : Path) → Defined s (actions.Use q) next x ws ws
-    unfolding defs
-    defines-use q = record { size = size; removed = λ b over e. carry (λ y o. Removed x (inEither (defs y)) ws ws) e still }
+  pub defines-use : (q : Path) → Defined s (actions.Use q) next x ws ws
+  unfolding defs
+  defines-use q = record { removed = λ b over e. carry (λ y o. Removed x (inEither (defs y)) ws ws) e still }
 
-    pub defines-drop : (q : Path) → Defined s (actions.Drop q) next x ws ws
-    unfolding defs
-    defines-drop q = record { size = size; removed = λ b over e. carry (λ y o. Removed x (inEither (defs y)) ws ws) e still }
+  pub defines-drop : (q : Path) → Defined s (actions.Drop q) next x ws ws
+  unfolding defs
+  defines-drop q = record { removed = λ b over e. carry (λ y o. Removed x (inEither (defs y)) ws ws) e still }
 
-    pub defines-dead : (v : variables.Variable) → Defined s (actions.StorageDead v) next x ws ws
-    unfolding defs
-    defines-dead v = record { size = size; removed = λ b over e. carry (λ y o. Removed x (inEither (defs y)) ws ws) e still }
+  pub defines-dead : (v : variables.Variable) → Defined s (actions.StorageDead v) next x ws ws
+  unfolding defs
+  defines-dead v = record { removed = λ b over e. carry (λ y o. Removed x (inEither (defs y)) ws ws) e still }
 
-  pub defines-init : {u : List ℕ} (dest : Path) (n : ℕ) → length u ≡ 4096 → Removed x (inEither (writeDef (pathOf s dest))) ws u → Defined s (actions.Init dest n) next x ws u
+  pub defines-init : {u : List ℕ} (dest : Path) (n : ℕ) → Removed x (inEither (writeDef (pathOf s dest))) ws u → Defined s (actions.Init dest n) next x ws u
   unfolding defs done
-  defines-init {u} dest n l a = record { size = l; removed = λ b over e. let t = then (items n path) _ (rest s next) e in carry (λ y o. Removed x (inEither (defs y)) ws u) (t .last) a }
+  defines-init {u} dest n a = record { removed = λ b over e. let t = then (items n path) _ (rest s next) e in carry (λ y o. Removed x (inEither (defs y)) ws u) (t .last) a }
 
-  pub defines-borrow : {u : List ℕ} (dest : Path) (r : RegionName) (k : BorrowKind) (source : Path) → length u ≡ 4096 → Removed x (inEither (dest .base .0 ∷ [])) ws u → Defined s (actions.Borrow dest r k source) next x ws u
+  pub defines-borrow : {u : List ℕ} (dest : Path) (r : RegionName) (k : BorrowKind) (source : Path) → Removed x (inEither (dest .base .0 ∷ [])) ws u → Defined s (actions.Borrow dest r k source) next x ws u
   unfolding defs
-  defines-borrow {u} dest r k source l a = record { size = l; removed = λ b over e. carry (λ y o. Removed x (inEither (defs y)) ws u) e a }
+  defines-borrow {u} dest r k source a = record { removed = λ b over e. carry (λ y o. Removed x (inEither (defs y)) ws u) e a }
 
-  pub defines-assign : {u : List ℕ} (dest source : Path) → length u ≡ 4096 → Removed x (inEither (writeDef (pathOf s dest))) ws u → Defined s (actions.Assign dest source) next x ws u
+  pub defines-assign : {u : List ℕ} (dest source : Path) → Removed x (inEither (writeDef (pathOf s dest))) ws u → Defined s (actions.Assign dest source) next x ws u
   unfolding defs
-  defines-assign {u} dest source l a = record { size = l; removed = λ b over e. carry (λ y o. Removed x (inEither (defs y)) ws u) e a }
+  defines-assign {u} dest source a = record { removed = λ b over e. carry (λ y o. Removed x (inEither (defs y)) ws u) e a }

@@ -34,48 +34,38 @@ neededBy a b = inHalf 0 (uses a) b || inHalf 64 (drops a) b
 
 -- The numbers that f holds are put into point x's set.
 pub record Added (x : Point) (f : ℕ → Bool) (ws ws′ : List ℕ) : Type 0 where
-  pub bits : (p b : ℕ) → p < 1024 → b < 128 → has ws′ (bitAt p b) ≡ (has ws (bitAt p b) || (eqb p x && f b))
+  pub bits : (p b : ℕ) → b < 128 → has ws′ (bitAt p b) ≡ (has ws (bitAt p b) || (eqb p x && f b))
 
 -- The numbers that f holds are taken out of point x's set.
 pub record Removed (x : Point) (f : ℕ → Bool) (ws ws′ : List ℕ) : Type 0 where
-  pub bits : (p b : ℕ) → p < 1024 → b < 128 → has ws′ (bitAt p b) ≡ (has ws (bitAt p b) && not (eqb p x && f b))
+  pub bits : (p b : ℕ) → b < 128 → has ws′ (bitAt p b) ≡ (has ws (bitAt p b) && not (eqb p x && f b))
 
 -- What an Init's sources use is put into point x's set.
 pub record Sourced (s : List ℕ) (from : Cursor) (n : ℕ) (x : Point) (ws ws′ : List ℕ) : Type 0 where
-  pub size : length ws′ ≡ 4096
   pub added : (qs : List syntax.Path) (over : List ℕ) → items n path (drop (from .at) s) ≡ read qs over → Added x (inHalf 0 (map (λ q. q .base) qs)) ws ws′
 
 -- What an action uses and drops is put into point x's set.
 pub record Needed (s : List ℕ) (a : Action) (next : Cursor) (x : Point) (ws ws′ : List ℕ) : Type 0 where
-  pub size : length ws′ ≡ 4096
   pub added : (b : syntax.Action) (over : List ℕ) → actionSays s (actionStep.Action a next) ≡ read b over → Added x (neededBy b) ws ws′
 
 -- What an action defines is taken out of point x's set.
 pub record Defined (s : List ℕ) (a : Action) (next : Cursor) (x : Point) (ws ws′ : List ℕ) : Type 0 where
-  pub size : length ws′ ≡ 4096
   pub removed : (b : syntax.Action) (over : List ℕ) → actionSays s (actionStep.Action a next) ≡ read b over → Removed x (inEither (defs b)) ws ws′
 
 -- Both sets, the one that numbers start in and the one that they pass, have what the actions of the points below n say.
 pub record Filled (j : Job) (n : ℕ) (sets pass : List ℕ) : Type 0 where
-  pub starts : (p b : ℕ) → p < 1024 → b < 128 → has sets (bitAt p b) ≡ (ltb p n && neededBy (actionAt (graphOf j) p) b)
-  pub passes : (p b : ℕ) → p < 1024 → b < 128 → has pass (bitAt p b) ≡ not (ltb p n && inEither (defs (actionAt (graphOf j) p)) b)
+  pub starts : (p b : ℕ) → p < codeCount (j .blocks) → b < 128 → has sets (bitAt p b) ≡ (ltb p n && neededBy (actionAt (graphOf j) p) b)
+  pub passes : (p b : ℕ) → p < codeCount (j .blocks) → b < 128 → has pass (bitAt p b) ≡ not (ltb p n && inEither (defs (actionAt (graphOf j) p)) b)
 
--- Both sets have their sizes.
-pub record Sized (sets pass : List ℕ) : Type 0 where
-  pub starts : length sets ≡ 4096
-  pub passes : length pass ≡ 4096
-
--- Nothing starts, and everything passes.
-pub record Blank (sets pass : List ℕ) : Type 0 where
-  pub starts : (p b : ℕ) → p < 1024 → b < 128 → has sets (bitAt p b) ≡ false
-  pub passes : (p b : ℕ) → p < 1024 → b < 128 → has pass (bitAt p b) ≡ true
+-- Nothing starts at the points below n, and everything passes them.
+pub record Blank (n : ℕ) (sets pass : List ℕ) : Type 0 where
+  pub starts : (p b : ℕ) → p < n → b < 128 → has sets (bitAt p b) ≡ false
+  pub passes : (p b : ℕ) → p < n → b < 128 → has pass (bitAt p b) ≡ true
 
 -- The action of point x is done.
 pub record Acted (s t : List ℕ) (x : Point) (sets pass sets′ pass′ : List ℕ) : Type 0 where
-  pub sized : Sized sets′ pass′
   pub filled : (h : Head) (j : Job) → Layout s t h j → x < codeCount (j .blocks) → Filled j x sets pass → Filled j (x + 1) sets′ pass′
 
 -- Those of all points are.
 pub record AllActed (s t : List ℕ) (code : ℕ) (sets pass : List ℕ) : Type 0 where
-  pub sized : Sized sets pass
   pub filled : (h : Head) (j : Job) → Layout s t h j → code ≡ codeCount (j .blocks) → Filled j code sets pass

@@ -1,4 +1,4 @@
--- The rows of liveness by variable: 32 words a variable, number p of which is point p.
+-- The rows of liveness by variable: so many words a variable, number p of which is point p.
 use mathlib.Core.Path.{_≡_}
 use mathlib.Core.Bool.{_&&_, _||_}
 use mathlib.Core.List.{List}
@@ -13,21 +13,20 @@ use Rattle.nll_spec.specs.Output.{wordBits}
 use Rattle.bit_set.specs.Bits.{has}
 use Rattle.flow.specs.Flows.{bitAt}
 
--- where point p of variable v's row stands in the words
-abbrev pub rowBit : Variable → Point → ℕ
-rowBit v p = wordBits * (32 * v) + p
+-- where point p of variable v's row stands, with w words a row
+abbrev pub rowBit : ℕ → Variable → Point → ℕ
+rowBit w v p = wordBits * (v * w) + p
 
 -- Point x is put into the row of each of the first n variables that is in the half of its set that begins at `from`.
-pub record Column (n from : ℕ) (x : Point) (sets rows rows′ : List ℕ) : Type 0 where
-  pub size : length rows′ ≡ 2048
-  pub bits : (v p : ℕ) → v < 64 → p < 1024 → has rows′ (rowBit v p) ≡ (has rows (rowBit v p) || (eqb p x && (ltb v n && has sets (bitAt x (from + v)))))
+pub record Column (w n from : ℕ) (x : Point) (sets rows rows′ : List ℕ) : Type 0 where
+  pub size : length rows′ ≡ length rows
+  pub bits : (v p : ℕ) → p < wordBits * w → has rows′ (rowBit w v p) ≡ (has rows (rowBit w v p) || (eqb p x && (ltb v n && has sets (bitAt x (from + v)))))
 
 -- The rows of so many variables have the walked points below n that have the variable in that half of their sets.
-pub record Columns (many n from : ℕ) (walked sets rows : List ℕ) : Type 0 where
-  pub size : length rows ≡ 2048
-  pub bits : (v p : ℕ) → v < many → p < 1024 → has rows (rowBit v p) ≡ (ltb p n && (has walked p && has sets (bitAt p (from + v))))
+pub record Columns (w many n from : ℕ) (walked sets rows : List ℕ) : Type 0 where
+  pub bits : (v p : ℕ) → v < many → p < wordBits * w → has rows (rowBit w v p) ≡ (ltb p n && (has walked p && has sets (bitAt p (from + v))))
 
 -- The rows say at which walked points each variable is used later, and at which it is dropped later.
-pub record LiveRows (j : Job) (us ds : List ℕ) : Type 0 where
-  pub used : (v p : ℕ) → v < length (j .variables) → p < 1024 → has us (rowBit v p) ≡ (isWalked (graphOf j) p && holds (liveTable uses j (graphOf j)) v p)
-  pub dropped : (v p : ℕ) → v < length (j .variables) → p < 1024 → has ds (rowBit v p) ≡ (isWalked (graphOf j) p && holds (liveTable drops j (graphOf j)) v p)
+pub record LiveRows (j : Job) (w : ℕ) (us ds : List ℕ) : Type 0 where
+  pub used : (v p : ℕ) → v < length (j .variables) → p < wordBits * w → has us (rowBit w v p) ≡ (isWalked (graphOf j) p && holds (liveTable uses j (graphOf j)) v p)
+  pub dropped : (v p : ℕ) → v < length (j .variables) → p < wordBits * w → has ds (rowBit w v p) ≡ (isWalked (graphOf j) p && holds (liveTable drops j (graphOf j)) v p)

@@ -9,16 +9,16 @@ use repr::PathStep;
 use repr::Variable;
 ghost use mathlib.Core.Path.{_≡_};
 ghost use mathlib.Core.List.{[], _∷_};
-ghost use Prim.Native.Nat.{_<_, _≤_};
+ghost use Prim.Native.Nat.{_+_, _*_, _<_, _≤_};
 ghost use lib.ListN.{length};
 ghost use Rattle.nll_spec.specs.Liveness.{isPlain, writeDef, writeUse};
 ghost use Rattle.repr.specs.Reading.{pathOf};
-ghost use Rattle.liveness.specs.Needs.{inHalf, inEither, Added, Removed, Sourced, Needed, Defined, Sized, Blank, Acted, AllActed};
+ghost use Rattle.liveness.specs.Needs.{inHalf, inEither, Added, Removed, Sourced, Needed, Defined, Blank, Acted, AllActed};
 
 // Puts a variable into point p's set, in the half of 64 numbers that begins at `from`.
-fn add(sets: &mut [u32; 4096], p: usize, from: usize, v: Variable)
-    requires { ⌜ (p < 1024) × (from ≤ 64) × (length (now sets) ≡ 4096) ⌝ }
-    ensures { λ _. ⌜ (length (now (sets .exit)) ≡ 4096) × Added p (inHalf from (v .0 ∷ [])) (now (sets .entry)) (now (sets .exit)) ⌝ }
+fn add(sets: &mut [u32], p: usize, from: usize, v: Variable)
+    requires { ⌜ (4 * p + 4 ≤ length (now sets)) × (from ≤ 64) ⌝ }
+    ensures { λ _. ⌜ Added p (inHalf from (v .0 ∷ [])) (now (sets .entry)) (now (sets .exit)) ⌝ }
 {
     let k = wide8(v.0);
     if 64 <= k {
@@ -28,9 +28,9 @@ fn add(sets: &mut [u32; 4096], p: usize, from: usize, v: Variable)
 }
 
 // Takes a variable out of both halves of point p's set.
-fn kill(pass: &mut [u32; 4096], p: usize, v: Variable)
-    requires { ⌜ (p < 1024) × (length (now pass) ≡ 4096) ⌝ }
-    ensures { λ _. ⌜ (length (now (pass .exit)) ≡ 4096) × Removed p (inEither (v .0 ∷ [])) (now (pass .entry)) (now (pass .exit)) ⌝ }
+fn kill(pass: &mut [u32], p: usize, v: Variable)
+    requires { ⌜ p < 1024 ⌝ }
+    ensures { λ _. ⌜ Removed p (inEither (v .0 ∷ [])) (now (pass .entry)) (now (pass .exit)) ⌝ }
 {
     let k = wide8(v.0);
     if 64 <= k {
@@ -52,9 +52,9 @@ fn plain(s: &[u8], p: Path) -> bool
 }
 
 // Writing to a path with steps uses its base.
-fn write_use(s: &[u8], sets: &mut [u32; 4096], p: usize, dest: Path)
-    requires { ⌜ (p < 1024) × (length (now sets) ≡ 4096) ⌝ }
-    ensures { λ _. ⌜ (length (now (sets .exit)) ≡ 4096) × Added p (inHalf 0 (writeUse (pathOf (now (s .entry)) dest))) (now (sets .entry)) (now (sets .exit)) ⌝ }
+fn write_use(s: &[u8], sets: &mut [u32], p: usize, dest: Path)
+    requires { ⌜ 4 * p + 4 ≤ length (now sets) ⌝ }
+    ensures { λ _. ⌜ Added p (inHalf 0 (writeUse (pathOf (now (s .entry)) dest))) (now (sets .entry)) (now (sets .exit)) ⌝ }
 {
     if plain(s, dest) {
         return;
@@ -63,9 +63,9 @@ fn write_use(s: &[u8], sets: &mut [u32; 4096], p: usize, dest: Path)
 }
 
 // Writing to a variable defines it.
-fn write_def(s: &[u8], pass: &mut [u32; 4096], p: usize, dest: Path)
-    requires { ⌜ (p < 1024) × (length (now pass) ≡ 4096) ⌝ }
-    ensures { λ _. ⌜ (length (now (pass .exit)) ≡ 4096) × Removed p (inEither (writeDef (pathOf (now (s .entry)) dest))) (now (pass .entry)) (now (pass .exit)) ⌝ }
+fn write_def(s: &[u8], pass: &mut [u32], p: usize, dest: Path)
+    requires { ⌜ p < 1024 ⌝ }
+    ensures { λ _. ⌜ Removed p (inEither (writeDef (pathOf (now (s .entry)) dest))) (now (pass .entry)) (now (pass .exit)) ⌝ }
 {
     if plain(s, dest) {
         kill(pass, p, dest.base);
@@ -73,8 +73,8 @@ fn write_def(s: &[u8], pass: &mut [u32; 4096], p: usize, dest: Path)
 }
 
 // What so many paths use, the sources of an Init.
-fn sources(s: &[u8], from: Cursor, count: u8, sets: &mut [u32; 4096], p: usize)
-    requires { ⌜ (p < 1024) × (length (now sets) ≡ 4096) ⌝ }
+fn sources(s: &[u8], from: Cursor, count: u8, sets: &mut [u32], p: usize)
+    requires { ⌜ 4 * p + 4 ≤ length (now sets) ⌝ }
     ensures { λ _. ⌜ Sourced (now (s .entry)) from count p (now (sets .entry)) (now (sets .exit)) ⌝ }
 {
     let mut c = from;
@@ -92,8 +92,8 @@ fn sources(s: &[u8], from: Cursor, count: u8, sets: &mut [u32; 4096], p: usize)
 }
 
 // What an action uses and drops. An Init's sources stand at the cursor.
-fn needs(s: &[u8], a: Action, next: Cursor, sets: &mut [u32; 4096], p: usize)
-    requires { ⌜ (p < 1024) × (length (now sets) ≡ 4096) ⌝ }
+fn needs(s: &[u8], a: Action, next: Cursor, sets: &mut [u32], p: usize)
+    requires { ⌜ 4 * p + 4 ≤ length (now sets) ⌝ }
     ensures { λ _. ⌜ Needed (now (s .entry)) a next p (now (sets .entry)) (now (sets .exit)) ⌝ }
 {
     match a {
@@ -120,8 +120,8 @@ fn needs(s: &[u8], a: Action, next: Cursor, sets: &mut [u32; 4096], p: usize)
 }
 
 // What an action defines.
-fn defines(s: &[u8], a: Action, next: Cursor, pass: &mut [u32; 4096], p: usize)
-    requires { ⌜ (p < 1024) × (length (now pass) ≡ 4096) ⌝ }
+fn defines(s: &[u8], a: Action, next: Cursor, pass: &mut [u32], p: usize)
+    requires { ⌜ p < 1024 ⌝ }
     ensures { λ _. ⌜ Defined (now (s .entry)) a next p (now (pass .entry)) (now (pass .exit)) ⌝ }
 {
     match a {
@@ -142,8 +142,8 @@ fn defines(s: &[u8], a: Action, next: Cursor, pass: &mut [u32; 4096], p: usize)
 }
 
 // The action of point p.
-fn act(s: &[u8], layout: &[u16; 1280], p: usize, sets: &mut [u32; 4096], pass: &mut [u32; 4096])
-    requires { ⌜ (p < 1024) × (length (now layout) ≡ 1280) × Sized (now sets) (now pass) ⌝ }
+fn act(s: &[u8], layout: &[u16; 1280], p: usize, sets: &mut [u32], pass: &mut [u32])
+    requires { ⌜ (p < 1024) × (length (now layout) ≡ 1280) × (4 * p + 4 ≤ length (now sets)) ⌝ }
     ensures { λ _. ⌜ Acted (now (s .entry)) (now (layout .entry)) p (now (sets .entry)) (now (pass .entry)) (now (sets .exit)) (now (pass .exit)) ⌝ }
 {
     match action_at(s, layout, p) {
@@ -156,14 +156,8 @@ fn act(s: &[u8], layout: &[u16; 1280], p: usize, sets: &mut [u32; 4096], pass: &
 }
 
 // The actions of all points.
-pub fn fill(
-    s: &[u8],
-    layout: &[u16; 1280],
-    code: usize,
-    sets: &mut [u32; 4096],
-    pass: &mut [u32; 4096],
-)
-    requires { ⌜ (code ≤ 1024) × (length (now layout) ≡ 1280) × Sized (now sets) (now pass) × Blank (now sets) (now pass) ⌝ }
+pub fn fill(s: &[u8], layout: &[u16; 1280], code: usize, sets: &mut [u32], pass: &mut [u32])
+    requires { ⌜ (code ≤ 1024) × (length (now layout) ≡ 1280) × (4 * code ≤ length (now sets)) × Blank code (now sets) (now pass) ⌝ }
     ensures { λ _. ⌜ AllActed (now (s .entry)) (now (layout .entry)) code (now (sets .exit)) (now (pass .exit)) ⌝ }
 {
     let mut p = 0;

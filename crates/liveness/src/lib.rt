@@ -7,13 +7,17 @@ use flow::Direction;
 use record::Head;
 use rows::rows;
 ghost use mathlib.Core.Path.{_≡_};
-ghost use Prim.Native.Nat.{_<_};
+ghost use Prim.Native.Nat.{_*_, _<_, _≤_};
 ghost use lib.ListN.{length};
 ghost use Rattle.nll_spec.specs.Syntax.{Job, Point};
 ghost use Rattle.nll_spec.specs.Graph.{graphOf, isWalked};
+ghost use Rattle.nll_spec.specs.Decode.{codeCount};
+ghost use Rattle.nll_spec.specs.Output.{wordBits};
 ghost use Rattle.record.specs.Layout.{Layout};
+ghost use Rattle.record.specs.declared.Head as heads;
 ghost use Rattle.bit_set.specs.Bits.{has};
 ghost use Rattle.graph.specs.Tables.{Edges};
+ghost use Rattle.liveness.specs.Needs.{Blank};
 ghost use Rattle.liveness.specs.Rows.{LiveRows};
 
 fn wide8(x: u8) -> usize
@@ -28,7 +32,34 @@ fn wide(x: u16) -> usize
     x as usize
 }
 
-// Fills the rows of a job of the record, 32 words a variable.
+// Fills the rows of so many variables, by two tables of the points' sets: nothing starts yet, and everything passes.
+fn compute(
+    s: &[u8],
+    layout: &[u16; 1280],
+    first: &[u16; 1025],
+    succ: &[u16; 1536],
+    walked: &[u32; 32],
+    code: usize,
+    many: usize,
+    width: usize,
+    sets: &mut [u32],
+    pass: &mut [u32],
+    used: &mut [u32],
+    dropped: &mut [u32],
+)
+    requires { ⌜ (length (now layout) ≡ 1280) × (code ≤ 32 * width) × (width ≤ 32) × (many ≤ 64) × Blank code (now sets) (now pass)
+        × (4 * code ≤ length (now sets)) × (4 * code ≤ length (now pass)) × (64 * width ≤ length (now used)) × (64 * width ≤ length (now dropped)) ⌝ }
+    ensures { λ _. ⌜ ((h : heads.Head) (j : Job) → code ≡ h .code → many ≡ h .variables → Layout (now (s .entry)) (now (layout .entry)) h j
+        → Edges (graphOf j) (now (first .entry)) (now (succ .entry)) → ((p : Point) → p < 1024 → has (now (walked .entry)) p ≡ isWalked (graphOf j) p)
+        → LiveRows j width (now (used .exit)) (now (dropped .exit))) ⌝ }
+{
+    fill(s, layout, code, sets, pass);
+    flow::flow(sets, pass, first, succ, code, Direction::Backward);
+    rows(sets, walked, code, 0, many, width, used);
+    rows(sets, walked, code, 64, many, width, dropped);
+}
+
+// Fills the rows of a job of the record, `width` words a variable, if that is enough for its points.
 pub fn liveness(
     s: &[u8],
     layout: &[u16; 1280],
@@ -36,23 +67,56 @@ pub fn liveness(
     first: &[u16; 1025],
     succ: &[u16; 1536],
     walked: &[u32; 32],
-    used: &mut [u32; 2048],
-    dropped: &mut [u32; 2048],
+    width: usize,
+    used: &mut [u32],
+    dropped: &mut [u32],
 )
-    requires { ⌜ (length (now layout) ≡ 1280) × (length (now used) ≡ 2048) × (length (now dropped) ≡ 2048) ⌝ }
-    ensures { λ _. ⌜ (length (now (used .exit)) ≡ 2048) × (length (now (dropped .exit)) ≡ 2048) × ((j : Job) → Layout (now (s .entry)) (now (layout .entry)) head j
+    requires { ⌜ (length (now layout) ≡ 1280) × (width ≤ 32 → 64 * width ≤ length (now used)) × (width ≤ 32 → 64 * width ≤ length (now dropped)) ⌝ }
+    ensures { λ _. ⌜ ((j : Job) → Layout (now (s .entry)) (now (layout .entry)) head j → codeCount (j .blocks) ≤ wordBits * width → width ≤ 32
         → Edges (graphOf j) (now (first .entry)) (now (succ .entry)) → ((p : Point) → p < 1024 → has (now (walked .entry)) p ≡ isWalked (graphOf j) p)
-        → LiveRows j (now (used .exit)) (now (dropped .exit))) ⌝ }
+        → LiveRows j width (now (used .exit)) (now (dropped .exit))) ⌝ }
 {
     let code = wide(head.code);
     let many = wide8(head.variables);
-    if (1024 < code) | (64 < many) {
+    if 32 < width {
         return;
     }
-    let mut sets = [0; 4096];
-    let mut pass = [4294967295; 4096];
-    fill(s, layout, code, &mut sets, &mut pass);
-    flow::flow(&mut sets, &pass, first, succ, code, Direction::Backward);
-    rows(&sets, walked, code, 0, many, used);
-    rows(&sets, walked, code, 64, many, dropped);
+    if (32 * width < code) | (64 < many) {
+        return;
+    }
+    if code <= 64 {
+        let mut sets = [0; 256];
+        let mut pass = [4294967295; 256];
+        compute(
+            s,
+            layout,
+            first,
+            succ,
+            walked,
+            code,
+            many,
+            width,
+            &mut sets,
+            &mut pass,
+            used,
+            dropped,
+        );
+    } else {
+        let mut sets = [0; 4096];
+        let mut pass = [4294967295; 4096];
+        compute(
+            s,
+            layout,
+            first,
+            succ,
+            walked,
+            code,
+            many,
+            width,
+            &mut sets,
+            &mut pass,
+            used,
+            dropped,
+        );
+    }
 }

@@ -56,8 +56,8 @@ places : (p q i k : ℕ) → i < 128 → k < 128 → bitAt q k ≡ bitAt p i →
 places p q i k l m e = (omega arith, omega arith)
 
 module _ (ws : List ℕ) (p i : ℕ) {comes : Bool} where
-  pub gains-with : length ws ≡ 4096 → p < 1024 → i < 128 → comes ≡ true → Gains (If (Cell p i) comes) ws (withBit ws (bitAt p i))
-  gains-with size l m c =
+  pub gains-with : 4 * p + 4 ≤ length ws → i < 128 → comes ≡ true → Gains (If (Cell p i) comes) ws (withBit ws (bitAt p i))
+  gains-with size m c =
       record {
         as-long = length-with ws (bitAt p i);
         old = λ q k n h. old q k h (ℕ-discrete (bitAt q k) (bitAt p i));
@@ -144,8 +144,8 @@ module _ (f : Point → ℕ → Bits) (t : Tables) (n : ℕ) where
 -- ---- Numbers that go to the points that follow
 
 module _ (ws from : List ℕ) (code p q : ℕ) where
-  pub gains-joined : length ws ≡ 4096 → length from ≡ 4096 → code ≤ 1024 → p < code → q < code → Gains (Onto from code p q) ws (joined ws (4 * q) from (4 * p) 4)
-  gains-joined size sized few l m =
+  pub gains-joined : 4 * code ≤ length ws → 4 * code ≤ length from → p < code → q < code → Gains (Onto from code p q) ws (joined ws (4 * q) from (4 * p) 4)
+  gains-joined size sized l m =
       record {
         as-long = length-joined ws (4 * q) from (4 * p) 4;
         old = λ x i n h. old x i n h (ℕ-discrete x q);

@@ -36,7 +36,7 @@ use Rattle.repr.proofs.SpellLaws.{done-back, then}
 use Rattle.loans.specs.Loans.{loanOf}
 use Rattle.loans.specs.Table.{entryOf}
 use Rattle.loans.specs.declared.Loan.{Loan}
-use Rattle.loans_in_scope.specs.Gains.{Gains, Tables, tables, Sized, Filled, Cell, If, always, Cells}
+use Rattle.loans_in_scope.specs.Gains.{Gains, Tables, tables, Sized, AsLong, Filled, Cell, If, always, Cells}
 use Rattle.loans_in_scope.specs.Scope.{overwrittenBy, pathsOf, killed, bitsOf, insideOf, entryBits, jobBits, Given, PointFilled, PointsFilled}
 use Rattle.loans_in_scope.specs.declared.Overwritten.{Overwritten}
 use Rattle.loans_in_scope.specs.declared.Overwritten.the-variants.{At, Nothing}
@@ -138,9 +138,17 @@ not-entered s words width d loan p i t {inside} e h j = go (insideOf words width
     go false true n = absurd (true≢false (sym n))
     go false false n = record { start = gains-not (t .start) p i refl; pass = gains-not (t .pass) p i refl; region = gains-not (t .region) p i refl }
 
-pub sized-then : {start pass region start′ pass′ region′ : List ℕ} {F G H : Point → ℕ → Type 0} → Sized (tables start pass region) → Gains F start start′ → Gains G pass pass′ → Gains H region region′
-    → Sized (tables start′ pass′ region′)
-sized-then s x y z = record { start = x .as-long ∙ s .start; pass = y .as-long ∙ s .pass; region = z .as-long ∙ s .region }
+-- ---- The tables' lengths
+
+pub as-long-none : {a : Tables} → AsLong a a
+as-long-none = record { start = refl; pass = refl; region = refl }
+
+pub sized-kept : {n : ℕ} {a b : Tables} → Sized n a → AsLong a b → Sized n b
+sized-kept s k = record { start = omega (arith, s .start, k .start); pass = omega (arith, s .pass, k .pass); region = omega (arith, s .region, k .region) }
+
+-- for fewer points
+pub sized-below : {n m : ℕ} {t : Tables} → m ≤ n → Sized n t → Sized m t
+sized-below l s = record { start = omega (arith, s .start); pass = omega (arith, s .pass); region = omega (arith, s .region) }
 
 -- ---- Whether a loan is killed
 
@@ -163,24 +171,23 @@ module _ (s words : List ℕ) (width : ℕ) (table : List ℕ) (d : Overwritten)
       cells-more (entryBits j s words width table d) a p i (f j)
       (filled-as (y j) (λ q k w. w) (λ q k w. w) (λ q k w. rw (w .0, w .1, e)))
 
-  pub entries-all : {t : List ℕ} {count : ℕ} {a b : Tables} (i : ℕ) → i ≤ count → count ≤ i → Sized b
+  pub entries-all : {t : List ℕ} {count : ℕ} {a b : Tables} (i : ℕ) → i ≤ count → count ≤ i
       → ((h : Head) (j : Job) → Layout s t h j → p < codeCount (j .blocks) → pathsOf s d ≡ overwritten (actionAt (graphOf j) p))
       → ((j : Job) → Filled (Cells p i) (entryBits j s words width table d) a b) → PointFilled s t words width table count p a b
-  entries-all {t} {count} i l m z over f =
+  entries-all {t} {count} i l m over f =
       record {
-        sized = z;
         bits = λ h j sets g n.
             filled-as (f j) (λ q k w. (w .0, omega (arith, w .1))) (λ q k w. (w .0, omega (arith, w .1)))
             (λ q k w. rw (w .0) (bits-same g d p k (omega (arith, w .1)) n (over h j (g .layout) n)));
       }
 
 module _ (s t words : List ℕ) (width : ℕ) (table : List ℕ) (count : ℕ) where
-  pub points-none : {a : Tables} → Sized a → PointsFilled s t words width table count 0 a a
-  points-none {a} z = record { sized = z; bits = λ h j sets g n. below-none (jobBits j sets) a count }
+  pub points-none : {a : Tables} → PointsFilled s t words width table count 0 a a
+  points-none {a} = record { bits = λ h j sets g n. below-none (jobBits j sets) a count }
 
   pub points-more : {a b c : Tables} (p : ℕ) → PointsFilled s t words width table count p a b → PointFilled s t words width table count p b c → PointsFilled s t words width table count (p + 1) a c
   points-more {a} p x y =
-      record { sized = y .sized; bits = λ h j sets g n. below-more (jobBits j sets) a count p (x .bits h j sets g (omega arith)) (y .bits h j sets g (omega arith)) }
+      record { bits = λ h j sets g n. below-more (jobBits j sets) a count p (x .bits h j sets g (omega arith)) (y .bits h j sets g (omega arith)) }
 
   pub points-all : {a b : Tables} (p code : ℕ) → p ≤ code → code ≤ p → PointsFilled s t words width table count p a b → PointsFilled s t words width table count code a b
   points-all {a} {b} p code l m x = let e : p ≡ code = omega arith in subst (λ (n : ℕ). PointsFilled s t words width table count n a b) e x

@@ -20,14 +20,14 @@ use Rattle.nll_spec.proofs.GraphLaws.{code-count}
 use Rattle.bit_set.specs.Bits.{has, cleared}
 use Rattle.bit_set.proofs.BitLaws.{digit}
 use Rattle.bit_set.proofs.RunLaws.{and-true-left, and-true-right}
-use Rattle.bit_set.proofs.SetLaws.{length-cleared, has-cleared}
+use Rattle.bit_set.proofs.SetLaws.{has-cleared}
 use Rattle.record.specs.declared.Head.{Head}
 use Rattle.graph.specs.Tables.{Edges}
 use Rattle.flow.specs.Flows.{bitAt, FlowSays}
 use Rattle.flow.specs.declared.Direction.the-variants.{Forward}
 use Rattle.flow.proofs.RunningLaws.{has-word}
 use Rattle.graph.proofs.EntryLaws.{edge-next, next-edge}
-use Rattle.loans_in_scope.specs.Gains.{Gains, tables, Sized, Filled, Below, Rows, Masked}
+use Rattle.loans_in_scope.specs.Gains.{Gains, Tables, tables, Sized, Empty, Filled, Below, Rows, Masked}
 use Rattle.loans_in_scope.specs.Scope.{killed, jobBits, Given, PointsFilled, ScopeSays}
 use Rattle.loans_in_scope.proofs.GainsLaws.{masked-has}
 use Rattle.loans_in_scope.proofs.LoanLaws.{successors-of}
@@ -35,37 +35,35 @@ use Rattle.loans_in_scope.proofs.PathLaws.{scope-to, to-scope, scope-sa
 
 -- ---- Sets that were empty
 
-abbrev zeros : List ℕ
-zeros = replicate 4096 0
-
 no-word : (n k : ℕ) → getD {A = ℕ} (replicate n 0) k 0 ≡ 0
 no-word zero k = refl
 no-word (suc n) zero = refl
 no-word (suc n) (suc k) = no-word n k
 
-no-bit : (p i : ℕ) → i < 128 → has zeros (bitAt p i) ≡ true → ⊥
-no-bit p i l e =
+no-bit : (n p i : ℕ) → i < 128 → has (replicate n 0) (bitAt p i) ≡ false
+no-bit n p i l =
     let z : wordBits * (4 * p + i / wordBits) + i % wordBits ≡ bitAt p i = omega arith in
-    true≢false (sym e ∙ ap (has zeros) (sym z) ∙ has-word zeros (4 * p + i / wordBits) (i % wordBits) (omega arith) ∙ ap (λ (x : ℕ). eqb (digit x (i % wordBits)) 1) (no-word 4096 (4 * p + i / wordBits)) ∙ zero-digit (i % wordBits))
+    ap (has (replicate n 0)) (sym z) ∙ has-word (replicate n 0) (4 * p + i / wordBits) (i % wordBits) (omega arith) ∙ ap (λ (x : ℕ). eqb (digit x (i % wordBits)) 1) (no-word n (4 * p + i / wordBits)) ∙ zero-digit (i % wordBits)
   where
     zero-digit : (b : ℕ) → eqb (digit 0 b) 1 ≡ false
     zero-digit b = ap (λ (x : ℕ). eqb (x % 2) 1) (zero-div (2 ^ b))
 
-pub sized-zeros : Sized (tables zeros zeros zeros)
-sized-zeros = record { start = length-replicate {A = ℕ} 4096 0; pass = length-replicate {A = ℕ} 4096 0; region = length-replicate {A = ℕ} 4096 0 }
+-- three tables of n words
+abbrev zeros : ℕ → Tables
+zeros n = tables (replicate n 0) (replicate n 0) (replicate n 0)
 
-pub cleared-size : (ws : List ℕ) (n : ℕ) {u : List ℕ} → length ws ≡ 4096 → u ≡ cleared ws 0 n → length u ≡ 4096
-cleared-size ws n l e = ap length e ∙ length-cleared ws 0 n ∙ l
+pub zeros-sized : (n code : ℕ) → 4 * code ≤ n → Sized code (zeros n)
+zeros-sized n code l = let e = length-replicate {A = ℕ} n 0 in record { start = omega (arith, e); pass = omega (arith, e); region = omega (arith, e) }
 
-pub gathered-size : {F : Point → ℕ → Type 0} {ws u : List ℕ} → length ws ≡ 4096 → Gains F ws u → length u ≡ 4096
-gathered-size l g = g .as-long ∙ l
+pub zeros-empty : (n : ℕ) → Empty (zeros n)
+zeros-empty n = record { start = no-bit n; pass = no-bit n; region = no-bit n }
 
-module _ {f : Point → ℕ → Bool} {code count : ℕ} {ws : List ℕ} (g : Gains (λ p i. Below code count p i × (f p i ≡ true)) zeros ws) where
+module _ {f : Point → ℕ → Bool} {code count : ℕ} {none ws : List ℕ} (empty : (p : Point) (i : ℕ) → i < 128 → has none (bitAt p i) ≡ false) (g : Gains (λ p i. Below code count p i × (f p i ≡ true)) none ws) where
   filled-has : (p i : ℕ) → p < code → i < count → i < 128 → has ws (bitAt p i) ≡ f p i
   filled-has p i l m n = go (f p i) refl (has ws (bitAt p i)) refl
     where
-      from : (has zeros (bitAt p i) ≡ true) ⊎ (Below code count p i × (f p i ≡ true)) → f p i ≡ true
-      from (inl e) = absurd (no-bit p i n e)
+      from : (has none (bitAt p i) ≡ true) ⊎ (Below code count p i × (f p i ≡ true)) → f p i ≡ true
+      from (inl e) = absurd (true≢false (sym e ∙ empty p i n))
       from (inr e) = e .1
 
       go : (a : Bool) → f p i ≡ a → (b : Bool) → has ws (bitAt p i) ≡ b → b ≡ a
@@ -80,15 +78,15 @@ unfolding kills
 killed-is j p loan = refl
 
 module _ {s t : List ℕ} {h : Head} {first succ words : List ℕ} {width : ℕ} {table : List ℕ} {count : ℕ} where
-  pub says-none : {scope : List ℕ} → length scope ≡ 4096 → ((j : Job) (sets : Table) → Given s t h words width table count j sets → ⊥) → ScopeSays s t h first succ words width table count scope
-  says-none z n = record { size = z; bits = λ j sets g e p i l m. absurd (n j sets g) }
+  pub says-none : {scope : List ℕ} → ((j : Job) (sets : Table) → Given s t h words width table count j sets → ⊥) → ScopeSays s t h first succ words width table count scope
+  says-none n = record { bits = λ j sets g e p i l m. absurd (n j sets g) }
 
   -- no loan, so that nothing is said of the words
-  pub says-empty : {scope : List ℕ} → length scope ≡ 4096 → count ≡ 0 → ScopeSays s t h first succ words width table count scope
-  says-empty z n = record { size = z; bits = λ j sets g e p i l m. absurd (omega arith) }
+  pub says-empty : {scope : List ℕ} → count ≡ 0 → ScopeSays s t h first succ words width table count scope
+  says-empty n = record { bits = λ j sets g e p i l m. absurd (omega arith) }
 
-  module _ {code : ℕ} (few-points : code ≤ 1024) (is-code : code ≡ h .code) {start pass region leaves none u scope : List ℕ} (filled : PointsFilled s t words width table count code (tables zeros zeros zeros) (tables start pass region))
-      (flows : (g : Graph) → Edges g first succ → code ≡ g .code → FlowSays g Forward pass start leaves) (ws : List ℕ) (size : length ws ≡ 4096) (empty : none ≡ cleared ws 0 (4 * code)) (gathered : Gains (Rows leaves code first succ code) none u)
+  module _ {code : ℕ} (is-code : code ≡ h .code) {blank : Tables} {start pass region leaves none u scope : List ℕ} (blanks : Empty blank) (filled : PointsFilled s t words width table count code blank (tables start pass region))
+      (flows : (g : Graph) → Edges g first succ → code ≡ g .code → FlowSays g Forward pass start leaves) (ws : List ℕ) (size : 4 * code ≤ length ws) (empty : none ≡ cleared ws 0 (4 * code)) (gathered : Gains (Rows leaves code first succ code) none u)
       (masked : Masked region u (4 * code) scope) where
     module _ (j : Job) (sets : Table) (g : Given s t h words width table count j sets) (e : Edges (graphOf j) first succ) (i : ℕ) (l : i < count) where
       same-code : code ≡ graphOf j .code
@@ -97,19 +95,19 @@ module _ {s t : List ℕ} {h : Head} {first succ words : List ℕ} {width : ℕ}
       few : i < 128
       few = omega (arith, g .loans .few)
 
-      bits : Filled (Below code count) (jobBits j sets) (tables zeros zeros zeros) (tables start pass region)
+      bits : Filled (Below code count) (jobBits j sets) blank (tables start pass region)
       bits = filled .bits h j sets g (omega (arith, is-code, g .layout .code))
 
       starts : (p : Point) → p < graphOf j .code → has start (bitAt p i) ≡ (eqb (loanNumber (loansOf (graphOf j)) i .point) p && not (kills j (actionAt (graphOf j) p) (loanNumber (loansOf (graphOf j)) i)))
-      starts p m = filled-has {f = λ p i. jobBits j sets p i .start} (bits .start) p i (omega (arith, same-code)) l few
+      starts p m = filled-has {f = λ p i. jobBits j sets p i .start} (blanks .start) (bits .start) p i (omega (arith, same-code)) l few
           ∙ ap (λ (b : Bool). eqb (loanNumber (loansOf (graphOf j)) i .point) p && not b) (sym (killed-is j p (loanNumber (loansOf (graphOf j)) i)))
 
       passes : (p : Point) → p < graphOf j .code → has pass (bitAt p i) ≡ (holds sets (loanNumber (loansOf (graphOf j)) i .region) p && not (kills j (actionAt (graphOf j) p) (loanNumber (loansOf (graphOf j)) i)))
-      passes p m = filled-has {f = λ p i. jobBits j sets p i .pass} (bits .pass) p i (omega (arith, same-code)) l few
+      passes p m = filled-has {f = λ p i. jobBits j sets p i .pass} (blanks .pass) (bits .pass) p i (omega (arith, same-code)) l few
           ∙ ap (λ (b : Bool). holds sets (loanNumber (loansOf (graphOf j)) i .region) p && not b) (sym (killed-is j p (loanNumber (loansOf (graphOf j)) i)))
 
       regions : (p : Point) → p < graphOf j .code → has region (bitAt p i) ≡ holds sets (loanNumber (loansOf (graphOf j)) i .region) p
-      regions p m = filled-has {f = λ p i. jobBits j sets p i .region} (bits .region) p i (omega (arith, same-code)) l few
+      regions p m = filled-has {f = λ p i. jobBits j sets p i .region} (blanks .region) (bits .region) p i (omega (arith, same-code)) l few
 
       abbrev Reached : Point → Type 0
       Reached q = ((p : Point) × (p < graphOf j .code) × Next (graphOf j) p q × (has leaves (bitAt p i) ≡ true)) × T (holds sets (loanNumber (loansOf (graphOf j)) i .region) q)
@@ -127,7 +125,7 @@ module _ {s t : List ℕ} {h : Head} {first succ words : List ℕ} {width : ℕ}
           from : (has none (bitAt q i) ≡ true) ⊎ Rows leaves code first succ code q i → (p : Point) × (p < graphOf j .code) × Next (graphOf j) p q × (has leaves (bitAt p i) ≡ true)
           from (inl z) =
               let y : wordBits * 0 + bitAt q i ≡ bitAt q i = omega arith in
-              absurd (true≢false (sym z ∙ ap₂ has empty (sym y) ∙ has-cleared ws 0 (4 * code) (omega (arith, few-points, size)) (bitAt q i) (omega (arith, same-code, few))))
+              absurd (true≢false (sym z ∙ ap₂ has empty (sym y) ∙ has-cleared ws 0 (4 * code) (omega (arith, size)) (bitAt q i) (omega (arith, same-code, few))))
           from (inr (p, m, (k, lo, hi, (c, x, a)))) =
               let n : p < graphOf j .code = omega (arith, same-code) in
               (p, n, edge-next (graphOf j) first succ e p q n (k, lo, hi, sym x), a)
@@ -154,8 +152,4 @@ module _ {s t : List ℕ} {h : Head} {first succ words : List ℕ} {width : ℕ}
           flow = flows (graphOf j) e same-code
 
     pub scope-says : ScopeSays s t h first succ words width table count scope
-    scope-says =
-        record {
-          size = masked .as-long ∙ gathered-size (cleared-size ws (4 * code) size empty) gathered;
-          bits = λ j sets g e p i l m. scope-is j sets g e i m p (omega (arith, code-count j));
-        }
+    scope-says = record { bits = λ j sets g e p i l m. scope-is j sets g e i m p (omega (arith, code-count j)) }

@@ -1,9 +1,9 @@
 -- Numbers that come to the sets of points, in four words a point.
 use mathlib.Core.Path.{_≡_}
 use mathlib.Core.Logic.{_⊎_}
-use mathlib.Core.Bool.{Bool, true}
+use mathlib.Core.Bool.{Bool, true, false}
 use mathlib.Core.List.{List}
-use Prim.Native.Nat.{ℕ, _<_, _≤_}
+use Prim.Native.Nat.{ℕ, _*_, _<_, _≤_}
 use lib.ListN.{length, getD}
 use lib.Bits.{bitAnd}
 use Rattle.nll_spec.specs.Syntax.{Point}
@@ -34,11 +34,23 @@ pub record Bits : Type 0 where
   pub pass : Bool
   pub region : Bool
 
--- The tables have their sizes.
-pub record Sized (t : Tables) : Type 0 where
-  pub start : length (t .start) ≡ 4096
-  pub pass : length (t .pass) ≡ 4096
-  pub region : length (t .region) ≡ 4096
+-- The tables have four words for each of n points.
+pub record Sized (n : ℕ) (t : Tables) : Type 0 where
+  pub start : 4 * n ≤ length (t .start)
+  pub pass : 4 * n ≤ length (t .pass)
+  pub region : 4 * n ≤ length (t .region)
+
+-- The tables b are as long as the tables a.
+pub record AsLong (a b : Tables) : Type 0 where
+  pub start : length (b .start) ≡ length (a .start)
+  pub pass : length (b .pass) ≡ length (a .pass)
+  pub region : length (b .region) ≡ length (a .region)
+
+-- No number is in a set of the tables.
+pub record Empty (t : Tables) : Type 0 where
+  pub start : (p : Point) (i : ℕ) → i < 128 → has (t .start) (bitAt p i) ≡ false
+  pub pass : (p : Point) (i : ℕ) → i < 128 → has (t .pass) (bitAt p i) ≡ false
+  pub region : (p : Point) (i : ℕ) → i < 128 → has (t .region) (bitAt p i) ≡ false
 
 -- The bits f came to the places of D, in each table.
 pub record Filled (D : Point → ℕ → Type 0) (f : Point → ℕ → Bits) (a b : Tables) : Type 0 where

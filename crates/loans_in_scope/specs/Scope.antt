@@ -27,7 +27,7 @@ use Rattle.graph.specs.Tables.{Edges}
 use Rattle.loans.specs.Loans.{loanOf, LoansAt}
 use Rattle.loans.specs.Table.{entryOf}
 use Rattle.loans.specs.declared.Loan.{Loan}
-use Rattle.loans_in_scope.specs.Gains.{Bits, Tables, Sized, Filled, Cells, Below}
+use Rattle.loans_in_scope.specs.Gains.{Bits, Tables, Filled, Cells, Below}
 use Rattle.loans_in_scope.specs.declared.Overwritten.{Overwritten}
 use Rattle.loans_in_scope.specs.declared.Overwritten.the-variants.{At, Nothing}
 
@@ -87,16 +87,13 @@ pub record Given (s t : List ℕ) (h : Head) (words : List ℕ) (width : ℕ) (t
 
 -- The bits of each loan at point p came to the tables.
 pub record PointFilled (s t words : List ℕ) (width : ℕ) (table : List ℕ) (count p : ℕ) (a b : Tables) : Type 0 where
-  pub sized : Sized b
   pub bits : (h : Head) (j : Job) (sets : Table) → Given s t h words width table count j sets → p < codeCount (j .blocks) → Filled (Cells p count) (jobBits j sets) a b
 
 -- Those at the first n points came to them.
 pub record PointsFilled (s t words : List ℕ) (width : ℕ) (table : List ℕ) (count n : ℕ) (a b : Tables) : Type 0 where
-  pub sized : Sized b
   pub bits : (h : Head) (j : Job) (sets : Table) → Given s t h words width table count j sets → n ≤ codeCount (j .blocks) → Filled (Below n count) (jobBits j sets) a b
 
 -- The words have the loans in scope: loan i at point p is number i of the four words from 4 * p on.
 pub record ScopeSays (s t : List ℕ) (h : Head) (first succ words : List ℕ) (width : ℕ) (table : List ℕ) (count : ℕ) (scope : List ℕ) : Type 0 where
-  pub size : length scope ≡ 4096
   pub bits : (j : Job) (sets : Table) → Given s t h words width table count j sets → Edges (graphOf j) first succ → (p : Point) (i : ℕ) → p < codeCount (j .blocks) → i < count
       → has scope (wordBits * (4 * p) + i) ≡ holds (scopeTable j (graphOf j) sets (loansOf (graphOf j))) i p

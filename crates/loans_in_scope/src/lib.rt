@@ -12,7 +12,7 @@ use repr::ActionStep;
 use repr::Path;
 use repr::RegionName;
 ghost use mathlib.Core.Path.{_≡_};
-ghost use Prim.Native.Nat.{_<_, _≤_};
+ghost use Prim.Native.Nat.{_+_, _*_, _<_, _≤_};
 ghost use lib.ListN.{length};
 ghost use Rattle.nll_spec.specs.Syntax.{Job};
 ghost use Rattle.nll_spec.specs.Decode.{codeCount};
@@ -21,7 +21,7 @@ ghost use Rattle.nll_spec.specs.Loans.{overwritten};
 ghost use Rattle.record.specs.Layout.{Layout};
 ghost use Rattle.record.specs.declared.Head as heads;
 ghost use Rattle.loans.specs.Loans.{loanOf};
-ghost use Rattle.loans_in_scope.specs.Gains.{Gains, tables, Sized, Filled, Cell, If, always, Onto, Row, Rows, Masked};
+ghost use Rattle.loans_in_scope.specs.Gains.{Gains, tables, Sized, Empty, Filled, Cell, If, always, Onto, Row, Rows, Masked};
 ghost use Rattle.loans_in_scope.specs.Scope.{overwrittenBy, pathsOf, killed, bitsOf, insideOf, PointFilled, PointsFilled, ScopeSays};
 
 // The path that an action overwrites.
@@ -93,8 +93,8 @@ fn is_inside(words: &[u32], width: usize, region: RegionName, p: usize) -> bool
 }
 
 // Puts number i into the set of point p, if it comes.
-fn put(sets: &mut [u32; 4096], p: usize, i: usize, comes: bool)
-    requires { ⌜ (length (now sets) ≡ 4096) × (p < 1024) × (i < 128) ⌝ }
+fn put(sets: &mut [u32], p: usize, i: usize, comes: bool)
+    requires { ⌜ (4 * p + 4 ≤ length (now sets)) × (i < 128) ⌝ }
     ensures { λ _. ⌜ Gains (If (Cell p i) comes) (now (sets .entry)) (now (sets .exit)) ⌝ }
 {
     if comes {
@@ -111,13 +111,12 @@ fn enter(
     d: Overwritten,
     p: usize,
     i: usize,
-    start: &mut [u32; 4096],
-    pass: &mut [u32; 4096],
-    region: &mut [u32; 4096],
+    start: &mut [u32],
+    pass: &mut [u32],
+    region: &mut [u32],
 )
-    requires { ⌜ Sized (tables (now start) (now pass) (now region)) × (width ≤ 32) × (p < 1024) × (i < 128) ⌝ }
-    ensures { λ _. ⌜ Sized (tables (now (start .exit)) (now (pass .exit)) (now (region .exit)))
-        × ((j : Job) → Filled (Cell p i) (always (bitsOf j (pathsOf (now (s .entry)) d) (insideOf (now (words .entry)) width (loan .region .0) p) (loanOf (now (s .entry)) loan) p))
+    requires { ⌜ Sized (p + 1) (tables (now start) (now pass) (now region)) × (width ≤ 32) × (i < 128) ⌝ }
+    ensures { λ _. ⌜ ((j : Job) → Filled (Cell p i) (always (bitsOf j (pathsOf (now (s .entry)) d) (insideOf (now (words .entry)) width (loan .region .0) p) (loanOf (now (s .entry)) loan) p))
         (tables (now (start .entry)) (now (pass .entry)) (now (region .entry))) (tables (now (start .exit)) (now (pass .exit)) (now (region .exit)))) ⌝ }
 {
     let inside = is_inside(words, width, loan.region, p);
@@ -140,11 +139,11 @@ fn enter_all(
     table: &[u16; 1024],
     count: usize,
     p: usize,
-    start: &mut [u32; 4096],
-    pass: &mut [u32; 4096],
-    region: &mut [u32; 4096],
+    start: &mut [u32],
+    pass: &mut [u32],
+    region: &mut [u32],
 )
-    requires { ⌜ (length (now layout) ≡ 1280) × (length (now table) ≡ 1024) × Sized (tables (now start) (now pass) (now region)) × (width ≤ 32) × (count ≤ 128) × (p < 1024) ⌝ }
+    requires { ⌜ (length (now layout) ≡ 1280) × (length (now table) ≡ 1024) × Sized (p + 1) (tables (now start) (now pass) (now region)) × (width ≤ 32) × (count ≤ 128) ⌝ }
     ensures { λ _. ⌜ PointFilled (now (s .entry)) (now (layout .entry)) (now (words .entry)) width (now (table .entry)) count p
         (tables (now (start .entry)) (now (pass .entry)) (now (region .entry))) (tables (now (start .exit)) (now (pass .exit)) (now (region .exit))) ⌝ }
 {
@@ -166,11 +165,11 @@ fn fill(
     table: &[u16; 1024],
     count: usize,
     code: usize,
-    start: &mut [u32; 4096],
-    pass: &mut [u32; 4096],
-    region: &mut [u32; 4096],
+    start: &mut [u32],
+    pass: &mut [u32],
+    region: &mut [u32],
 )
-    requires { ⌜ (length (now layout) ≡ 1280) × (length (now table) ≡ 1024) × Sized (tables (now start) (now pass) (now region)) × (width ≤ 32) × (count ≤ 128) × (code ≤ 1024) ⌝ }
+    requires { ⌜ (length (now layout) ≡ 1280) × (length (now table) ≡ 1024) × Sized code (tables (now start) (now pass) (now region)) × (width ≤ 32) × (count ≤ 128) ⌝ }
     ensures { λ _. ⌜ PointsFilled (now (s .entry)) (now (layout .entry)) (now (words .entry)) width (now (table .entry)) count code
         (tables (now (start .entry)) (now (pass .entry)) (now (region .entry))) (tables (now (start .exit)) (now (pass .exit)) (now (region .exit))) ⌝ }
 {
@@ -193,8 +192,8 @@ fn fill(
 }
 
 // Puts what leaves point p into the set of point q, if that is a point of a block.
-fn onto(code: usize, from: &[u32; 4096], p: usize, q: u16, scope: &mut [u32; 4096])
-    requires { ⌜ (code ≤ 1024) × (length (now from) ≡ 4096) × (p < code) × (length (now scope) ≡ 4096) ⌝ }
+fn onto(code: usize, from: &[u32], p: usize, q: u16, scope: &mut [u32])
+    requires { ⌜ (code ≤ 1024) × (p < code) × (4 * code ≤ length (now from)) × (4 * code ≤ length (now scope)) ⌝ }
     ensures { λ _. ⌜ Gains (Onto (now (from .entry)) code p q) (now (scope .entry)) (now (scope .exit)) ⌝ }
 {
     let at = wide(q);
@@ -209,11 +208,11 @@ fn follow(
     first: &[u16; 1025],
     succ: &[u16; 1536],
     code: usize,
-    from: &[u32; 4096],
+    from: &[u32],
     p: usize,
-    scope: &mut [u32; 4096],
+    scope: &mut [u32],
 )
-    requires { ⌜ (code ≤ 1024) × (length (now from) ≡ 4096) × (p < code) × (length (now scope) ≡ 4096) ⌝ }
+    requires { ⌜ (code ≤ 1024) × (p < code) × (4 * code ≤ length (now from)) × (4 * code ≤ length (now scope)) ⌝ }
     ensures { λ _. ⌜ Gains (Row (now (from .entry)) code (now (first .entry)) (now (succ .entry)) p) (now (scope .entry)) (now (scope .exit)) ⌝ }
 {
     let start = wide(first[p]);
@@ -226,14 +225,8 @@ fn follow(
 }
 
 // The same for each point.
-fn gather(
-    first: &[u16; 1025],
-    succ: &[u16; 1536],
-    code: usize,
-    from: &[u32; 4096],
-    scope: &mut [u32; 4096],
-)
-    requires { ⌜ (code ≤ 1024) × (length (now from) ≡ 4096) × (length (now scope) ≡ 4096) ⌝ }
+fn gather(first: &[u16; 1025], succ: &[u16; 1536], code: usize, from: &[u32], scope: &mut [u32])
+    requires { ⌜ (code ≤ 1024) × (4 * code ≤ length (now from)) × (4 * code ≤ length (now scope)) ⌝ }
     ensures { λ _. ⌜ Gains (Rows (now (from .entry)) code (now (first .entry)) (now (succ .entry)) code) (now (scope .entry)) (now (scope .exit)) ⌝ }
 {
     let mut p = 0;
@@ -244,8 +237,8 @@ fn gather(
 }
 
 // Leaves in each of the first n words only the numbers that the other table has there too.
-fn mask(by: &[u32; 4096], n: usize, sets: &mut [u32; 4096])
-    requires { ⌜ (n ≤ 4096) × (length (now sets) ≡ 4096) ⌝ }
+fn mask(by: &[u32], n: usize, sets: &mut [u32])
+    requires { ⌜ (n ≤ length (now by)) × (n ≤ length (now sets)) ⌝ }
     ensures { λ _. ⌜ Masked (now (by .entry)) (now (sets .entry)) n (now (sets .exit)) ⌝ }
 {
     let mut w = 0;
@@ -255,7 +248,45 @@ fn mask(by: &[u32; 4096], n: usize, sets: &mut [u32; 4096])
     }
 }
 
-// The loans in scope at each of the first `code` points.
+// The loans in scope at each of the first `code` points, by three empty tables.
+fn by_tables(
+    s: &[u8],
+    layout: &[u16; 1280],
+    first: &[u16; 1025],
+    succ: &[u16; 1536],
+    words: &[u32],
+    width: usize,
+    table: &[u16; 1024],
+    count: usize,
+    code: usize,
+    leaves: &mut [u32],
+    pass: &mut [u32],
+    region: &mut [u32],
+    scope: &mut [u32],
+)
+    requires { ⌜ (length (now layout) ≡ 1280) × (length (now table) ≡ 1024) × Sized code (tables (now leaves) (now pass) (now region)) × Empty (tables (now leaves) (now pass) (now region))
+        × (width ≤ 32) × (count ≤ 128) × (code ≤ 1024) × (4 * code ≤ length (now scope)) ⌝ }
+    ensures { λ _. ⌜ ((h : heads.Head) → code ≡ h .code → ScopeSays (now (s .entry)) (now (layout .entry)) h (now (first .entry)) (now (succ .entry)) (now (words .entry)) width (now (table .entry)) count (now (scope .exit))) ⌝ }
+{
+    fill(
+        s,
+        layout,
+        words,
+        width,
+        table,
+        count,
+        code,
+        leaves,
+        pass,
+        region,
+    );
+    flow::flow(leaves, pass, first, succ, code, Direction::Forward);
+    bit_set::clear(scope, 0, 4 * code);
+    gather(first, succ, code, leaves, scope);
+    mask(region, 4 * code, scope);
+}
+
+// The same by tables of a size for so many points.
 fn compute(
     s: &[u8],
     layout: &[u16; 1280],
@@ -266,33 +297,53 @@ fn compute(
     table: &[u16; 1024],
     count: usize,
     code: usize,
-    scope: &mut [u32; 4096],
+    scope: &mut [u32],
 )
-    requires { ⌜ (length (now layout) ≡ 1280) × (length (now table) ≡ 1024) × (length (now scope) ≡ 4096) × (width ≤ 32) × (count ≤ 128) × (code ≤ 1024) ⌝ }
+    requires { ⌜ (length (now layout) ≡ 1280) × (length (now table) ≡ 1024) × (width ≤ 32) × (count ≤ 128) × (code ≤ 1024) × (4 * code ≤ length (now scope)) ⌝ }
     ensures { λ _. ⌜ ((h : heads.Head) → code ≡ h .code → ScopeSays (now (s .entry)) (now (layout .entry)) h (now (first .entry)) (now (succ .entry)) (now (words .entry)) width (now (table .entry)) count (now (scope .exit))) ⌝ }
 {
-    let mut leaves = [0; 4096];
-    let mut pass = [0; 4096];
-    let mut region = [0; 4096];
-    fill(
-        s,
-        layout,
-        words,
-        width,
-        table,
-        count,
-        code,
-        &mut leaves,
-        &mut pass,
-        &mut region,
-    );
-    flow::flow(&mut leaves, &pass, first, succ, code, Direction::Forward);
-    bit_set::clear(scope, 0, 4 * code);
-    gather(first, succ, code, &leaves, scope);
-    mask(&region, 4 * code, scope);
+    if code <= 64 {
+        let mut leaves = [0; 256];
+        let mut pass = [0; 256];
+        let mut region = [0; 256];
+        by_tables(
+            s,
+            layout,
+            first,
+            succ,
+            words,
+            width,
+            table,
+            count,
+            code,
+            &mut leaves,
+            &mut pass,
+            &mut region,
+            scope,
+        );
+    } else {
+        let mut leaves = [0; 4096];
+        let mut pass = [0; 4096];
+        let mut region = [0; 4096];
+        by_tables(
+            s,
+            layout,
+            first,
+            succ,
+            words,
+            width,
+            table,
+            count,
+            code,
+            &mut leaves,
+            &mut pass,
+            &mut region,
+            scope,
+        );
+    }
 }
 
-// The loans in scope at each point.
+// The loans in scope at each point, where `scope` has four words for each of at most 1024 points.
 pub fn loans_in_scope(
     s: &[u8],
     layout: &[u16; 1280],
@@ -303,9 +354,9 @@ pub fn loans_in_scope(
     width: usize,
     table: &[u16; 1024],
     count: usize,
-    scope: &mut [u32; 4096],
+    scope: &mut [u32],
 )
-    requires { ⌜ (length (now layout) ≡ 1280) × (length (now table) ≡ 1024) × (length (now scope) ≡ 4096) ⌝ }
+    requires { ⌜ (length (now layout) ≡ 1280) × (length (now table) ≡ 1024) × (head .code ≤ 1024 → 4 * head .code ≤ length (now scope)) ⌝ }
     ensures { λ _. ⌜ ScopeSays (now (s .entry)) (now (layout .entry)) head (now (first .entry)) (now (succ .entry)) (now (words .entry)) width (now (table .entry)) count (now (scope .exit)) ⌝ }
 {
     let code = wide(head.code);

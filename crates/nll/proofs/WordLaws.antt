@@ -9,11 +9,11 @@ use lib.Dec.{T}
 use lib.Seq.{ext-getD, getD-take, length-take-le}
 use Rattle.nll_spec.specs.Lists.{below}
 use Rattle.nll_spec.specs.Syntax.{Job, Point}
-use Rattle.nll_spec.specs.Decode.{pointCount}
+use Rattle.nll_spec.specs.Decode.{pointCount, codeCount}
 use Rattle.nll_spec.specs.WellFormed.{named}
 use Rattle.nll_spec.specs.Graph.{graphOf, isWalked}
 use Rattle.nll_spec.specs.Regions.{everyEnd, seedTable, isGrown}
-use Rattle.nll_spec.specs.Output.{answer, bit, wordCount, wordsOf, wordsNeeded, overwrite}
+use Rattle.nll_spec.specs.Output.{answer, bit, wordBits, wordCount, wordsOf, wordsNeeded, overwrite}
 use Rattle.nll_spec.proofs.Tests.{length-countFrom}
 use Rattle.nll_spec.proofs.Lookup.{getD-map-below}
 use Rattle.nll_spec.proofs.Names.{setsOf}
@@ -34,12 +34,16 @@ use Rattle.nll.proofs.JobLaws.{names-and-paths, code-is, points-are, wi
 use Rattle.nll.proofs.OverwriteLaws.{same-tail}
 
 pub seeds-by : {s t : List ℕ} {h : Head} {first succ walked used dropped : List ℕ} {width : ℕ} {ws ws′ : List ℕ}
-    → ((j : Job) → Layout s t h j → Edges (graphOf j) first succ → ((p : Point) → p < 1024 → has walked p ≡ isWalked (graphOf j) p) → LiveRows j used dropped)
-    → ((j : Job) → Layout s t h j → T (named j) → pointCount j ≤ 1024 → ((p : Point) → p < 1024 → has walked p ≡ isWalked (graphOf j) p) → LiveRows j used dropped
+    → ((j : Job) → Layout s t h j → codeCount (j .blocks) ≤ wordBits * width → width ≤ 32 → Edges (graphOf j) first succ → ((p : Point) → p < 1024 → has walked p ≡ isWalked (graphOf j) p) → LiveRows j width used dropped)
+    → ((j : Job) → Layout s t h j → T (named j) → pointCount j ≤ 1024 → ((p : Point) → p < 1024 → has walked p ≡ isWalked (graphOf j) p) → LiveRows j width used dropped
     → width ≡ wordCount (pointCount j) → j .regions * width ≤ length ws → Seeded j width ws ws′)
     → Seeds s t h first succ walked width ws ws′
-seeds-by rows seeded =
-    record { seeded = λ j a m. seeded j (a .layout) (names-and-paths j (a .accepted) .0) (a .points) (m .walks) (rows j (a .layout) (m .edges) (m .walks)) }
+unfolding pointCount
+seeds-by {width = width} rows seeded = record {
+  seeded = λ j a m e.
+      seeded j (a .layout) (names-and-paths j (a .accepted) .0) (a .points) (m .walks)
+      (rows j (a .layout) (omega (arith, e)) (omega (arith, e, a .points)) (m .edges) (m .walks)) e;
+}
 
 -- ---- The answer
 

@@ -12,7 +12,40 @@ ghost use lib.Seq.{paste};
 ghost use Rattle.nll_spec.specs.Output.{verdictBytes};
 ghost use Rattle.nll.specs.Steps.{shapeOf, Judges};
 
-// Writes the verdicts, by the regions' sets.
+// Writes the verdicts, by the regions' sets. `scope` is for the loans in scope.
+fn by_scope(
+    s: &[u8],
+    layout: &[u16; 1280],
+    head: Head,
+    first: &[u16; 1025],
+    succ: &[u16; 1536],
+    walked: &[u32; 32],
+    words: &[u32],
+    scope: &mut [u32],
+    bytes: &mut [u8],
+)
+    requires { ⌜ (length (now layout) ≡ 1280) × (head .code ≤ 1024 → 4 * head .code ≤ length (now scope)) ⌝ }
+    ensures { λ _. ⌜ Judges (now (s .entry)) (now (layout .entry)) head (now (first .entry)) (now (succ .entry)) (now (walked .entry)) (now (words .entry)) (now (bytes .entry)) (now (bytes .exit)) ⌝ }
+{
+    let shape = shape_of(head);
+    let mut table = [0; 1024];
+    let count = loans(s, layout, head, walked, &mut table);
+    loans_in_scope(
+        s,
+        layout,
+        head,
+        first,
+        succ,
+        words,
+        shape.width,
+        &table,
+        count,
+        scope,
+    );
+    borrow_check(s, layout, head, &table, count, scope, bytes);
+}
+
+// The same with words of a size for so many points.
 pub fn verdicts(
     s: &[u8],
     layout: &[u16; 1280],
@@ -26,23 +59,33 @@ pub fn verdicts(
     requires { ⌜ length (now layout) ≡ 1280 ⌝ }
     ensures { λ _. ⌜ Judges (now (s .entry)) (now (layout .entry)) head (now (first .entry)) (now (succ .entry)) (now (walked .entry)) (now (words .entry)) (now (bytes .entry)) (now (bytes .exit)) ⌝ }
 {
-    let shape = shape_of(head);
-    let mut table = [0; 1024];
-    let count = loans(s, layout, head, walked, &mut table);
-    let mut scope = [0; 4096];
-    loans_in_scope(
-        s,
-        layout,
-        head,
-        first,
-        succ,
-        words,
-        shape.width,
-        &table,
-        count,
-        &mut scope,
-    );
-    borrow_check(s, layout, head, &table, count, &scope, bytes);
+    if head.code <= 64 {
+        let mut scope = [0; 256];
+        by_scope(
+            s,
+            layout,
+            head,
+            first,
+            succ,
+            walked,
+            words,
+            &mut scope,
+            bytes,
+        );
+    } else {
+        let mut scope = [0; 4096];
+        by_scope(
+            s,
+            layout,
+            head,
+            first,
+            succ,
+            walked,
+            words,
+            &mut scope,
+            bytes,
+        );
+    }
 }
 
 // Writes the marks of the declared regions after the verdicts.

@@ -6,10 +6,31 @@ use record::Head;
 use regionck::regionck;
 use seeds::seeds;
 ghost use mathlib.Core.Path.{_≡_};
+ghost use Prim.Native.Nat.{_*_, _≤_};
 ghost use lib.ListN.{length};
 ghost use Rattle.nll.specs.Steps.{Seeds, Solves};
 
-// Fills the words with the regions' seeds.
+// Fills the words with the regions' seeds. `used` and `dropped` are for the variables' rows of points.
+fn by_rows(
+    s: &[u8],
+    layout: &[u16; 1280],
+    head: Head,
+    first: &[u16; 1025],
+    succ: &[u16; 1536],
+    walked: &[u32; 32],
+    width: usize,
+    used: &mut [u32],
+    dropped: &mut [u32],
+    words: &mut [u32],
+)
+    requires { ⌜ (length (now layout) ≡ 1280) × (length (now walked) ≡ 32) × (width ≤ 32 → 64 * width ≤ length (now used)) × (width ≤ 32 → 64 * width ≤ length (now dropped)) ⌝ }
+    ensures { λ _. ⌜ Seeds (now (s .entry)) (now (layout .entry)) head (now (first .entry)) (now (succ .entry)) (now (walked .entry)) width (now (words .entry)) (now (words .exit)) ⌝ }
+{
+    liveness(s, layout, head, first, succ, walked, width, used, dropped);
+    seeds(s, layout, head, walked, used, dropped, width, words);
+}
+
+// The same with rows of a size for sets of so many words.
 fn seed(
     s: &[u8],
     layout: &[u16; 1280],
@@ -23,19 +44,37 @@ fn seed(
     requires { ⌜ (length (now layout) ≡ 1280) × (length (now walked) ≡ 32) ⌝ }
     ensures { λ _. ⌜ Seeds (now (s .entry)) (now (layout .entry)) head (now (first .entry)) (now (succ .entry)) (now (walked .entry)) width (now (words .entry)) (now (words .exit)) ⌝ }
 {
-    let mut used = [0; 2048];
-    let mut dropped = [0; 2048];
-    liveness(
-        s,
-        layout,
-        head,
-        first,
-        succ,
-        walked,
-        &mut used,
-        &mut dropped,
-    );
-    seeds(s, layout, head, walked, &used, &dropped, width, words);
+    if width <= 2 {
+        let mut used = [0; 128];
+        let mut dropped = [0; 128];
+        by_rows(
+            s,
+            layout,
+            head,
+            first,
+            succ,
+            walked,
+            width,
+            &mut used,
+            &mut dropped,
+            words,
+        );
+    } else {
+        let mut used = [0; 2048];
+        let mut dropped = [0; 2048];
+        by_rows(
+            s,
+            layout,
+            head,
+            first,
+            succ,
+            walked,
+            width,
+            &mut used,
+            &mut dropped,
+            words,
+        );
+    }
 }
 
 // Fills the words with the regions' least sets, and marks those that are grown.

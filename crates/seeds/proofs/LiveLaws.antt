@@ -21,6 +21,7 @@ use Rattle.record.specs.Access.{entryIn}
 use Rattle.record.specs.declared.Head.{Head}
 use Rattle.record.proofs.AccessLaws.{variable-at}
 use Rattle.bit_set.specs.Bits.{has}
+use Rattle.liveness.specs.Rows.{rowBit}
 use Rattle.bit_set.proofs.BitLaws.{digit}
 use Rattle.seeds.specs.declared.Which.{Which}
 use Rattle.seeds.specs.declared.Which.the-variants.{Every, Dropped}
@@ -37,18 +38,18 @@ zeros-empty n i h = ap (λ (w : ℕ). eqb (digit w (i % wordBits)) 1) (getD-repl
 
 pub live-adds : {s t : List ℕ} {h : Head} {w v : ℕ} (which : Which) (live names before after : List ℕ) (at : Cursor) → at .at ≡ entryIn t 32 64 v
     → ((j : Job) (ty : Ty) → Layout s t h j → Stands type ty (rest s at) → names ≡ addAll (replicate 4 0) 0 (chosen which (j .structs) ty))
-    → (v < 64 → length live ≡ 2048 → Room h w before → Adds w (h .regions) (spreads (h .declared) names live v) before after)
-    → (j : Job) → Layout s t h j → v < length (j .variables) → length live ≡ 2048 → Room h w before → Adds w (h .regions) (takes j which live v) before after
+    → (v < 64 → 64 * w ≤ length live → Room h w before → Adds w (h .regions) (spreads (h .declared) names w live v) before after)
+    → (j : Job) → Layout s t h j → v < length (j .variables) → 64 * w ≤ length live → Room h w before → Adds w (h .regions) (takes j which w live v) before after
 live-adds {s} {t} {h} {w} {v} which live names before after at e f g j l hv hl room =
     let k = l .variableCount in
     let m = l .variableLimit in
     let st : Stands type (variableType j v) (rest s at) = rw e (variable-at l v UnitTy hv) in
     let n : names ≡ addAll (replicate 4 0) 0 (chosen which (j .structs) (variableType j v)) = f j (variableType j v) l st in
-    adds-same (g (omega arith) hl room) (takes j which live v) (λ r p hr hp. turn r p n (omega (arith, l .regionLimit)) (l .declaredCount))
+    adds-same (g (omega arith) hl room) (takes j which w live v) (λ r p hr hp. turn r p n (omega (arith, l .regionLimit)) (l .declaredCount))
   where
-    turn : (r p : ℕ) → names ≡ addAll (replicate 4 0) 0 (chosen which (j .structs) (variableType j v)) → r < 128 → length (j .outlives) ≡ h .declared → spreads (h .declared) names live v r p ≡ takes j which live v r p
+    turn : (r p : ℕ) → names ≡ addAll (replicate 4 0) 0 (chosen which (j .structs) (variableType j v)) → r < 128 → length (j .outlives) ≡ h .declared → spreads (h .declared) names w live v r p ≡ takes j which w live v r p
     turn r p n lr d =
-        ap₂ (λ (a : ℕ) (b : Bool). leb a r && b && has live (wordBits * (32 * v) + p)) (sym d)
+        ap₂ (λ (a : ℕ) (b : Bool). leb a r && b && has live (rowBit w v p)) (sym d)
         (ap (λ (u : List ℕ). has u (wordBits * 0 + r)) n
         ∙ has-added (replicate 4 0) 0 (chosen which (j .structs) (variableType j v)) r (rw length-replicate (omega arith))
         ∙ ap (λ (b : Bool). b || contains (chosen which (j .structs) (variableType j v)) r) (zeros-empty 4 (wordBits * 0 + r) (omega arith)))
@@ -57,15 +58,15 @@ live-adds {s} {t} {h} {w} {v} which live names before after at e f g j l hv hl r
 
 pub record Giving (s t : List ℕ) (h : Head) (used dropped : List ℕ) (w v : ℕ) (before ws : List ℕ) : Type 0 where
   pub size : length ws ≡ length before
-  pub adds : (j : Job) → Layout s t h j → length used ≡ 2048 → length dropped ≡ 2048 → Room h w before → Adds w (h .regions) (λ r p. anyTo (liveIn j used dropped r p) v) before ws
+  pub adds : (j : Job) → Layout s t h j → 64 * w ≤ length used → 64 * w ≤ length dropped → Room h w before → Adds w (h .regions) (λ r p. anyTo (liveIn j w used dropped r p) v) before ws
 
 pub giving-start : (s t : List ℕ) (h : Head) (used dropped : List ℕ) (w : ℕ) (ws : List ℕ) → Giving s t h used dropped w 0 ws ws
 giving-start s t h used dropped w ws = record { size = refl; adds = λ j l hu hd room. adds-none w (h .regions) _ ws (λ r p hr hp. refl) }
 
 module _ {s t : List ℕ} {h : Head} {used dropped : List ℕ} {w v : ℕ} {before ws : List ℕ} (x : Giving s t h used dropped w v before ws) where
   pub giving-more : {us vs : List ℕ} → v < h .variables → length us ≡ length ws → length vs ≡ length us
-      → ((j : Job) → Layout s t h j → v < length (j .variables) → length used ≡ 2048 → Room h w ws → Adds w (h .regions) (takes j Every used v) ws us)
-      → ((j : Job) → Layout s t h j → v < length (j .variables) → length dropped ≡ 2048 → Room h w us → Adds w (h .regions) (takes j Dropped dropped v) us vs)
+      → ((j : Job) → Layout s t h j → v < length (j .variables) → 64 * w ≤ length used → Room h w ws → Adds w (h .regions) (takes j Every w used v) ws us)
+      → ((j : Job) → Layout s t h j → v < length (j .variables) → 64 * w ≤ length dropped → Room h w us → Adds w (h .regions) (takes j Dropped w dropped v) us vs)
       → Giving s t h used dropped w (v + 1) before vs
   giving-more hv eu ev f g = record {
     size = ev ∙ eu ∙ x .size;
@@ -73,9 +74,9 @@ module _ {s t : List ℕ} {h : Head} {used dropped : List ℕ} {w v : ℕ} {befo
         let k = l .variableCount in
         let rw₁ = room-kept (x .size) room in
         adds-same (adds-then (x .adds j l hu hd room) (adds-then (f j l (omega arith) hu rw₁) (g j l (omega arith) hd (room-kept eu rw₁))))
-        (λ r p. anyTo (liveIn j used dropped r p) (v + 1)) (λ r p hr hp. sym (ap (anyTo (liveIn j used dropped r p)) (add-one v)));
+        (λ r p. anyTo (liveIn j w used dropped r p) (v + 1)) (λ r p hr hp. sym (ap (anyTo (liveIn j w used dropped r p)) (add-one v)));
   }
 
-  pub giving-end : h .variables ≤ v → v ≤ h .variables → (j : Job) → Layout s t h j → length used ≡ 2048 → length dropped ≡ 2048 → Room h w before
-      → Adds w (h .regions) (λ r p. anyTo (liveIn j used dropped r p) (h .variables)) before ws
-  giving-end a b j l hu hd room = let e : v ≡ h .variables = omega arith in subst (λ (z : ℕ). Adds w (h .regions) (λ r p. anyTo (liveIn j used dropped r p) z) before ws) e (x .adds j l hu hd room)
+  pub giving-end : h .variables ≤ v → v ≤ h .variables → (j : Job) → Layout s t h j → 64 * w ≤ length used → 64 * w ≤ length dropped → Room h w before
+      → Adds w (h .regions) (λ r p. anyTo (liveIn j w used dropped r p) (h .variables)) before ws
+  giving-end a b j l hu hd room = let e : v ≡ h .variables = omega arith in subst (λ (z : ℕ). Adds w (h .regions) (λ r p. anyTo (liveIn j w used dropped r p) z) before ws) e (x .adds j l hu hd room)

@@ -157,13 +157,13 @@ module _ {n d : ℕ} {names live : List ℕ} {from w i : ℕ} {before ws : List 
       turn k p (yes q) = rw (eq-eqb k i q, q, le-leb d i (x .low))
       turn k p (no q) = rw (ne-eqb k i q) (and-no (has names (wordBits * 0 + i)))
 
-  pub spreading-end : (h : Head) (v : ℕ) → n ≤ i → n ≡ h .regions → d ≡ h .declared → from ≡ 32 * v → v < 64 → length live ≡ 2048 → Room h w before
-      → Adds w (h .regions) (spreads (h .declared) names live v) before ws
+  pub spreading-end : (h : Head) (v : ℕ) → n ≤ i → n ≡ h .regions → d ≡ h .declared → from ≡ v * w → v < 64 → 64 * w ≤ length live → Room h w before
+      → Adds w (h .regions) (spreads (h .declared) names w live v) before ws
   spreading-end h v l en ed ef hv hl room =
-      let lw = room .width in
-      let y = rows-all i (λ k p. leb d k && has names (wordBits * 0 + k) && has live (wordBits * from + p)) (x .adds (omega arith) (rw en (room .words))) l in
-      subst (λ (m : ℕ). Adds w m (spreads (h .declared) names live v) before ws) en
-      (adds-same y (spreads (h .declared) names live v) (λ k p hk hp. ap₂ (λ (a b : ℕ). leb a k && has names (wordBits * 0 + k) && has live (wordBits * b + p)) ed ef))
+      let end : from + w ≤ length live = omega (arith, ef, hl, row-inside w 64 v hv) in
+      let y = rows-all i (λ k p. leb d k && has names (wordBits * 0 + k) && has live (wordBits * from + p)) (x .adds end (rw en (room .words))) l in
+      subst (λ (m : ℕ). Adds w m (spreads (h .declared) names w live v) before ws) en
+      (adds-same y (spreads (h .declared) names w live v) (λ k p hk hp. ap₂ (λ (a b : ℕ). leb a k && has names (wordBits * 0 + k) && has live (wordBits * b + p)) ed ef))
 
 -- ---- The row of a declared region
 

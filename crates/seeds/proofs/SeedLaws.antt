@@ -73,7 +73,7 @@ swap : (b x y u v : Bool) → (x && (b && u) || y && (b && v)) ≡ (b && (u && x
 swap true x y u v = ap₂ (λ (p q : Bool). p || q) (and-comm x u) (and-comm y v)
 swap false x y u v = ap₂ (λ (p q : Bool). p || q) (and-no x) (and-no y)
 
-module _ (j : Job) (walked used dropped ends : List ℕ) where
+module _ (j : Job) (w : ℕ) (walked used dropped ends : List ℕ) where
   abbrev code : ℕ
   code = graphOf j .code
 
@@ -82,21 +82,21 @@ module _ (j : Job) (walked used dropped ends : List ℕ) where
 
   -- what the two steps put in
   abbrev put : ℕ → ℕ → Bool
-  put r p = ltb r (length (j .outlives)) && declaredSeed code (length (j .outlives)) walked ends r p || anyTo (liveIn j used dropped r p) (length (j .variables))
+  put r p = ltb r (length (j .outlives)) && declaredSeed code (length (j .outlives)) walked ends r p || anyTo (liveIn j w used dropped r p) (length (j .variables))
 
-  module _ (isW : (p : Point) → p < 1024 → has walked p ≡ isWalked (graphOf j) p) (live : LiveRows j used dropped)
+  module _ (isW : (p : Point) → p < 1024 → has walked p ≡ isWalked (graphOf j) p) (live : LiveRows j w used dropped) (narrow : w ≤ 32)
       (isE : (r e : ℕ) → r < length (j .outlives) → e < length (j .outlives) → has ends (wordBits * r + e) ≡ holds (outlivesTable j) r e)
       (all : points ≡ code + length (j .outlives)) where
     -- a declared region gets nothing from variables
-    declared-live : (r p : ℕ) → r < length (j .outlives) → anyTo (liveIn j used dropped r p) (length (j .variables)) ≡ false
-    declared-live r p h = any-same (liveIn j used dropped r p) (λ v. false) (length (j .variables)) (λ v l. rw (lt-leb (length (j .outlives)) r h)) ∙ any-none (length (j .variables))
+    declared-live : (r p : ℕ) → r < length (j .outlives) → anyTo (liveIn j w used dropped r p) (length (j .variables)) ≡ false
+    declared-live r p h = any-same (liveIn j w used dropped r p) (λ v. false) (length (j .variables)) (λ v l. rw (lt-leb (length (j .outlives)) r h)) ∙ any-none (length (j .variables))
 
     -- any other region gets what the definition gives
-    other-live : (r p : ℕ) → length (j .outlives) ≤ r → p < 1024
-        → anyTo (liveIn j used dropped r p) (length (j .variables))
+    other-live : (r p : ℕ) → length (j .outlives) ≤ r → p < wordBits * w
+        → anyTo (liveIn j w used dropped r p) (length (j .variables))
         ≡ (isWalked (graphOf j) p && any (λ v. hasLive j (liveTable uses j (graphOf j)) (liveTable drops j (graphOf j)) r p v) (below (length (j .variables))))
     other-live r p h hp =
-        any-same (liveIn j used dropped r p) (λ v. isWalked (graphOf j) p && hasLive j (liveTable uses j (graphOf j)) (liveTable drops j (graphOf j)) r p v) (length (j .variables))
+        any-same (liveIn j w used dropped r p) (λ v. isWalked (graphOf j) p && hasLive j (liveTable uses j (graphOf j)) (liveTable drops j (graphOf j)) r p v) (length (j .variables))
         (λ v l.
         rw (le-leb (length (j .outlives)) r h, live .used v p l hp, live .dropped v p l hp)
         (swap (isWalked (graphOf j) p) (contains (regionsOf (variableType j v)) r) (contains (dropRegions (variableType j v) (j .structs)) r)
@@ -117,20 +117,20 @@ module _ (j : Job) (walked used dropped ends : List ℕ) where
     unwalked p h = is-false (isWalked (graphOf j) p) (λ t. let l = walked-is-code j p t in omega arith)
 
     -- past the points there is nothing
-    past : (r p : ℕ) → points ≤ p → p < 1024 → put r p ≡ false
+    past : (r p : ℕ) → points ≤ p → p < wordBits * w → put r p ≡ false
     past r p h hp = go (decLt r (length (j .outlives)))
       where
         none : isWalked (graphOf j) p ≡ false
         none = unwalked p (omega (arith, all))
 
         declared : r < length (j .outlives) → declaredSeed code (length (j .outlives)) walked ends r p ≡ false
-        declared l = rw (isW p hp, none, le-leb code p (omega (arith, all)), le-ltb (p - code) (length (j .outlives)) (omega (arith, all)))
+        declared l = rw (isW p (omega arith), none, le-leb code p (omega (arith, all)), le-ltb (p - code) (length (j .outlives)) (omega (arith, all)))
 
         go : Dec (r < length (j .outlives)) → put r p ≡ false
         go (yes l) = rw (declared-live r p l, lt-ltb r (length (j .outlives)) l, declared l)
         go (no l) = rw (le-ltb r (length (j .outlives)) (omega arith), other-live r p (omega arith) hp, none)
 
-    put-seed : (r p : ℕ) → r < j .regions → p < points → p < 1024 → put r p ≡ holds (seedTable j (graphOf j)) r p
+    put-seed : (r p : ℕ) → r < j .regions → p < points → p < wordBits * w → put r p ≡ holds (seedTable j (graphOf j)) r p
     unfolding seedTable
     put-seed r p hr hp hk = go (decLt r (length (j .outlives))) ∙ sym (holds-tabulate (j .regions) points (λ r p. seed r p) r p hr hp)
       where
@@ -141,10 +141,10 @@ module _ (j : Job) (walked used dropped ends : List ℕ) where
             (isWalked (graphOf j) p && any (λ v. hasLive j (liveTable uses j (graphOf j)) (liveTable drops j (graphOf j)) r p v) (below (length (j .variables))))
 
         go : Dec (r < length (j .outlives)) → put r p ≡ seed r p
-        go (yes l) = rw (declared-live r p l, lt-ltb r (length (j .outlives)) l, isW p hk, end-is r p l hp) (or-false (isWalked (graphOf j) p || leb code p && holds (outlivesTable j) r (p - code)))
+        go (yes l) = rw (declared-live r p l, lt-ltb r (length (j .outlives)) l, isW p (omega arith), end-is r p l hp) (or-false (isWalked (graphOf j) p || leb code p && holds (outlivesTable j) r (p - code)))
         go (no l) = rw (le-ltb r (length (j .outlives)) (omega arith), other-live r p (omega arith) hk)
 
-    is-seed : (r p : ℕ) → r < j .regions → p < 1024 → put r p ≡ holds (seedTable j (graphOf j)) r p
+    is-seed : (r p : ℕ) → r < j .regions → p < wordBits * w → put r p ≡ holds (seedTable j (graphOf j)) r p
     is-seed r p hr hp = go (decLt p points)
       where
         go : Dec (p < points) → put r p ≡ holds (seedTable j (graphOf j)) r p
@@ -185,9 +185,9 @@ module _ {s t : List ℕ} {h : Head} {j : Job} (l : Layout s t h j) where
 module _ {s t : List ℕ} {h : Head} (walked used dropped ends ws first second after : List ℕ) (w n : ℕ) where
   pub seeded : n ≡ h .regions → first ≡ cleared ws 0 (n * w) → Ends s t h ends
       → (length walked ≡ 32 → Room h w first → Adds w (h .regions) (λ r p. ltb r (h .declared) && declaredSeed (h .code) (h .declared) walked ends r p) first second)
-      → ((j : Job) → Layout s t h j → length used ≡ 2048 → length dropped ≡ 2048 → Room h w second → Adds w (h .regions) (λ r p. anyTo (liveIn j used dropped r p) (h .variables)) second after)
-      → length walked ≡ 32 → length used ≡ 2048 → length dropped ≡ 2048
-      → (j : Job) → Layout s t h j → T (named j) → pointCount j ≤ 1024 → ((p : Point) → p < 1024 → has walked p ≡ isWalked (graphOf j) p) → LiveRows j used dropped
+      → ((j : Job) → Layout s t h j → 64 * w ≤ length used → 64 * w ≤ length dropped → Room h w second → Adds w (h .regions) (λ r p. anyTo (liveIn j w used dropped r p) (h .variables)) second after)
+      → length walked ≡ 32 → 64 * w ≤ length used → 64 * w ≤ length dropped
+      → (j : Job) → Layout s t h j → T (named j) → pointCount j ≤ 1024 → ((p : Point) → p < 1024 → has walked p ≡ isWalked (graphOf j) p) → LiveRows j w used dropped
       → w ≡ wordCount (pointCount j) → j .regions * w ≤ length ws → Seeded j w ws after
   seeded en ef ee fd fl hw hu hd j l a m isW live ew k =
       let size : length first ≡ length ws = ap length ef ∙ length-cleared ws 0 (n * w) in
@@ -203,10 +203,9 @@ module _ {s t : List ℕ} {h : Head} (walked used dropped ends ws first second a
           room = rw length-seeds (let q = both .size ∙ size in omega (arith, k));
           bits = λ r p hr hp.
               let lr : r < j .regions = rw length-seeds at hr in
-              let lw : w ≤ 32 = room .width in
               both .bits r p (rw (l .regions) lr) hp
               ∙ ap₂ (λ (x y : Bool). x || y) (empty r p lr hp) (putting r p)
-              ∙ is-seed j walked used dropped ends isW live (ee .bits j l a) (points-are j) r p lr (omega arith);
+              ∙ is-seed j w walked used dropped ends isW live (room .width) (ee .bits j l a) (points-are j) r p lr hp;
         };
       }
     where
@@ -222,8 +221,8 @@ module _ {s t : List ℕ} {h : Head} (walked used dropped ends ws first second a
           ∙ ap (has (cleared ws 0 (n * w))) (let q : wordBits * (r * w) + p ≡ wordBits * 0 + (wordBits * (r * w) + p) = omega arith in q)
           ∙ has-cleared ws 0 (n * w) (rw eq (omega (arith, k))) (wordBits * (r * w) + p) (rw eq (omega (arith, hp, mul-le-mul-right w hr, suc-mul r w)))
 
-      putting : (r p : ℕ) → (ltb r (h .declared) && declaredSeed (h .code) (h .declared) walked ends r p || anyTo (liveIn j used dropped r p) (h .variables)) ≡ put j walked used dropped ends r p
+      putting : (r p : ℕ) → (ltb r (h .declared) && declaredSeed (h .code) (h .declared) walked ends r p || anyTo (liveIn j w used dropped r p) (h .variables)) ≡ put j w walked used dropped ends r p
       putting r p =
           ap₂ (λ (x y : Bool). x || y)
           (ap₂ (λ (d c : ℕ). ltb r d && declaredSeed c d walked ends r p) (sym (l .declaredCount)) (code-is l))
-          (ap (anyTo (liveIn j used dropped r p)) (sym (l .variableCount)))
+          (ap (anyTo (liveIn j w used dropped r p)) (sym (l .variableCount)))

@@ -14,6 +14,7 @@ use Rattle.nll_spec.specs.Regions.{seedTable}
 use Rattle.bit_set.specs.Bits.{has, withBit, joined}
 use Rattle.bit_set.specs.Rows.{Says}
 use Rattle.record.specs.declared.Head.{Head}
+use Rattle.liveness.specs.Rows.{rowBit}
 use Rattle.seeds.specs.declared.Which.{Which}
 use Rattle.seeds.specs.declared.Which.the-variants.{Every, Dropped}
 use Rattle.seeds.specs.Chosen.{chosen}
@@ -37,16 +38,16 @@ pub record Room (h : Head) (w : ℕ) (ws : List ℕ) : Type 0 where
 abbrev pub lent : List ℕ → ℕ → List ℕ → ℕ → ℕ → List ℕ → List ℕ
 lent names r live from w ws = cond (has names (wordBits * 0 + r)) (joined ws (r * w) live from w) ws
 
--- row v of the live points, for the regions from d on whose names are in the set
-abbrev pub spreads : ℕ → List ℕ → List ℕ → ℕ → ℕ → ℕ → Bool
-spreads d names live v r p = leb d r && has names (wordBits * 0 + r) && has live (wordBits * (32 * v) + p)
+-- row v of the live points, of w words, for the regions from d on whose names are in the set
+abbrev pub spreads : ℕ → List ℕ → ℕ → List ℕ → ℕ → ℕ → ℕ → Bool
+spreads d names w live v r p = leb d r && has names (wordBits * 0 + r) && has live (rowBit w v p)
 
 -- the same for the regions that are taken of variable v's type
-abbrev pub takes : Job → Which → List ℕ → ℕ → ℕ → ℕ → Bool
-takes j which live v r p = leb (length (j .outlives)) r && contains (chosen which (j .structs) (variableType j v)) r && has live (wordBits * (32 * v) + p)
+abbrev pub takes : Job → Which → ℕ → List ℕ → ℕ → ℕ → ℕ → Bool
+takes j which w live v r p = leb (length (j .outlives)) r && contains (chosen which (j .structs) (variableType j v)) r && has live (rowBit w v p)
 
-abbrev pub liveIn : Job → List ℕ → List ℕ → ℕ → ℕ → ℕ → Bool
-liveIn j used dropped r p v = takes j Every used v r p || takes j Dropped dropped v r p
+abbrev pub liveIn : Job → ℕ → List ℕ → List ℕ → ℕ → ℕ → ℕ → Bool
+liveIn j w used dropped r p v = takes j Every w used v r p || takes j Dropped w dropped v r p
 
 -- some number below n passes the test
 abbrev pub anyTo : (ℕ → Bool) → ℕ → Bool

@@ -49,21 +49,21 @@ fn wide(x: u8) -> usize
     x as usize
 }
 
-// The seeds of a job's regions, in rows of `width` words. `walked` has the walked points, and row v of `used` and of `dropped`, 32 words, those of them on
+// The seeds of a job's regions, in rows of `width` words. `walked` has the walked points, and row v of `used` and of `dropped` those of them on
 // entry to which variable v is used or dropped later.
 pub fn seeds(
     s: &[u8],
     layout: &[u16; 1280],
     head: Head,
     walked: &[u32; 32],
-    used: &[u32; 2048],
-    dropped: &[u32; 2048],
+    used: &[u32],
+    dropped: &[u32],
     width: usize,
     words: &mut [u32],
 )
-    requires { ⌜ (length (now layout) ≡ 1280) × (length (now walked) ≡ 32) × (length (now used) ≡ 2048) × (length (now dropped) ≡ 2048) ⌝ }
+    requires { ⌜ (length (now layout) ≡ 1280) × (length (now walked) ≡ 32) × (width ≤ 32 → 64 * width ≤ length (now used)) × (width ≤ 32 → 64 * width ≤ length (now dropped)) ⌝ }
     ensures { λ _. ⌜ ((j : Job) → Layout (now (s .entry)) (now (layout .entry)) head j → T (named j) → pointCount j ≤ 1024
-        → ((p : Point) → p < 1024 → has (now (walked .entry)) p ≡ isWalked (graphOf j) p) → LiveRows j (now (used .entry)) (now (dropped .entry))
+        → ((p : Point) → p < 1024 → has (now (walked .entry)) p ≡ isWalked (graphOf j) p) → LiveRows j width (now (used .entry)) (now (dropped .entry))
         → width ≡ wordCount (pointCount j) → j .regions * width ≤ length (now (words .entry))
         → Seeded j width (now (words .entry)) (now (words .exit))) ⌝ }
 {

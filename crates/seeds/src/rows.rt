@@ -7,7 +7,7 @@ use record::access::variable_at;
 use repr::Variable;
 ghost use mathlib.Core.Path.{_≡_};
 ghost use mathlib.Core.Bool.{_&&_};
-ghost use Prim.Native.Nat.{_≤_, _<_};
+ghost use Prim.Native.Nat.{_*_, _≤_, _<_};
 ghost use lib.ListN.{length};
 ghost use lib.Dec.{eqb, ltb};
 ghost use Rattle.nll_spec.specs.Syntax.{Job};
@@ -21,14 +21,7 @@ fn place(x: u16) -> usize
 }
 
 // Puts a run of words into a region's row, if its name is in the set.
-fn lend(
-    names: &[u32; 4],
-    r: usize,
-    live: &[u32; 2048],
-    from: usize,
-    width: usize,
-    words: &mut [u32],
-)
+fn lend(names: &[u32; 4], r: usize, live: &[u32], from: usize, width: usize, words: &mut [u32])
     requires { ⌜ (r ≤ 255) × (width ≤ 32) ⌝ }
     ensures { λ _. ⌜ now (words .exit) ≡ lent (now (names .entry)) r (now (live .entry)) from width (now (words .entry)) ⌝ }
 {
@@ -38,13 +31,13 @@ fn lend(
 }
 
 // Puts row v of the live points into the row of each region in the set that is not declared.
-fn spread(head: Head, names: &[u32; 4], live: &[u32; 2048], v: u8, width: usize, words: &mut [u32])
+fn spread(head: Head, names: &[u32; 4], live: &[u32], v: u8, width: usize, words: &mut [u32])
     requires { ⌜ width ≤ 32 ⌝ }
-    ensures { λ _. ⌜ (v < 64 → length (now (live .entry)) ≡ 2048 → Room head width (now (words .entry))
-        → Adds width (head .regions) (spreads (head .declared) (now (names .entry)) (now (live .entry)) v) (now (words .entry)) (now (words .exit))) ⌝ }
+    ensures { λ _. ⌜ (v < 64 → 64 * width ≤ length (now (live .entry)) → Room head width (now (words .entry))
+        → Adds width (head .regions) (spreads (head .declared) (now (names .entry)) width (now (live .entry)) v) (now (words .entry)) (now (words .exit))) ⌝ }
 {
     let n = wide(head.regions);
-    let from = 32 * wide(v);
+    let from = wide(v) * width;
     let mut r = wide(head.declared);
     while r < n {
         lend(names, r, live, from, width, words);
@@ -59,13 +52,13 @@ fn live(
     head: Head,
     v: u8,
     which: Which,
-    points: &[u32; 2048],
+    points: &[u32],
     width: usize,
     words: &mut [u32],
 )
     requires { ⌜ (length (now layout) ≡ 1280) × (width ≤ 32) ⌝ }
-    ensures { λ _. ⌜ ((j : Job) → Layout (now (s .entry)) (now (layout .entry)) head j → v < length (j .variables) → length (now (points .entry)) ≡ 2048 → Room head width (now (words .entry))
-        → Adds width (head .regions) (takes j which (now (points .entry)) v) (now (words .entry)) (now (words .exit))) ⌝ }
+    ensures { λ _. ⌜ ((j : Job) → Layout (now (s .entry)) (now (layout .entry)) head j → v < length (j .variables) → 64 * width ≤ length (now (points .entry)) → Room head width (now (words .entry))
+        → Adds width (head .regions) (takes j which width (now (points .entry)) v) (now (words .entry)) (now (words .exit))) ⌝ }
 {
     let mut names = [0; 4];
     let at = variable_at(layout, Variable(v));
@@ -78,14 +71,14 @@ pub fn fill_live(
     s: &[u8],
     layout: &[u16; 1280],
     head: Head,
-    used: &[u32; 2048],
-    dropped: &[u32; 2048],
+    used: &[u32],
+    dropped: &[u32],
     width: usize,
     words: &mut [u32],
 )
     requires { ⌜ (length (now layout) ≡ 1280) × (width ≤ 32) ⌝ }
-    ensures { λ _. ⌜ ((j : Job) → Layout (now (s .entry)) (now (layout .entry)) head j → length (now (used .entry)) ≡ 2048 → length (now (dropped .entry)) ≡ 2048 → Room head width (now (words .entry))
-        → Adds width (head .regions) (λ r p. anyTo (liveIn j (now (used .entry)) (now (dropped .entry)) r p) (head .variables)) (now (words .entry)) (now (words .exit))) ⌝ }
+    ensures { λ _. ⌜ ((j : Job) → Layout (now (s .entry)) (now (layout .entry)) head j → 64 * width ≤ length (now (used .entry)) → 64 * width ≤ length (now (dropped .entry)) → Room head width (now (words .entry))
+        → Adds width (head .regions) (λ r p. anyTo (liveIn j width (now (used .entry)) (now (dropped .entry)) r p) (head .variables)) (now (words .entry)) (now (words .exit))) ⌝ }
 {
     let mut v = 0;
     while v < head.variables {

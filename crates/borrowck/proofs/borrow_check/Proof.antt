@@ -27,7 +27,7 @@ mul-if1 : tie.Need-mul-if1 Inv-loop μ-loop
 mul-if1 c = search needs
 
 returns : tie.Need-returns Inv-loop μ-loop
-returns c = (refl, written-nothing (c .before .before .wide16 .ensures .0) (c .before .wide .ensures .0) refl (c .before .before .before .before .before .args .scope .now) (c .before .before .before .before .before .args .bytes .now) (c .if1 .taken))
+returns c = (refl, written-nothing (c .before .before .wide16 .ensures .0) (c .before .wide .ensures .0) refl (c .before .before .before .before .before .before .args .scope .now) (c .before .before .before .before .before .before .args .bytes .now) (c .if1 .taken))
 
 loop-holds : tie.Need-loop-holds Inv-loop μ-loop
 loop-holds c = (omega arith, omega (arith, c .before .before .wide16 .ensures .1, c .before .wide .ensures .1), c .if1 .left, writing-none)

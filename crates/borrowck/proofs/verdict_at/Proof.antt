@@ -17,4 +17,10 @@ returns-2 : tie.Need-returns-2
 returns-2 c = judged-there (c .before .before .wide16 .ensures .0) (c .before .if1 .left) (c .verdict .ensures)
 
 pub verdict-at-spec : {M : Type 1} → statement M
-verdict-at-spec = tie.close (tie.spec wide16-requires returns verdict-requires returns-2)
+verdict-at-spec =
+    tie.close
+    (tie.spec
+    wide16-requires
+    returns
+    verdict-requires
+    returns-2)

@@ -10,7 +10,7 @@ use Rattle.flow.proofs.edge.Statement.{statement}
 use Rattle.flow.proofs.edge.Tie as tie
 
 abbrev Inv-loop : tie.InvT-loop
-Inv-loop sets₀ pass p q changed₀ k₀ sets changed k = (k ≤ 4) × (length sets ≡ 4096) × Ran (Lanes k p q) pass sets₀ sets changed
+Inv-loop sets₀ pass p q changed₀ k₀ sets changed k = (k ≤ 4) × (length sets ≡ length sets₀) × Ran (Lanes k p q) pass sets₀ sets changed
 
 abbrev μ-loop : tie.MeasureT-loop
 μ-loop sets₀ pass p q changed₀ k₀ sets changed k = 4 - k
@@ -40,12 +40,15 @@ loop-less : tie.Need-loop-less Inv-loop μ-loop
 loop-less c = search needs
 
 loop-again : tie.Need-loop-again Inv-loop μ-loop
-loop-again c = let a = c .before .before .before .before .args in
-    let l = c .before .before .before .loop in
-    (omega arith, c .word .ensures .since .as-long ∙ l .inv .1, lanes-more (a .pass .now) (a .sets .now) (a .p) (a .q) (l .k) _ _ (l .inv .2) (c .word .ensures))
+loop-again c = let a = c .before .before .before .before .before .before .before .before .args in
+    let l = c .before .before .before .before .before .loop in
+    (omega arith, c .before .before .word .ensures .since .as-long ∙ l .inv .1, lanes-more (a .pass .now) (a .sets .now) (a .p) (a .q) (l .k) _ _ (l .inv .2) (c .before .before .word .ensures))
+
+same-length : tie.Need-same-length Inv-loop μ-loop
+same-length c = search needs
 
 returns : tie.Need-returns Inv-loop μ-loop
-returns c = let a = c .before .before .args in
+returns c = let a = c .before .before .before .before .args in
     let l = c .before .loop in
     lanes-all (a .pass .now) (a .sets .now) (a .p) (a .q) (l .k) _ (l .inv .0) (omega arith) (l .inv .2)
 
@@ -64,4 +67,5 @@ edge-spec =
     add-k
     loop-less
     loop-again
+    same-length
     returns)

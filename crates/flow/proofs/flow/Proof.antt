@@ -1,6 +1,8 @@
 -- `flow::flow`. The loop's invariant: the sets came about by edges. The measure is the number of 0 bits. Assumes nothing.
 use borrow.Author.Tests.{not-true, not-false}
-use mathlib.Core.Path.{_∙_}
+use mathlib.Core.Path.{refl, _∙_}
+use native.Mathlib.Omega.{arith}
+use borrow.Author.Needs.{needs}
 use Rattle.bit_set.specs.Missing.{missing}
 use Rattle.flow.specs.Running.{Since, Rows}
 use Rattle.flow.proofs.FlowLaws.{rounds-none, rounds-more, rounds-less, rounds-all, flows-none}
@@ -14,28 +16,40 @@ abbrev μ-loop : tie.MeasureT-loop
 μ-loop sets₀ pass first succ code direction sets = missing sets
 
 returns : tie.Need-returns Inv-loop μ-loop
-returns c = let a = c .before .args in (c .before .pre, flows-none (a .direction) (a .code) (a .first .now) (a .succ .now) (a .pass .now) (a .sets .now) (c .if1 .taken))
+returns c = let a = c .before .before .before .args in (refl, flows-none (a .direction) (a .code) (a .first .now) (a .succ .now) (a .pass .now) (a .sets .now) (c .if1 .taken))
 
 loop-holds : tie.Need-loop-holds Inv-loop μ-loop
-loop-holds c = let a = c .before .args in rounds-none (a .direction) (a .code) (a .first .now) (a .succ .now) (a .pass .now) (a .sets .now)
+loop-holds c = let a = c .before .before .before .args in rounds-none (a .direction) (a .code) (a .first .now) (a .succ .now) (a .pass .now) (a .sets .now)
 
 round-requires : tie.Need-round-requires Inv-loop μ-loop
-round-requires c κs = (c .before .before .if1 .left, c .before .loop .inv .as-long ∙ c .before .before .before .pre)
+round-requires c κs = let s = c .before .loop .inv in (c .before .before .if1 .left, omega (arith, s .as-long), search needs)
+
+same-length : tie.Need-same-length Inv-loop μ-loop
+same-length c = search needs
 
 returns-2 : tie.Need-returns-2 Inv-loop μ-loop
-returns-2 c = let a = c .before .before .before .before .before .args in
-    let s = c .before .before .before .loop .inv in (
-      c .before .round .ensures .since .as-long ∙ s .as-long ∙ c .before .before .before .before .before .pre,
-      rounds-all (a .direction) (a .code) (a .first .now) (a .succ .now) (a .pass .now) (a .sets .now) s (c .before .round .ensures) (not-true _ (c .if2 .taken)) (c .before .before .before .before .before .pre),
+returns-2 c = let a = c .before .before .before .before .before .before .before .before .before .args in
+    let s = c .before .before .before .before .before .loop .inv in (
+      c .before .before .before .round .ensures .since .as-long ∙ s .as-long,
+      rounds-all (a .direction) (a .code) (a .first .now) (a .succ .now) (a .pass .now) (a .sets .now) s (c .before .before .before .round .ensures) (not-true _ (c .if2 .taken)),
     )
 
 loop-less : tie.Need-loop-less Inv-loop μ-loop
-loop-less c = let a = c .before .before .before .before .before .args in rounds-less (a .direction) (a .code) (a .first .now) (a .succ .now) (a .pass .now) (a .sets .now) (c .before .before .before .loop .inv) (c .before .round .ensures) (not-false _ (c .if2 .left))
+loop-less c = let a = c .before .before .before .before .before .before .before .before .before .args in rounds-less (a .direction) (a .code) (a .first .now) (a .succ .now) (a .pass .now) (a .sets .now) (c .before .before .before .before .before .loop .inv) (c .before .before .before .round .ensures) (not-false _ (c .if2 .left))
 
 loop-again : tie.Need-loop-again Inv-loop μ-loop
-loop-again c = let a = c .before .before .before .before .before .args in rounds-more (a .direction) (a .code) (a .first .now) (a .succ .now) (a .pass .now) (a .sets .now) (c .before .before .before .loop .inv) (c .before .round .ensures)
+loop-again c = let a = c .before .before .before .before .before .before .before .before .before .args in rounds-more (a .direction) (a .code) (a .first .now) (a .succ .now) (a .pass .now) (a .sets .now) (c .before .before .before .before .before .loop .inv) (c .before .before .before .round .ensures)
 
 pub flow-spec : {M : Type 1} → statement M
 flow-spec =
     tie.close
-    (tie.spec Inv-loop μ-loop returns loop-holds round-requires returns-2 loop-less loop-again)
+    (tie.spec
+    Inv-loop
+    μ-loop
+    returns
+    loop-holds
+    round-requires
+    same-length
+    returns-2
+    loop-less
+    loop-again)

@@ -10,13 +10,13 @@ use Rattle.flow.proofs.round.Statement.{statement}
 use Rattle.flow.proofs.round.Tie as tie
 
 abbrev Inv-loop : tie.InvT-loop
-Inv-loop sets₀ pass first succ code direction changed₀ i₀ sets changed i = (i ≤ code) × (length sets ≡ 4096) × Ran (Rows direction code first succ i) pass sets₀ sets changed
+Inv-loop sets₀ pass first succ code direction changed₀ i₀ sets changed i = (i ≤ code) × (length sets ≡ length sets₀) × Ran (Rows direction code first succ i) pass sets₀ sets changed
 
 abbrev μ-loop : tie.MeasureT-loop
 μ-loop sets₀ pass first succ code direction changed₀ i₀ sets changed i = code - i
 
 loop-holds : tie.Need-loop-holds Inv-loop μ-loop
-loop-holds c = let a = c .args in (search needs, search needs, rows-none (a .direction) (a .code) (a .first .now) (a .succ .now) (a .pass .now) (a .sets .now))
+loop-holds c = let a = c .before .before .args in (search needs, search needs, rows-none (a .direction) (a .code) (a .first .now) (a .succ .now) (a .pass .now) (a .sets .now))
 
 point-requires : tie.Need-point-requires Inv-loop μ-loop
 point-requires c κs = search needs
@@ -31,15 +31,18 @@ loop-less : tie.Need-loop-less Inv-loop μ-loop
 loop-less c = search needs
 
 loop-again : tie.Need-loop-again Inv-loop μ-loop
-loop-again c = let a = c .before .before .before .before .before .args in
-    let l = c .before .before .before .before .loop in (
+loop-again c = let a = c .before .before .before .before .before .before .before .before .before .args in
+    let l = c .before .before .before .before .before .before .loop in (
       omega arith,
-      c .row .ensures .since .as-long ∙ l .inv .1,
-      rows-more (a .direction) (a .code) (a .first .now) (a .succ .now) (a .pass .now) (a .sets .now) (l .i) _ _ _ (c .before .before .point .ensures .0) (l .inv .2) (c .row .ensures),
+      c .before .before .row .ensures .since .as-long ∙ l .inv .1,
+      rows-more (a .direction) (a .code) (a .first .now) (a .succ .now) (a .pass .now) (a .sets .now) (l .i) _ _ _ (c .before .before .before .before .point .ensures .0) (l .inv .2) (c .before .before .row .ensures),
     )
 
+same-length : tie.Need-same-length Inv-loop μ-loop
+same-length c = search needs
+
 returns : tie.Need-returns Inv-loop μ-loop
-returns c = let a = c .before .before .args in
+returns c = let a = c .before .before .before .before .args in
     let l = c .before .loop in
     rows-all (a .direction) (a .code) (a .first .now) (a .succ .now) (a .pass .now) (a .sets .now) (l .i) (l .inv .0) (omega arith) (l .inv .2)
 
@@ -55,4 +58,5 @@ round-spec =
     add-i
     loop-less
     loop-again
+    same-length
     returns)

@@ -10,7 +10,7 @@ use Rattle.flow.proofs.row.Statement.{statement}
 use Rattle.flow.proofs.row.Tie as tie
 
 abbrev Inv-loop : tie.InvT-loop
-Inv-loop sets₀ pass first succ code p direction start end changed₀ k₀ sets changed k = (start ≤ k) × (k - start ≤ end - start) × (length sets ≡ 4096) × Ran (Leaving direction code first succ p k) pass sets₀ sets changed
+Inv-loop sets₀ pass first succ code p direction start end changed₀ k₀ sets changed k = (start ≤ k) × (k - start ≤ end - start) × (length sets ≡ length sets₀) × Ran (Leaving direction code first succ p k) pass sets₀ sets changed
 
 abbrev μ-loop : tie.MeasureT-loop
 μ-loop sets₀ pass first succ code p direction start end changed₀ k₀ sets changed k = end - k
@@ -37,7 +37,7 @@ up-to-requires : tie.Need-up-to-requires Inv-loop μ-loop
 up-to-requires c κs = search needs
 
 loop-holds : tie.Need-loop-holds Inv-loop μ-loop
-loop-holds c = let a = c .before .before .before .before .args in
+loop-holds c = let a = c .before .before .before .before .before .before .args in
     (search needs, search needs, search needs, leaving-none (a .direction) (a .code) (a .first .now) (a .succ .now) (a .pass .now) (a .sets .now) (a .p) _ (c .before .before .wide .ensures))
 
 mul-turned : tie.Need-mul-turned Inv-loop μ-loop
@@ -56,16 +56,19 @@ loop-less : tie.Need-loop-less Inv-loop μ-loop
 loop-less c = search needs
 
 loop-again : tie.Need-loop-again Inv-loop μ-loop
-loop-again c = let a = c .before .before .before .before .before .before .before .before .before .args in
-    let l = c .before .before .before .before .loop in (
+loop-again c = let a = c .before .before .before .before .before .before .before .before .before .before .before .before .before .args in
+    let l = c .before .before .before .before .before .before .loop in (
       omega arith,
       omega arith,
-      c .turned .ensures .since .as-long ∙ l .inv .2,
-      leaving-more (a .direction) (a .code) (a .first .now) (a .succ .now) (a .pass .now) (a .sets .now) (a .p) (l .k) _ _ (omega (arith, c .before .before .before .before .before .before .before .wide .ensures)) (l .inv .3) (c .turned .ensures),
+      c .before .before .turned .ensures .since .as-long ∙ l .inv .2,
+      leaving-more (a .direction) (a .code) (a .first .now) (a .succ .now) (a .pass .now) (a .sets .now) (a .p) (l .k) _ _ (omega (arith, c .before .before .before .before .before .before .before .before .before .wide .ensures)) (l .inv .3) (c .before .before .turned .ensures),
     )
 
+same-length : tie.Need-same-length Inv-loop μ-loop
+same-length c = search needs
+
 returns : tie.Need-returns Inv-loop μ-loop
-returns c = let a = c .before .before .before .before .before .before .args in
+returns c = let a = c .before .before .before .before .before .before .before .before .args in
     let l = c .before .loop in
     leaving-all (a .direction) (a .code) (a .first .now) (a .succ .now) (a .pass .now) (a .sets .now) (a .p) _ _ (l .k) (c .before .before .before .before .wide .ensures) (c .before .before .up-to .ensures .0) (l .inv .0) (l .inv .1) (omega arith) (l .inv .3)
 
@@ -89,4 +92,5 @@ row-spec =
     add-k
     loop-less
     loop-again
+    same-length
     returns)

@@ -1,50 +1,61 @@
--- `loans_in_scope::compute`. Assumes nothing.
-use Prim.Native.Nat.{_*_}
+-- `loans_in_scope::compute`: the tables of either size are empty and have room. Assumes nothing.
 use native.Mathlib.Omega.{arith}
-use Rattle.loans_in_scope.proofs.ScopeLaws.{sized-zeros, cleared-size, gathered-size, scope-says}
+use Rattle.loans_in_scope.proofs.ScopeLaws.{zeros-sized, zeros-empty}
 use borrow.Author.Needs.{needs}
 use Rattle.loans_in_scope.proofs.compute.Statement.{statement}
 use Rattle.loans_in_scope.proofs.compute.Tie as tie
 
-fill-requires : tie.Need-fill-requires
-fill-requires c κs = let r = c .before .before .before .before .before .pre in (r .0, r .1, sized-zeros, r .3, r .4, r .5)
+slice-aggregate-by-tables : tie.Need-slice-aggregate-by-tables
+slice-aggregate-by-tables c = search needs
 
-flow-requires : tie.Need-flow-requires
-flow-requires c κs = c .before .before .fill .ensures .sized .start
+slice-aggregate-by-tables-2 : tie.Need-slice-aggregate-by-tables-2
+slice-aggregate-by-tables-2 c = search needs
 
-mul-clear : tie.Need-mul-clear
-mul-clear c = search needs
+slice-aggregate-by-tables-3 : tie.Need-slice-aggregate-by-tables-3
+slice-aggregate-by-tables-3 c = search needs
 
-clear-requires : tie.Need-clear-requires
-clear-requires c κs = search needs
+by-tables-requires : tie.Need-by-tables-requires
+by-tables-requires c κs = let r = c .before .before .before .before .before .before .before .before .pre in
+    (r .0, r .1, zeros-sized 256 _ (omega (arith, c .before .before .before .before .if1 .taken)), zeros-empty 256, r .2, r .3, r .4, r .5)
 
-gather-requires : tie.Need-gather-requires
-gather-requires c κs = let a = c .before .before .before .before .before .before .before .before .before .before .before .before .before .args in
-    let r = c .before .before .before .before .before .before .before .before .before .before .before .before .before .pre in
-    (r .5, c .before .before .before .before .flow .ensures .0, cleared-size (a .scope .now) (4 * a .code) (r .2) (c .before .before .clear .ensures))
+slice-aggregate-by-tables-4 : tie.Need-slice-aggregate-by-tables-4
+slice-aggregate-by-tables-4 c = search needs
 
-mul-mask : tie.Need-mul-mask
-mul-mask c = search needs
+slice-aggregate-by-tables-5 : tie.Need-slice-aggregate-by-tables-5
+slice-aggregate-by-tables-5 c = search needs
 
-mask-requires : tie.Need-mask-requires
-mask-requires c κs = let a = c .before .before .before .before .before .before .before .before .before .before .before .before .before .before .before .before .args in
-    let r = c .before .before .before .before .before .before .before .before .before .before .before .before .before .before .before .before .pre in
-    (omega (arith, r .5), gathered-size (cleared-size (a .scope .now) (4 * a .code) (r .2) (c .before .before .before .before .before .clear .ensures)) (c .before .before .gather .ensures))
+slice-aggregate-by-tables-6 : tie.Need-slice-aggregate-by-tables-6
+slice-aggregate-by-tables-6 c = search needs
+
+by-tables-requires-2 : tie.Need-by-tables-requires-2
+by-tables-requires-2 c κs = let r = c .before .before .before .before .before .before .before .before .pre in
+    (r .0, r .1, zeros-sized 4096 _ (omega (arith, r .4)), zeros-empty 4096, r .2, r .3, r .4, r .5)
+
+same-length : tie.Need-same-length
+same-length c = search needs
 
 returns : tie.Need-returns
-returns c = let a = c .before .before .before .before .before .before .before .before .before .before .before .before .before .before .before .before .before .args in
-    let r = c .before .before .before .before .before .before .before .before .before .before .before .before .before .before .before .before .before .pre in
-    λ h e. scope-says (r .5) e (c .before .before .before .before .before .before .before .before .before .before .before .fill .ensures) (c .before .before .before .before .before .before .before .before .flow .ensures .1) (a .scope .now) (r .2) (c .before .before .before .before .before .before .clear .ensures) (c .before .before .before .gather .ensures) (c .mask .ensures)
+returns c = search needs
+
+same-length-2 : tie.Need-same-length-2
+same-length-2 c = search needs
+
+returns-2 : tie.Need-returns-2
+returns-2 c = search needs
 
 pub compute-spec : {M : Type 1} → statement M
 compute-spec =
     tie.close
     (tie.spec
-    fill-requires
-    flow-requires
-    mul-clear
-    clear-requires
-    gather-requires
-    mul-mask
-    mask-requires
-    returns)
+    slice-aggregate-by-tables
+    slice-aggregate-by-tables-2
+    slice-aggregate-by-tables-3
+    by-tables-requires
+    slice-aggregate-by-tables-4
+    slice-aggregate-by-tables-5
+    slice-aggregate-by-tables-6
+    by-tables-requires-2
+    same-length
+    returns
+    same-length-2
+    returns-2)

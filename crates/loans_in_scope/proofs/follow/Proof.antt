@@ -10,7 +10,7 @@ use Rattle.loans_in_scope.proofs.follow.Statement.{statement}
 use Rattle.loans_in_scope.proofs.follow.Tie as tie
 
 abbrev Inv-loop : tie.InvT-loop
-Inv-loop first succ code from p scope₀ start end k₀ scope k = (start ≤ k) × (k - start ≤ end - start) × (length scope ≡ 4096) × Gains (Leaving from code first succ p k) scope₀ scope
+Inv-loop first succ code from p scope₀ start end k₀ scope k = (start ≤ k) × (k - start ≤ end - start) × (length scope ≡ length scope₀) × Gains (Leaving from code first succ p k) scope₀ scope
 
 abbrev μ-loop : tie.MeasureT-loop
 μ-loop first succ code from p scope₀ start end k₀ scope k = end - k
@@ -37,7 +37,7 @@ up-to-requires : tie.Need-up-to-requires Inv-loop μ-loop
 up-to-requires c κs = search needs
 
 loop-holds : tie.Need-loop-holds Inv-loop μ-loop
-loop-holds c = let a = c .before .before .before .before .args in
+loop-holds c = let a = c .before .before .before .before .before .before .args in
     (search needs, search needs, search needs, leaving-none (a .from .now) (a .code) (a .first .now) (a .succ .now) (a .scope .now) (a .p) _ (c .before .before .wide .ensures))
 
 mul-onto : tie.Need-mul-onto Inv-loop μ-loop
@@ -56,16 +56,19 @@ loop-less : tie.Need-loop-less Inv-loop μ-loop
 loop-less c = search needs
 
 loop-again : tie.Need-loop-again Inv-loop μ-loop
-loop-again c = let a = c .before .before .before .before .before .before .before .before .before .args in
-    let l = c .before .before .before .before .loop in (
+loop-again c = let a = c .before .before .before .before .before .before .before .before .before .before .before .before .before .args in
+    let l = c .before .before .before .before .before .before .loop in (
       omega arith,
       omega arith,
-      c .onto .ensures .as-long ∙ l .inv .2,
-      leaving-more (a .from .now) (a .code) (a .first .now) (a .succ .now) (a .scope .now) (a .p) (l .k) (omega (arith, c .before .before .before .before .before .before .before .wide .ensures)) (l .inv .3) (c .onto .ensures),
+      c .before .before .onto .ensures .as-long ∙ l .inv .2,
+      leaving-more (a .from .now) (a .code) (a .first .now) (a .succ .now) (a .scope .now) (a .p) (l .k) (omega (arith, c .before .before .before .before .before .before .before .before .before .wide .ensures)) (l .inv .3) (c .before .before .onto .ensures),
     )
 
+same-length : tie.Need-same-length Inv-loop μ-loop
+same-length c = search needs
+
 returns : tie.Need-returns Inv-loop μ-loop
-returns c = let a = c .before .before .before .before .before .before .args in
+returns c = let a = c .before .before .before .before .before .before .before .before .args in
     let l = c .before .loop in
     leaving-all (a .from .now) (a .code) (a .first .now) (a .succ .now) (a .scope .now) (a .p) _ _ (l .k) (c .before .before .before .before .wide .ensures) (c .before .before .up-to .ensures .0) (l .inv .0) (l .inv .1) (omega arith) (l .inv .3)
 
@@ -89,4 +92,5 @@ follow-spec =
     add-k
     loop-less
     loop-again
+    same-length
     returns)

@@ -9,22 +9,25 @@ wide-requires : tie.Need-wide-requires
 wide-requires c κs = search needs
 
 returns : tie.Need-returns
-returns c = says-none (c .before .before .before .before .pre .2) (λ j sets g. omega (arith, g .layout .code, g .layout .few, c .before .wide .ensures, c .if1 .taken))
+returns c = says-none (λ j sets g. omega (arith, g .layout .code, g .layout .few, c .before .wide .ensures, c .if1 .taken))
 
 returns-2 : tie.Need-returns-2
-returns-2 c = says-none (c .before .before .before .before .before .pre .2) (λ j sets g. omega (arith, g .narrow, c .if2 .taken))
+returns-2 c = says-none (λ j sets g. omega (arith, g .narrow, c .if2 .taken))
 
 returns-3 : tie.Need-returns-3
-returns-3 c = says-none (c .before .before .before .before .before .before .pre .2) (λ j sets g. omega (arith, g .loans .few, c .if3 .taken))
+returns-3 c = says-none (λ j sets g. omega (arith, g .loans .few, c .if3 .taken))
 
 returns-4 : tie.Need-returns-4
-returns-4 c = says-empty (c .before .before .before .before .before .before .before .pre .2) (c .if4 .taken)
+returns-4 c = says-empty (c .if4 .taken)
 
 compute-requires : tie.Need-compute-requires
-compute-requires c κs = let r = c .before .before .before .before .before .before .before .before .pre in (r .0, r .1, r .2, c .before .before .before .if2 .left, c .before .before .if3 .left, c .before .before .before .before .if1 .left)
+compute-requires c κs = let r = c .before .before .before .before .before .before .before .before .before .pre in (r .0, r .1, c .before .before .before .if2 .left, c .before .before .if3 .left, c .before .before .before .before .if1 .left, omega (arith, r .2 (omega (arith, c .before .before .before .before .before .wide .ensures, c .before .before .before .before .if1 .left)), c .before .before .before .before .before .wide .ensures))
+
+same-length : tie.Need-same-length
+same-length c = search needs
 
 returns-5 : tie.Need-returns-5
-returns-5 c = c .compute .ensures (c .before .before .before .before .before .before .before .before .before .args .head) (c .before .before .before .before .before .before .wide .ensures)
+returns-5 c = c .before .before .compute .ensures (c .before .before .before .before .before .before .before .before .before .before .before .before .args .head) (c .before .before .before .before .before .before .before .before .wide .ensures)
 
 pub loans-in-scope-spec : {M : Type 1} → statement M
 loans-in-scope-spec =
@@ -36,4 +39,5 @@ loans-in-scope-spec =
     returns-3
     returns-4
     compute-requires
+    same-length
     returns-5)

@@ -10,7 +10,7 @@ use Rattle.loans_in_scope.proofs.mask.Statement.{statement}
 use Rattle.loans_in_scope.proofs.mask.Tie as tie
 
 abbrev Inv-loop : tie.InvT-loop
-Inv-loop by n sets₀ w₀ sets w = (w ≤ n) × (length sets ≡ 4096) × Masked by sets₀ w sets
+Inv-loop by n sets₀ w₀ sets w = (w ≤ n) × (length sets ≡ length sets₀) × Masked by sets₀ w sets
 
 abbrev μ-loop : tie.MeasureT-loop
 μ-loop by n sets₀ w₀ sets w = n - w
@@ -21,20 +21,20 @@ loop-holds c = (omega arith, search needs, masked-none (c .args .by .now) (c .ar
 mul-sets : tie.Need-mul-sets Inv-loop μ-loop
 mul-sets c = search needs
 
-element-copy-out-sets : tie.Need-element-copy-out-sets Inv-loop μ-loop
-element-copy-out-sets c = search needs
+slice-read-sets : tie.Need-slice-read-sets Inv-loop μ-loop
+slice-read-sets c = search needs
 
 mul-sets-2 : tie.Need-mul-sets-2 Inv-loop μ-loop
 mul-sets-2 c = search needs
 
-element-copy-out-sets-2 : tie.Need-element-copy-out-sets-2 Inv-loop μ-loop
-element-copy-out-sets-2 c = search needs
+shared-slice-read-sets : tie.Need-shared-slice-read-sets Inv-loop μ-loop
+shared-slice-read-sets c = search needs
 
 mul-sets-3 : tie.Need-mul-sets-3 Inv-loop μ-loop
 mul-sets-3 c = search needs
 
-element-write-sets : tie.Need-element-write-sets Inv-loop μ-loop
-element-write-sets c = search needs
+slice-write-sets : tie.Need-slice-write-sets Inv-loop μ-loop
+slice-write-sets c = search needs
 
 add-w : tie.Need-add-w Inv-loop μ-loop
 add-w c = search needs
@@ -46,7 +46,10 @@ loop-again : tie.Need-loop-again Inv-loop μ-loop
 loop-again c = let a = c .before .before .before .before .args in
     let l = c .before .before .before .loop in
     let m = masked-more (a .by .now) (a .sets .now) (l .w) (l .inv .2) (omega arith) refl in
-    (omega arith, m .as-long ∙ c .before .before .before .before .pre .1, m)
+    (omega arith, m .as-long, m)
+
+same-length : tie.Need-same-length Inv-loop μ-loop
+same-length c = search needs
 
 returns : tie.Need-returns Inv-loop μ-loop
 returns c = let a = c .before .before .args in
@@ -61,12 +64,13 @@ mask-spec =
     μ-loop
     loop-holds
     mul-sets
-    element-copy-out-sets
+    slice-read-sets
     mul-sets-2
-    element-copy-out-sets-2
+    shared-slice-read-sets
     mul-sets-3
-    element-write-sets
+    slice-write-sets
     add-w
     loop-less
     loop-again
+    same-length
     returns)

@@ -10,11 +10,21 @@ mul-add c = search needs
 add-requires : tie.Need-add-requires
 add-requires c κs = search needs
 
+same-length : tie.Need-same-length
+same-length c = search needs
+
 returns : tie.Need-returns
-returns c = rw (c .add .ensures .0) (gains-with (c .before .before .before .args .sets .now) (c .before .before .before .args .p) (c .before .before .before .args .i) (c .before .before .before .pre .0) (c .before .before .before .pre .1) (c .before .before .before .pre .2) (c .before .before .if1 .taken))
+returns c = rw (c .before .before .add .ensures .0) (gains-with (c .before .before .before .before .before .before .args .sets .now) (c .before .before .before .before .before .before .args .p) (c .before .before .before .before .before .before .args .i) (c .before .before .before .before .before .before .pre .0) (c .before .before .before .before .before .before .pre .1) (c .before .before .before .before .if1 .taken))
 
 returns-2 : tie.Need-returns-2
-returns-2 c = gains-not (c .before .args .sets .now) (c .before .args .p) (c .before .args .i) (c .if1 .left)
+returns-2 c = gains-not (c .before .before .args .sets .now) (c .before .before .args .p) (c .before .before .args .i) (c .if1 .left)
 
 pub put-spec : {M : Type 1} → statement M
-put-spec = tie.close (tie.spec mul-add add-requires returns returns-2)
+put-spec =
+    tie.close
+    (tie.spec
+    mul-add
+    add-requires
+    same-length
+    returns
+    returns-2)

@@ -39,19 +39,19 @@ loop-less : tie.Need-loop-less Inv-loop μ-loop
 loop-less c = search needs
 
 loop-again : tie.Need-loop-again Inv-loop μ-loop
-loop-again c = (omega arith, gathering-pass (c .before .before .before .before .loop .inv .1) (c .before .is-set .ensures) (not-true _ (c .if2 .taken)))
+loop-again c = (omega arith, gathering-pass (c .before .before .before .loop .inv .1) (c .before .is-set .ensures) (not-true _ (c .if2 .taken)))
 
 loan-at-requires-2 : tie.Need-loan-at-requires-2 Inv-loop μ-loop
 loan-at-requires-2 c κs = search needs
 
 mul-loans : tie.Need-mul-loans Inv-loop μ-loop
-mul-loans c = omega (arith, c .before .before .before .before .before .loop .inv .1 .most, c .before .before .before .before .before .before .at-most .ensures)
+mul-loans c = omega (arith, c .before .before .before .before .loop .inv .1 .most, c .before .before .before .before .before .at-most .ensures)
 
 array-set-from-loans : tie.Need-array-set-from-loans Inv-loop μ-loop
-array-set-from-loans c = omega (arith, c .before .before .before .before .before .loop .inv .1 .most, c .before .before .before .before .before .before .at-most .ensures)
+array-set-from-loans c = omega (arith, c .before .before .before .before .loop .inv .1 .most, c .before .before .before .before .before .at-most .ensures)
 
 add-n : tie.Need-add-n Inv-loop μ-loop
-add-n c = omega (arith, c .before .before .before .before .before .loop .inv .1 .most, c .before .before .before .before .before .before .at-most .ensures)
+add-n c = omega (arith, c .before .before .before .before .loop .inv .1 .most, c .before .before .before .before .before .at-most .ensures)
 
 add-i-2 : tie.Need-add-i-2 Inv-loop μ-loop
 add-i-2 c = search needs
@@ -60,7 +60,7 @@ loop-less-2 : tie.Need-loop-less-2 Inv-loop μ-loop
 loop-less-2 c = search needs
 
 loop-again-2 : tie.Need-loop-again-2 Inv-loop μ-loop
-loop-again-2 c = (omega arith, gathering-more (c .before .before .before .before .before .loop .inv .1) (c .before .before .is-set .ensures) (not-false _ (c .before .if2 .left)) (c .loan-at2 .ensures) (omega (arith, c .before .before .before .before .before .loop .inv .1 .most, c .before .before .before .before .before .before .at-most .ensures)))
+loop-again-2 c = (omega arith, gathering-more (c .before .before .before .before .loop .inv .1) (c .before .before .is-set .ensures) (not-false _ (c .before .if2 .left)) (c .loan-at2 .ensures) (omega (arith, c .before .before .before .before .loop .inv .1 .most, c .before .before .before .before .before .at-most .ensures)))
 
 returns-2 : tie.Need-returns-2 Inv-loop μ-loop
 returns-2 c = gathered (c .before .loop .inv .1) (omega (arith, c .before .before .at-most .ensures))

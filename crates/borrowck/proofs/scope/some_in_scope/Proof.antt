@@ -28,7 +28,7 @@ is-set-requires : tie.Need-is-set-requires Inv-loop μ-loop
 is-set-requires c κs = search needs
 
 returns-2 : tie.Need-returns-2 Inv-loop μ-loop
-returns-2 c = some-here (c .before .is-set .ensures) (c .if2 .taken) (omega (arith, c .before .before .before .before .before .at-most .ensures))
+returns-2 c = some-here (c .before .is-set .ensures) (c .if2 .taken) (omega (arith, c .before .before .before .before .at-most .ensures))
 
 add-i : tie.Need-add-i Inv-loop μ-loop
 add-i c = search needs
@@ -37,7 +37,7 @@ loop-less : tie.Need-loop-less Inv-loop μ-loop
 loop-less c = search needs
 
 loop-again : tie.Need-loop-again Inv-loop μ-loop
-loop-again c = (omega arith, passed-more (c .before .is-set .ensures) (c .before .before .before .before .loop .inv .1) (c .if2 .left))
+loop-again c = (omega arith, passed-more (c .before .is-set .ensures) (c .before .before .before .loop .inv .1) (c .if2 .left))
 
 returns-3 : tie.Need-returns-3 Inv-loop μ-loop
 returns-3 c = some-none (c .before .loop .inv .1) (omega (arith, c .before .before .at-most .ensures))

@@ -20,10 +20,16 @@ defines-requires : tie.Need-defines-requires
 defines-requires c κs = search needs
 
 returns : tie.Need-returns
-returns c = acted-refused (c .before .before .action-at .ensures) (c .enum-told .given .1) (c .before .before .before .before .pre .2)
+returns c = acted-refused (c .before .before .action-at .ensures) (c .enum-told .given .1)
+
+same-length : tie.Need-same-length
+same-length c = search needs
+
+same-length-2 : tie.Need-same-length-2
+same-length-2 c = search needs
 
 returns-2 : tie.Need-returns-2
-returns-2 c = acted-action (c .before .before .before .before .before .before .before .action-at .ensures) (c .before .before .before .before .before .a .given .1) (c .before .before .needs .ensures) (c .defines .ensures)
+returns-2 c = acted-action (c .before .before .before .before .before .before .before .before .before .before .before .action-at .ensures) (c .before .before .before .before .before .before .before .before .before .a .given .1) (c .before .before .before .before .before .before .needs .ensures) (c .before .before .defines .ensures)
 
 pub act-spec : {M : Type 1} → statement M
 act-spec =
@@ -35,4 +41,6 @@ act-spec =
     needs-requires
     defines-requires
     returns
+    same-length
+    same-length-2
     returns-2)

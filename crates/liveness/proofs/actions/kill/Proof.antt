@@ -8,7 +8,7 @@ wide8-requires : tie.Need-wide8-requires
 wide8-requires c κs = search needs
 
 returns : tie.Need-returns
-returns c = let a = c .before .before .args in (c .before .before .pre .1, kill-large (a .p) (a .pass .now) _ (a .v .0) (c .before .wide8 .ensures) (c .if1 .taken))
+returns c = let a = c .before .before .before .args in kill-large (a .p) (a .pass .now) _ (a .v .0) (c .before .wide8 .ensures) (c .if1 .taken)
 
 mul-kill : tie.Need-mul-kill
 mul-kill c = search needs
@@ -25,8 +25,11 @@ add-kill c = search needs
 kill-requires-2 : tie.Need-kill-requires-2
 kill-requires-2 c κs = search needs
 
+same-length : tie.Need-same-length
+same-length c = search needs
+
 returns-2 : tie.Need-returns-2
-returns-2 c = let a = c .before .before .before .before .before .before .args in kill-small (a .p) (a .pass .now) _ (a .v .0) (c .before .before .before .before .before .wide8 .ensures) (c .before .before .before .before .before .before .pre .1) (c .before .before .before .before .if1 .left) (c .before .before .kill .ensures .0) (c .kill2 .ensures .0)
+returns-2 c = let a = c .before .before .before .before .before .before .before .before .before .before .before .args in kill-small (a .p) (a .pass .now) _ (a .v .0) (c .before .before .before .before .before .before .before .before .before .wide8 .ensures) (c .before .before .before .before .before .before .before .before .if1 .left) (c .before .before .before .before .before .before .kill .ensures .0) (c .before .before .kill2 .ensures .0)
 
 pub kill-spec : {M : Type 1} → statement M
 kill-spec =
@@ -39,4 +42,5 @@ kill-spec =
     mul-kill-2
     add-kill
     kill-requires-2
+    same-length
     returns-2)

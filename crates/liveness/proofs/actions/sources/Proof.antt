@@ -12,13 +12,16 @@ abbrev μ-loop : tie.MeasureT-loop
 μ-loop s count sets₀ p c₀ left₀ sets c left = left
 
 loop-holds : tie.Need-loop-holds Inv-loop μ-loop
-loop-holds c = let a = c .before .args in sourcing-none (a .s .now) (a .from) (a .count) (a .p) (c .before .pre .1)
+loop-holds c = let a = c .before .before .args in sourcing-none (a .s .now) (a .from) (a .count) (a .p)
 
 path-requires : tie.Need-path-requires Inv-loop μ-loop
 path-requires c κs = search needs
 
 enum-told : tie.Need-enum-told Inv-loop μ-loop
 enum-told c = search needs
+
+same-length : tie.Need-same-length Inv-loop μ-loop
+same-length c = search needs
 
 returns : tie.Need-returns Inv-loop μ-loop
 returns c = sourcing-stop (c .before .before .before .before .loop .inv) (c .before .before .before .loop-test .taken) (c .before .before .path .ensures) (c .enum-told .given .1)
@@ -36,7 +39,10 @@ loop-less : tie.Need-loop-less Inv-loop μ-loop
 loop-less c = search needs
 
 loop-again : tie.Need-loop-again Inv-loop μ-loop
-loop-again c = sourcing-more (c .before .before .before .before .before .before .before .loop .inv) (c .before .before .before .before .before .before .loop-test .taken) (c .before .before .before .before .before .path .ensures) (c .before .before .before .q .given .1) (c .add .ensures .0) (c .add .ensures .1)
+loop-again c = sourcing-more (c .before .before .before .before .before .before .before .before .before .loop .inv) (c .before .before .before .before .before .before .before .before .loop-test .taken) (c .before .before .before .before .before .before .before .path .ensures) (c .before .before .before .before .before .q .given .1) (omega arith) (c .before .before .add .ensures)
+
+same-length-2 : tie.Need-same-length-2 Inv-loop μ-loop
+same-length-2 c = search needs
 
 returns-2 : tie.Need-returns-2 Inv-loop μ-loop
 returns-2 c = sourcing-all (c .before .loop .inv) (omega arith)
@@ -50,10 +56,12 @@ sources-spec =
     loop-holds
     path-requires
     enum-told
+    same-length
     returns
     enum-known-q
     add-requires
     sub-left
     loop-less
     loop-again
+    same-length-2
     returns-2)

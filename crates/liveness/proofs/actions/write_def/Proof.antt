@@ -11,11 +11,21 @@ plain-requires c κs = search needs
 kill-requires : tie.Need-kill-requires
 kill-requires c κs = search needs
 
+same-length : tie.Need-same-length
+same-length c = search needs
+
 returns : tie.Need-returns
-returns c = let a = c .before .before .before .before .before .args in (c .kill .ensures .0, def-plain (a .p) (pathOf (a .s .now) (a .dest)) (a .pass .now) (c .before .before .before .plain .ensures) (c .before .before .if1 .taken) (c .kill .ensures .1))
+returns c = let a = c .before .before .before .before .before .before .before .before .args in def-plain (a .p) (pathOf (a .s .now) (a .dest)) (a .pass .now) (c .before .before .before .before .before .plain .ensures) (c .before .before .before .before .if1 .taken) (c .before .before .kill .ensures)
 
 returns-2 : tie.Need-returns-2
-returns-2 c = let a = c .before .before .before .args in (c .before .before .before .pre .1, def-stepped (a .p) (pathOf (a .s .now) (a .dest)) (a .pass .now) (c .before .plain .ensures) (c .if1 .left))
+returns-2 c = let a = c .before .before .before .before .args in def-stepped (a .p) (pathOf (a .s .now) (a .dest)) (a .pass .now) (c .before .plain .ensures) (c .if1 .left)
 
 pub write-def-spec : {M : Type 1} → statement M
-write-def-spec = tie.close (tie.spec plain-requires kill-requires returns returns-2)
+write-def-spec =
+    tie.close
+    (tie.spec
+    plain-requires
+    kill-requires
+    same-length
+    returns
+    returns-2)

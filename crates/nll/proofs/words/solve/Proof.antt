@@ -21,4 +21,10 @@ returns c = solves (c .before .before .before .before .before .before .before .b
 
 pub solve-spec : {M : Type 1} → statement M
 solve-spec =
-    tie.close (tie.spec shape-of-requires seed-requires regionck-requires same-length returns)
+    tie.close
+    (tie.spec
+    shape-of-requires
+    seed-requires
+    regionck-requires
+    same-length
+    returns)

@@ -17,9 +17,14 @@ same-length : tie.Need-same-length
 same-length c = search needs
 
 returns : tie.Need-returns
-returns c = laws.live-adds (c .before .before .before .before .before .before .before .before .before .before .args .which) (c .before .before .before .before .before .before .before .before .before .before .args .points .now) _ _ _ _ (c .before .before .before .before .before .before .before .variable-at .ensures) (c .before .before .before .before .before .type-regions .ensures) (c .before .before .spread .ensures)
+returns c = laws.live-adds (c .before .before .before .before .before .before .before .before .before .before .before .args .which) (c .before .before .before .before .before .before .before .before .before .before .before .args .points .now) _ _ _ _ (c .before .before .before .before .before .before .before .variable-at .ensures) (c .before .before .before .before .before .type-regions .ensures) (c .before .before .spread .ensures)
 
 pub live-spec : {M : Type 1} → statement M
 live-spec =
     tie.close
-    (tie.spec variable-at-requires type-regions-requires spread-requires same-length returns)
+    (tie.spec
+    variable-at-requires
+    type-regions-requires
+    spread-requires
+    same-length
+    returns)

@@ -1,5 +1,6 @@
 -- `seeds::rows::spread` meets its contract. Assumes nothing.
-use Prim.Native.Nat.{_-_}
+use mathlib.Core.Path.{ap}
+use Prim.Native.Nat.{ℕ, _-_, _*_}
 use native.Mathlib.Omega.{arith}
 use borrow.Author.Needs.{needs}
 use Rattle.seeds.proofs.RowLaws as laws
@@ -19,7 +20,7 @@ wide-requires-2 : tie.Need-wide-requires-2 Inv-loop μ-loop
 wide-requires-2 c κs = search needs
 
 mul-from : tie.Need-mul-from Inv-loop μ-loop
-mul-from c = search needs
+mul-from c = omega (arith, laws.row-fits (c .wide2 .result) (c .before .before .before .before .args .width) (c .wide2 .ensures .1) (c .before .before .before .before .pre))
 
 wide-requires-3 : tie.Need-wide-requires-3 Inv-loop μ-loop
 wide-requires-3 c κs = search needs
@@ -43,7 +44,7 @@ same-length : tie.Need-same-length Inv-loop μ-loop
 same-length c = c .before .loop .inv .size
 
 returns : tie.Need-returns Inv-loop μ-loop
-returns c = laws.spreading-end (c .before .loop .inv) (c .before .before .before .before .before .before .args .head) (c .before .before .before .before .before .before .args .v) (c .loop-test .left) (c .before .before .before .before .wide .ensures .0) (c .before .before .wide3 .ensures .0) (let e = c .before .before .before .wide2 .ensures .0 in omega arith)
+returns c = laws.spreading-end (c .before .loop .inv) (c .before .before .before .before .before .before .before .args .head) (c .before .before .before .before .before .before .before .args .v) (c .loop-test .left) (c .before .before .before .before .wide .ensures .0) (c .before .before .wide3 .ensures .0) (ap (λ (x : ℕ). x * c .before .before .before .before .before .before .before .args .width) (c .before .before .before .wide2 .ensures .0))
 
 pub spread-spec : {M : Type 1} → statement M
 spread-spec =
