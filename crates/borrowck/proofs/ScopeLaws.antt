@@ -1,15 +1,16 @@
--- The loans in scope, gathered into a run. Assumes nothing.
+-- The loans in scope, gathered in parts. Assumes nothing.
 use mathlib.Core.Path.{_≡_, refl, sym, ap, subst, _∙_}
-use mathlib.Core.Bool.{Bool, true, false, _||_, cond}
+use mathlib.Core.Bool.{Bool, true, false, cond}
 use mathlib.Core.List.{List, [], _∷_, _++_, map, map-append, map-map, append-nil}
-use Prim.Native.Nat.{ℕ, zero, suc, _+_, _*_, _≤_, _<_, min}
+use Prim.Native.Nat.{ℕ, zero, suc, _+_, _-_, _*_, _/_, _%_, _^_, _≤_, _<_}
 use native.Mathlib.Omega.{arith}
 use native.Mathlib.Decide.{decLt}
+use native.Mathlib.Nat.{zero-div}
 use native.Mathlib.Numerals.{add-one}
 use lib.ListN.{length, getD, set, take, length-set}
 use lib.Seq.{take-suc-set}
 use lib.Dec.{T}
-use Rattle.nll_spec.specs.Lists.{any, select, countFrom, below}
+use Rattle.nll_spec.specs.Lists.{select, countFrom}
 use Rattle.nll_spec.specs.Fixpoint.{Table, holds}
 use Rattle.nll_spec.specs.Syntax.{Point, Job}
 use Rattle.nll_spec.specs.Graph.{graphOf}
@@ -17,18 +18,14 @@ use Rattle.nll_spec.specs.Loans as spec
 use Rattle.nll_spec.specs.Loans.{loansOf, loanNumber}
 use Rattle.nll_spec.specs.Access.{inScopeAt}
 use Rattle.nll_spec.specs.Output.{wordBits}
-use Rattle.nll_spec.proofs.Tests.{is-true, is-false, any-of, any-found, contains-below, below-contains}
-use Rattle.repr.specs.Reading.{pathOf}
 use Rattle.bit_set.specs.Bits.{has}
 use Rattle.env.specs.Prefixes.{ShortestOf}
 use Rattle.loans.specs.Table.{entryOf}
 use Rattle.loans.specs.Loans.{loanOf}
 use Rattle.loans.specs.declared.Loan.{Loan}
 use Rattle.loans.proofs.ListLaws.{count-split, select-append}
-use Rattle.borrowck.specs.Search.{noLoan}
-use Rattle.borrowck.specs.Scope.{loansIn, isIn, SomeIn, Gathered, Lent}
-use Rattle.borrowck.specs.Faults.{Scoped}
-use Rattle.borrowck.specs.declared.scope.InScope.{InScope}
+use Rattle.borrowck.specs.Scope.{isIn, inScope, SomeSet, SomeIn, Gathered}
+use Rattle.borrowck.specs.Faults.{Scoped, Known}
 
 pub apart : true ≡ false → ⊥
 apart e = subst T e tt
@@ -46,7 +43,7 @@ module _ {A : Type 0} where
       go false xs ys w = w
 
   -- what holds of each number holds of those selected
-  select-holds : (P : A → Type 0) (d : A) (f : ℕ → Bool) (h : ℕ → A) (a n : ℕ) → ((i : ℕ) → i < a + n → P (h i)) → (i : ℕ) → i < length (map h (select f (countFrom a n))) → P (getD (map h (select f (countFrom a n))) i d)
+  pub select-holds : (P : A → Type 0) (d : A) (f : ℕ → Bool) (h : ℕ → A) (a n : ℕ) → ((i : ℕ) → i < a + n → P (h i)) → (i : ℕ) → i < length (map h (select f (countFrom a n))) → P (getD (map h (select f (countFrom a n))) i d)
   select-holds P d f h a zero o = λ i l. absurd (omega arith)
   select-holds P d f h a (suc n) o = go (f a) (select f (countFrom (suc a) n)) (select-holds P d f h (suc a) n (λ i l. o i (omega arith)))
     where
@@ -55,104 +52,139 @@ module _ {A : Type 0} where
       go true xs w (suc i) l = w i (omega arith)
       go false xs w i l = w i l
 
--- ---- What the loop keeps
+  select-split : (f : ℕ → Bool) (h : ℕ → A) (a m n : ℕ) → map h (select f (countFrom a (m + n))) ≡ map h (select f (countFrom a m)) ++ map h (select f (countFrom (a + m) n))
+  select-split f h a m n = rw (count-split a m n, select-append f (countFrom a m) (countFrom (a + m) n)) (map-append h (select f (countFrom a m)) (select f (countFrom (a + m) n)))
 
--- The first n loans are those below i that are in scope.
-pub record Gathering (table scope : List ℕ) (p : Point) (i n : ℕ) (loans : List Loan) : Type 0 where
-  pub size : length loans ≡ 128
-  pub most : n ≤ i
-  pub are : take n loans ≡ map (entryOf table) (select (isIn scope p) (below i))
+module _ (table scope : List ℕ) (p : Point) where
+  -- the loans below `to` are those below `from` and those from there on
+  pub scope-split : (from to : ℕ) → from ≤ to → inScope table scope p 0 to ≡ inScope table scope p 0 from ++ inScope table scope p from to
+  scope-split from to l =
+      let e : to - 0 ≡ (from - 0) + (to - from) = omega arith in
+      let o : 0 + (from - 0) ≡ from = omega arith in
+      ap (λ (n : ℕ). map (entryOf table) (select (isIn scope p) (countFrom 0 n))) e
+      ∙ select-split (isIn scope p) (entryOf table) 0 (from - 0) (to - from)
+      ∙ ap (λ (a : ℕ). inScope table scope p 0 from ++ map (entryOf table) (select (isIn scope p) (countFrom a (to - from)))) o
+
+  -- one number more
+  scope-more : (from i : ℕ) → from ≤ i → inScope table scope p from (i + 1) ≡ inScope table scope p from i ++ map (entryOf table) (cond (isIn scope p i) (i ∷ []) [])
+  scope-more from i l =
+      let e : i + 1 - from ≡ (i - from) + 1 = omega arith in
+      let o : from + (i - from) ≡ i = omega arith in
+      ap (λ (n : ℕ). map (entryOf table) (select (isIn scope p) (countFrom from n))) e
+      ∙ select-split (isIn scope p) (entryOf table) from (i - from) 1
+      ∙ ap (λ (a : ℕ). inScope table scope p from i ++ map (entryOf table) (select (isIn scope p) (countFrom a 1))) o
+
+  scope-none : (from : ℕ) → inScope table scope p from from ≡ []
+  scope-none from = let e : from - from ≡ 0 = omega arith in rw e
+
+-- ---- A part
+
+-- The first n loans are those from number `from` on and below i that are in scope.
+pub record Gathering (table : List ℕ) (many : ℕ) (scope : List ℕ) (p : Point) (from i n : ℕ) (loans : List Loan) : Type 0 where
+  pub size : length loans ≡ 16
+  pub low : from ≤ i
+  pub high : from ≤ many → i ≤ many
+  pub most : n ≤ i - from
+  pub few : n ≤ 16
+  pub are : take n loans ≡ inScope table scope p from i
 
 -- the bit of loan i at p, as it is tested
 at-bit : (scope : List ℕ) (p i : ℕ) {b : Bool} → b ≡ has scope (wordBits * (4 * p) + i) → b ≡ isIn scope p i
 at-bit scope p i e = let k : wordBits * (4 * p) + i ≡ 128 * p + i = omega arith in e ∙ ap (has scope) k
 
--- one number more
-select-more : (f : ℕ → Bool) (i : ℕ) → select f (below (i + 1)) ≡ select f (below i) ++ cond (f i) (i ∷ []) []
-select-more f i = let e : 0 + i ≡ i = omega arith in rw (count-split 0 i 1, e) (select-append f (below i) (i ∷ []))
+module _ {table : List ℕ} {many : ℕ} {scope : List ℕ} {p : Point} {from : ℕ} where
+  pub gathering-none : {loans : List Loan} → length loans ≡ 16 → Gathering table many scope p from from 0 loans
+  gathering-none e = record { size = e; low = omega arith; high = λ l. l; most = omega arith; few = omega arith; are = sym (scope-none table scope p from) }
 
-module _ {table scope : List ℕ} {p : Point} where
-  pub gathering-none : {loans : List Loan} → length loans ≡ 128 → Gathering table scope p 0 0 loans
-  gathering-none e = record { size = e; most = omega arith; are = refl }
+  module _ {i n : ℕ} {loans : List Loan} (g : Gathering table many scope p from i n loans) where
+    module _ {b : Bool} (l : i < many) (e : b ≡ has scope (wordBits * (4 * p) + i)) where
+      is-in : b ≡ isIn scope p i
+      is-in = at-bit scope p i e
 
-  module _ {i n : ℕ} {loans : List Loan} {b : Bool} (g : Gathering table scope p i n loans) (e : b ≡ has scope (wordBits * (4 * p) + i)) where
-    is-in : b ≡ isIn scope p i
-    is-in = at-bit scope p i e
+      pub gathering-pass : b ≡ false → Gathering table many scope p from (i + 1) n loans
+      gathering-pass h = record {
+        size = g .size;
+        low = omega (arith, g .low);
+        high = λ o. omega arith;
+        most = omega (arith, g .most, g .low);
+        few = g .few;
+        are = rw (scope-more table scope p from i (g .low), sym is-in, h, append-nil (inScope table scope p from i)) (g .are);
+      }
 
-    pub gathering-pass : b ≡ false → Gathering table scope p (i + 1) n loans
-    gathering-pass h = record { size = g .size; most = omega (arith, g .most); are = rw (select-more (isIn scope p) i, sym is-in, h, append-nil (select (isIn scope p) (below i))) (g .are) }
+      pub gathering-more : {x : Loan} → b ≡ true → x ≡ entryOf table i → (n ≡ 16 → ⊥) → Gathering table many scope p from (i + 1) (n + 1) (set loans n x)
+      gathering-more {x} h o z = record {
+        size = length-set loans n x ∙ g .size;
+        low = omega (arith, g .low);
+        high = λ o. omega arith;
+        most = omega (arith, g .most, g .low);
+        few = omega (arith, g .few, z);
+        are =
+            ap (λ (k : ℕ). take k (set loans n x)) (add-one n)
+            ∙ take-suc-set loans n x (omega (arith, g .size, g .few, z))
+            ∙ rw (g .are, o) (sym (rw (scope-more table scope p from i (g .low), sym is-in, h)));
+      }
 
-    pub gathering-more : {x : Loan} → b ≡ true → x ≡ entryOf table i → n < 128 → Gathering table scope p (i + 1) (n + 1) (set loans n x)
-    gathering-more {x} h o l = record {
-      size = length-set loans n x ∙ g .size;
-      most = omega (arith, g .most);
-      are =
-          ap (λ (k : ℕ). take k (set loans n x)) (add-one n)
-          ∙ take-suc-set loans n x (omega (arith, g .size))
-          ∙ rw (g .are, o) (sym (rw (select-more (isIn scope p) i, sym is-in, h) (map-append (entryOf table) (select (isIn scope p) (below i)) (i ∷ []))));
-    }
+    pub gathered-full : i < many → n ≡ 16 → Gathered table many scope p from (record { loans = loans; count = n; next = i })
+    gathered-full l e = record { few = g .few; most = g .high; on = λ o. omega (arith, g .most); are = g .are }
 
-  pub gathered : {count i n : ℕ} {loans : List Loan} → Gathering table scope p i n loans → i ≡ min count 128 → Gathered table count scope p (record { loans = loans; count = n })
-  gathered {n = n} {loans = loans} g e = record { few = omega (arith, g .most); are = λ l. subst (λ (k : ℕ). take n loans ≡ map (entryOf table) (select (isIn scope p) (below k))) e (g .are) }
-
-  pub gathered-past : {count : ℕ} {loans : List Loan} → 1024 ≤ p → Gathered table count scope p (record { loans = loans; count = 0 })
-  gathered-past h = record { few = omega arith; are = λ l. absurd (omega arith) }
+    pub gathered-all : many ≤ i → Gathered table many scope p from (record { loans = loans; count = n; next = i })
+    gathered-all l = record { few = g .few; most = g .high; on = λ o. omega arith; are = g .are }
 
 -- ---- Whether there is one
 
--- None of the loans below i is in scope.
-pub record Passed (scope : List ℕ) (p : Point) (i : ℕ) : Type 0 where
-  pub before : (k : ℕ) → k < i → isIn scope p k ≡ false
+-- The first k words from start on are 0.
+pub record Blank (words : List ℕ) (start k : ℕ) : Type 0 where
+  pub before : (m : ℕ) → m < k → getD words (start + m) 0 ≡ 0
+
+module _ {words : List ℕ} {start : ℕ} where
+  pub blank-none : Blank words start 0
+  blank-none = record { before = λ m l. absurd (omega arith) }
+
+  pub blank-more : {k : ℕ} → Blank words start k → getD words (start + k) 0 ≡ 0 → Blank words start (k + 1)
+  blank-more {k} w e = record { before = λ m l. go m l (decLt m k) }
+    where
+      go : (m : ℕ) → m < k + 1 → Dec (m < k) → getD words (start + m) 0 ≡ 0
+      go m l (yes o) = w .before m o
+      go m l (no o) = let z : m ≡ k = omega arith in rw z e
+
+  pub some-set : SomeSet words start true
+  some-set = record { none = λ e. absurd (apart e) }
+
+  pub none-set : {k : ℕ} → Blank words start k → 4 ≤ k → SomeSet words start false
+  none-set w l = record { none = λ e m o. w .before m (omega arith) }
+
+-- a word that is 0 has no number
+blank-bit : (words : List ℕ) (i : ℕ) → getD words (i / wordBits) 0 ≡ 0 → has words i ≡ false
+blank-bit words i e = rw (e, zero-div (2 ^ (i % wordBits)))
 
 module _ {scope : List ℕ} {p : Point} where
-  pub passed-none : Passed scope p 0
-  passed-none = record { before = λ k l. absurd (omega arith) }
+  pub some-in : {b : Bool} → p < 1024 → SomeSet scope (4 * p) b → SomeIn scope p b
+  some-in l w = record {
+    here = λ e. l;
+    none = λ e h i o. blank-bit scope (128 * p + i) (let k : (128 * p + i) / wordBits ≡ 4 * p + i / 32 = omega arith in rw k (w .none e (i / 32) (omega arith)));
+  }
 
-  module _ {i : ℕ} {b : Bool} (e : b ≡ has scope (wordBits * (4 * p) + i)) where
-    pub passed-more : Passed scope p i → b ≡ false → Passed scope p (i + 1)
-    passed-more w h = record { before = λ k l. go k l (decLt k i) }
-      where
-        go : (k : ℕ) → k < i + 1 → Dec (k < i) → isIn scope p k ≡ false
-        go k l (yes o) = w .before k o
-        go k l (no o) = let z : k ≡ i = omega arith in rw z (sym (at-bit scope p i e) ∙ h)
-
-    pub some-here : {count : ℕ} → b ≡ true → i < min count 128 → SomeIn count scope p true
-    some-here {count} h l = record { says = λ o. sym (is-true (any (isIn scope p) (below (min count 128))) (any-of (isIn scope p) (below (min count 128)) i (contains-below (min count 128) i l) (subst T (sym h ∙ at-bit scope p i e) tt))) }
-
-  pub some-none : {count i : ℕ} → Passed scope p i → i ≡ min count 128 → SomeIn count scope p false
-  some-none {count} w e = record { says = λ o. sym (is-false (any (isIn scope p) (below (min count 128))) λ t. let x = any-found (isIn scope p) (below (min count 128)) t in subst T (w .before (x .0) (let l = below-contains (min count 128) (x .0) (x .1) in omega arith)) (x .2)) }
-
-  pub some-past : {count : ℕ} → 1024 ≤ p → SomeIn count scope p false
-  some-past h = record { says = λ o. absurd (omega arith) }
+  pub some-past : 1024 ≤ p → SomeIn scope p false
+  some-past l = record { here = λ e. absurd (apart (sym e)); none = λ e h i o. absurd (omega arith) }
 
 -- ---- The loans in scope of a job
 
 -- nothing is selected where nothing passes the test
-select-none : (f : ℕ → Bool) (xs : List ℕ) → any f xs ≡ false → select f xs ≡ []
-select-none f [] e = refl
-select-none f (x ∷ xs) e = go (f x) e (select-none f xs)
-  where
-    go : (b : Bool) → b || any f xs ≡ false → (any f xs ≡ false → select f xs ≡ []) → cond b (x ∷ select f xs) (select f xs) ≡ []
-    go true h w = absurd (apart h)
-    go false h w = w h
+select-none : (f : ℕ → Bool) (a n : ℕ) → ((i : ℕ) → i < a + n → f i ≡ false) → select f (countFrom a n) ≡ []
+select-none f a zero h = refl
+select-none f a (suc n) h = rw (h a (omega arith)) (select-none f (suc a) n (λ i l. h i (omega arith)))
 
 module _ {s : List ℕ} {j : Job} {table : List ℕ} {count : ℕ} {scope : List ℕ} {p : Point} {t : Table} (z : Scoped s j table count scope p t) where
-  all : min count 128 ≡ count
-  all = let f = z .loans .few in omega arith
-
-  same-at : map (λ i. loanOf s (entryOf table i)) (select (isIn scope p) (below count)) ≡ inScopeAt t (loansOf (graphOf j)) p
+  pub same-at : map (loanOf s) (inScope table scope p 0 count) ≡ inScopeAt t (loansOf (graphOf j)) p
   unfolding inScopeAt
   same-at =
-      select-same (isIn scope p) (λ i. holds t i p) (λ i. loanOf s (entryOf table i)) (loanNumber (loansOf (graphOf j))) 0 count (λ i o. z .bits i (omega arith)) (λ i o. z .loans .same i (omega arith))
-      ∙ ap (λ n. map (loanNumber (loansOf (graphOf j))) (select (λ i. holds t i p) (below n))) (z .loans .count)
+      let e : count - 0 ≡ count = omega arith in
+      map-map (loanOf s) (entryOf table) (select (isIn scope p) (countFrom 0 (count - 0)))
+      ∙ rw e (select-same (isIn scope p) (λ i. holds t i p) (λ i. loanOf s (entryOf table i)) (loanNumber (loansOf (graphOf j))) 0 count (λ i o. z .bits i (omega arith)) (λ i o. z .loans .same i (omega arith)))
+      ∙ ap (λ n. map (loanNumber (loansOf (graphOf j))) (select (λ i. holds t i p) (countFrom 0 n))) (z .loans .count)
 
-  pub none-at : {b : Bool} → SomeIn count scope p b → b ≡ false → p < 1024 → inScopeAt t (loansOf (graphOf j)) p ≡ []
-  none-at w e l = sym same-at ∙ ap (map (λ i. loanOf s (entryOf table i))) (select-none (isIn scope p) (below count) (ap (λ n. any (isIn scope p) (below n)) (sym all) ∙ sym (w .says l) ∙ e))
+  pub none-at : {b : Bool} → SomeIn scope p b → b ≡ false → p < 1024 → inScopeAt t (loansOf (graphOf j)) p ≡ []
+  none-at w e l = sym same-at ∙ ap (λ (ns : List ℕ). map (loanOf s) (map (entryOf table) ns)) (select-none (isIn scope p) 0 (count - 0) λ i o. let f = z .loans .few in w .none e l i (omega arith))
 
-  pub lent-at : {r : InScope} → Gathered table count scope p r → p < 1024 → Lent s j (loansIn r) (inScopeAt t (loansOf (graphOf j)) p)
-  lent-at {r} g l =
-      let e : loansIn r ≡ map (entryOf table) (select (isIn scope p) (below count)) = g .are l ∙ ap (λ n. map (entryOf table) (select (isIn scope p) (below n))) all in
-      rw e (record {
-        same = map-map (loanOf s) (entryOf table) (select (isIn scope p) (below count)) ∙ same-at;
-        shortest = select-holds (λ x. ShortestOf j (pathOf s (x .path)) (x .shortest)) noLoan (isIn scope p) (entryOf table) 0 count λ i o. subst (λ (x : spec.Loan). ShortestOf j (x .path) (entryOf table i .shortest)) (sym (z .loans .same i (omega arith))) (z .loans .shortest i (omega arith));
-      })
+  pub known-at : Known j s table count
+  known-at i l = subst (λ (x : spec.Loan). ShortestOf j (x .path) (entryOf table i .shortest)) (sym (z .loans .same i l)) (z .loans .shortest i l)

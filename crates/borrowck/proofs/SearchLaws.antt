@@ -15,8 +15,9 @@ use Rattle.repr.specs.Reading.{borrowKindOf, pathOf}
 use Rattle.env.specs.Prefixes.{ShortestOf}
 use Rattle.loans.specs.Loans.{loanOf}
 use Rattle.loans.specs.declared.Loan.{Loan}
-use Rattle.borrowck.specs.Search.{counts, near, meets, lentAt, ownAt, Touches, Prefixes, nthLoan, FoundIn}
+use Rattle.borrowck.specs.Search.{counts, near, meets, lentAt, ownAt, Touches, Prefixes, nthLoan, FoundIn, nthAccess, isFound, FirstIn}
 use Rattle.borrowck.specs.declared.Access.{Access}
+use Rattle.borrowck.specs.declared.Found.{Found}
 use Rattle.borrowck.specs.declared.Found.the-variants.{At, Nothing}
 
 -- ---- One prefix
@@ -130,3 +131,32 @@ module _ (s : List ℕ) (x : Access) (loans : List Loan) where
 
   pub found-none : (i : ℕ) → Searched i → length loans ≤ i → FoundIn s x loans Nothing
   found-none i w l = record { says = λ j z k h. w .before j z k (omega arith) }
+
+-- ---- All accesses
+
+module _ (s : List ℕ) (accesses : List Access) (loans : List Loan) where
+  -- The accesses below k conflict with none of the loans.
+  pub record Tried (k : ℕ) : Type 0 where
+    pub before : (m : ℕ) → m < k → FoundIn s (nthAccess accesses m) loans Nothing
+
+  pub tried-none : Tried 0
+  tried-none = record { before = λ m h. absurd (omega arith) }
+
+  module _ (k : ℕ) (w : Tried k) where
+    pub first-none : (many : ℕ) → many ≤ k → FirstIn s accesses many loans (record { access = many; loan = Nothing })
+    first-none many l = record { most = omega arith; before = λ m h. w .before m (omega arith); here = λ h. absurd (omega arith); hit = λ h. absurd (omega arith) }
+
+    module _ {x : Access} {r : Found} {b : Bool} (e : x ≡ nthAccess accesses k) (v : FoundIn s x loans r) (i : b ≡ isFound r) where
+      pub tried-more : T (not b) → Tried (k + 1)
+      tried-more h = record { before = λ m l. go m l (decLt m k) }
+        where
+          missed : (y : Found) → isFound y ≡ false → y ≡ Nothing
+          missed (At n) o = absurd (let z : T false = subst T o tt in z)
+          missed Nothing o = refl
+
+          go : (m : ℕ) → m < k + 1 → Dec (m < k) → FoundIn s (nthAccess accesses m) loans Nothing
+          go m l (yes a) = w .before m a
+          go m l (no a) = let y : m ≡ k = omega arith in rw (y, sym e) (subst (FoundIn s x loans) (missed r (sym i ∙ fails b h)) v)
+
+      pub first-here : (many : ℕ) → k < many → T b → FirstIn s accesses many loans (record { access = k; loan = r })
+      first-here many l h = record { most = omega arith; before = w .before; here = λ o. subst (λ y. FoundIn s y loans r) e v; hit = λ o. sym i ∙ is-true b h }

@@ -17,10 +17,13 @@ use Rattle.loans.specs.declared.Loan.{Loan}
 use Rattle.loans.proofs.Loan as T
 use Rattle.loans.proofs.Loan.Laws as T′
 use Rattle.borrowck.specs.declared.Access.{Access}
+use Rattle.borrowck.specs.declared.Conflict.{Conflict}
 use Rattle.borrowck.specs.declared.Found.{Found}
 use Rattle.borrowck.specs.declared.Found.the-variants.{At, Nothing}
 use Rattle.borrowck.proofs.Access as X
 use Rattle.borrowck.proofs.Access.Laws as X′
+use Rattle.borrowck.proofs.Conflict as C
+use Rattle.borrowck.proofs.Conflict.Laws as C′
 use Rattle.borrowck.proofs.Found as F
 use Rattle.borrowck.proofs.Found.Laws as F′
 
@@ -50,6 +53,22 @@ tells = LL.tells T.the-type T′.the-laws
 abbrev pub access-tells : Tells Acc (Is Acc) access-vals
 access-tells = LL.tells X.the-type X′.the-laws
 
+-- an answer's machine value
+abbrev pub found-low : Found → Val
+found-low r = EL.val F.the-type F′.the-laws r
+
+abbrev pub found-tells : Tells F.the-row (Is F.the-row) (λ r. found-low r ∷ [])
+found-tells = EL.tells F.the-type F′.the-laws
+
+abbrev pub conflict-vals : Conflict → List Val
+conflict-vals = LL.vals C.the-type C′.the-laws
+
+abbrev pub conflict-low : Conflict → Val
+conflict-low c = only (conflict-vals c)
+
+pub conflict-is : (k : ℕ) (r : Found) → k < 2 ^ 64 → Is F.the-row r (found-low r ∷ []) → Is C.the-row (record { access = k; loan = r }) (conflict-vals (record { access = k; loan = r }))
+conflict-is k r g is = LL.owes C.the-type C′.the-laws (record { access = k; loan = r }) ((refl, g), (is, tt))
+
 pub nothing-is : Is F.the-row Nothing (F′.lowered Nothing ∷ [])
 nothing-is = EL.owes F.the-type F′.the-laws Nothing tt
 
@@ -65,3 +84,6 @@ module _ {M : Type 1} (𝓤 : URA M) (H : Heap 𝓤) (A : Atoms 𝓤) (W : Given
 
   pub found-typed : (r : Found) (u : Val) → Is F.the-row r (u ∷ []) → Holds (hasTy F′.mir u) × WT u
   found-typed r u is = EL.lawful F.the-type F′.the-laws 𝓤 H A W tt .typed r _ is .0
+
+  pub conflict-typed : (c : Conflict) → Is C.the-row c (conflict-vals c) → Holds (hasTy C′.mir (conflict-low c)) × WT (conflict-low c)
+  conflict-typed c is = LL.lawful C.the-type C′.the-laws 𝓤 H A W .typed c _ is .0

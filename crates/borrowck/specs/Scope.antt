@@ -1,39 +1,40 @@
--- The loans in scope at a point, as a run of loans.
+-- The loans in scope at a point, in parts.
 use mathlib.Core.Path.{_≡_}
-use mathlib.Core.Bool.{Bool}
+use mathlib.Core.Bool.{Bool, true, false}
 use mathlib.Core.List.{List, map}
-use Prim.Native.Nat.{ℕ, _+_, _*_, _≤_, _<_, min}
-use lib.ListN.{length, take}
-use Rattle.nll_spec.specs.Lists.{any, select, below}
-use Rattle.nll_spec.specs.Syntax.{Point, Job}
-use Rattle.nll_spec.specs.Loans as spec
-use Rattle.repr.specs.Reading.{pathOf}
+use Prim.Native.Nat.{ℕ, _+_, _-_, _*_, _≤_, _<_}
+use lib.ListN.{getD, take}
+use Rattle.nll_spec.specs.Lists.{select, countFrom}
+use Rattle.nll_spec.specs.Syntax.{Point}
 use Rattle.bit_set.specs.Bits.{has}
-use Rattle.env.specs.Prefixes.{ShortestOf}
 use Rattle.loans.specs.Table.{entryOf}
-use Rattle.loans.specs.Loans.{loanOf}
 use Rattle.loans.specs.declared.Loan.{Loan}
-use Rattle.borrowck.specs.Search.{nthLoan}
-use Rattle.borrowck.specs.declared.scope.InScope.{InScope}
+use Rattle.borrowck.specs.declared.scope.Part.{Part}
 
--- the loans that are in scope
-abbrev pub loansIn : InScope → List Loan
+-- the loans of a part
+abbrev pub loansIn : Part → List Loan
 loansIn x = take (x .count) (x .loans)
 
 -- the words say that loan i is in scope at p
 abbrev pub isIn : List ℕ → Point → ℕ → Bool
 isIn scope p i = has scope (128 * p + i)
 
--- The answer is whether the words say of some loan that it is in scope at p.
-pub record SomeIn (count : ℕ) (scope : List ℕ) (p : Point) (r : Bool) : Type 0 where
-  pub says : p < 1024 → r ≡ any (isIn scope p) (below (min count 128))
+-- the loans in scope at p from number `from` on and below `to`
+abbrev pub inScope : List ℕ → List ℕ → Point → ℕ → ℕ → List Loan
+inScope table scope p from to = map (entryOf table) (select (isIn scope p) (countFrom from (to - from)))
 
--- The loans of the table that the words say are in scope at p.
-pub record Gathered (table : List ℕ) (count : ℕ) (scope : List ℕ) (p : Point) (r : InScope) : Type 0 where
-  pub few : r .count ≤ 128
-  pub are : p < 1024 → loansIn r ≡ map (entryOf table) (select (isIn scope p) (below (min count 128)))
+-- Where the answer is no, the four words are 0.
+pub record SomeSet (words : List ℕ) (start : ℕ) (r : Bool) : Type 0 where
+  pub none : r ≡ false → (k : ℕ) → k < 4 → getD words (start + k) 0 ≡ 0
 
--- The loans are those of a list of the job's, each with the shortest prefixes of its path.
-pub record Lent (s : List ℕ) (j : Job) (loans : List Loan) (xs : List spec.Loan) : Type 0 where
-  pub same : map (loanOf s) loans ≡ xs
-  pub shortest : (i : ℕ) → i < length loans → ShortestOf j (pathOf s (nthLoan loans i .path)) (nthLoan loans i .shortest)
+-- Where the answer is no, no loan is in scope at p.
+pub record SomeIn (scope : List ℕ) (p : Point) (r : Bool) : Type 0 where
+  pub here : r ≡ true → p < 1024
+  pub none : r ≡ false → p < 1024 → (i : ℕ) → i < 128 → isIn scope p i ≡ false
+
+-- The part has the loans in scope from number `from` on and below its next, which is no more than there are.
+pub record Gathered (table : List ℕ) (many : ℕ) (scope : List ℕ) (p : Point) (from : ℕ) (r : Part) : Type 0 where
+  pub few : r .count ≤ 16
+  pub most : from ≤ many → r .next ≤ many
+  pub on : from < many → from < r .next
+  pub are : loansIn r ≡ inScope table scope p from (r .next)

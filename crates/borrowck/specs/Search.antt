@@ -16,6 +16,7 @@ use Rattle.env.specs.Prefixes.{ShortestOf}
 use Rattle.loans.specs.Loans.{loanOf}
 use Rattle.loans.specs.declared.Loan.{Loan}
 use Rattle.borrowck.specs.declared.Access.{Access}
+use Rattle.borrowck.specs.declared.Conflict.{Conflict}
 use Rattle.borrowck.specs.declared.Depth.{Depth}
 use Rattle.borrowck.specs.declared.Depth.the-variants.{Shallow, Deep}
 use Rattle.borrowck.specs.declared.Mode.{Mode}
@@ -85,3 +86,25 @@ nthLoan loans i = getD loans i noLoan
 pub record FoundIn (s : List ℕ) (x : Access) (loans : List Loan) (r : Found) : Type 0 where
   pub says : (j : Job) → ((i : ℕ) → i < length loans → ShortestOf j (pathOf s (nthLoan loans i .path)) (nthLoan loans i .shortest))
       → FirstIs (λ i. meets j (x .depth) (x .mode) (pathOf s (x .path)) (loanOf s (nthLoan loans i))) (length loans) r
+
+-- ---- All accesses
+
+-- what is read past the end of a list of accesses
+abbrev pub noAccess : Access
+noAccess = record { depth = Shallow; mode = Read; path = noLoan .path; fault = 0 }
+
+-- access number k of a list
+abbrev pub nthAccess : List Access → ℕ → Access
+nthAccess accesses k = getD accesses k noAccess
+
+-- a loan conflicts
+abbrev pub isFound : Found → Bool
+isFound (At i) = true
+isFound Nothing = false
+
+-- The answer is the first of so many accesses that conflicts with one of the loans, and the first loan that it conflicts with; or there is none.
+pub record FirstIn (s : List ℕ) (accesses : List Access) (many : ℕ) (loans : List Loan) (r : Conflict) : Type 0 where
+  pub most : r .access ≤ many
+  pub before : (k : ℕ) → k < r .access → FoundIn s (nthAccess accesses k) loans Nothing
+  pub here : r .access < many → FoundIn s (nthAccess accesses (r .access)) loans (r .loan)
+  pub hit : r .access < many → isFound (r .loan) ≡ true

@@ -1,15 +1,16 @@
 // The verdict at each point: the first operand whose access conflicts with a loan in scope.
+mod accesses;
 mod checks;
 mod scope;
 mod search;
 
-use checks::check_action;
-use checks::has_operand;
+use accesses::accesses_of;
+use checks::check_accesses;
+use checks::fault_at;
 use record::Head;
 use record::access::action_at;
 use repr::ActionStep;
 use repr::Path;
-use scope::in_scope;
 use scope::some_in_scope;
 ghost use mathlib.Core.Path.{_≡_};
 ghost use Prim.Native.Nat.{_*_, _+_, _<_, _≤_};
@@ -38,17 +39,24 @@ pub enum Mode {
     Write,
 }
 
-// What is done to a path: how far it reaches, whether it reads or writes.
+// What is done to a path: how far it reaches, whether it reads or writes, and the kind of the fault that it is where it conflicts.
 pub struct Access {
     pub depth: Depth,
     pub mode: Mode,
     pub path: Path,
+    pub fault: u8,
 }
 
 // The first loan that conflicts, if one does.
 pub enum Found {
     At(usize),
     Nothing,
+}
+
+// The first access that conflicts, and the first loan that it conflicts with; past the accesses where none does.
+pub struct Conflict {
+    pub access: usize,
+    pub loan: Found,
 }
 
 // The kind of a fault (1 read, 2 write, 3 move, 4 storage dead) and its operand; both 0 without a fault.
@@ -85,17 +93,18 @@ pub fn verdict(
         kind: 0,
         operand: 0,
     };
+    if !some_in_scope(scope, p) {
+        return none;
+    }
     match action_at(s, layout, p) {
         ActionStep::Refused(_) => none,
         ActionStep::Action(a, next) => {
-            if !has_operand(a) {
+            let accesses = accesses_of(s, a, next);
+            if accesses.count == 0 {
                 return none;
             }
-            if !some_in_scope(count, scope, p) {
-                return none;
-            }
-            let lent = in_scope(table, count, scope, p);
-            check_action(s, lent, a, next)
+            let k = check_accesses(s, table, count, scope, p, accesses);
+            fault_at(accesses, k)
         }
     }
 }

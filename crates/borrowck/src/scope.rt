@@ -1,59 +1,73 @@
-// The loans in scope at a point.
+// The loans in scope at a point, in parts.
 use loans::Loan;
 use loans::loan_at;
 ghost use mathlib.Core.Path.{_≡_};
-ghost use Prim.Native.Nat.{min};
+ghost use Prim.Native.Nat.{_≤_, _<_};
 ghost use lib.ListN.{length};
-ghost use Rattle.borrowck.specs.Scope.{SomeIn, Gathered};
+ghost use Rattle.borrowck.specs.Scope.{SomeSet, SomeIn, Gathered};
 
-// The first count of the loans are in scope.
-pub struct InScope {
-    pub loans: [Loan; 128],
+// The first count of the loans are in scope; the next part begins at loan next.
+pub struct Part {
+    pub loans: [Loan; 16],
     pub count: usize,
+    pub next: usize,
 }
 
-// No table has more loans.
-fn at_most(count: usize) -> usize
-    ensures { λ r. ⌜ r ≡ min count 128 ⌝ }
+// Whether one of the four words from start on has a bit.
+fn some_set(words: &[u32], start: usize) -> bool
+    requires { ⌜ start < 4096 ⌝ }
+    ensures { λ r. ⌜ SomeSet (now (words .entry)) start r ⌝ }
 {
-    if count < 128 { count } else { 128 }
-}
-
-// Whether a loan is in scope at point p.
-pub fn some_in_scope(count: usize, scope: &[u32], p: usize) -> bool
-    ensures { λ r. ⌜ SomeIn count (now (scope .entry)) p r ⌝ }
-{
-    if 1024 <= p {
-        return false;
-    }
-    let start = 4 * p;
-    let many = at_most(count);
-    for i in 0..many {
-        if bit_slice::is_set(scope, start, i) {
+    for k in 0..4 {
+        if words.len() <= start + k {
+            return true;
+        }
+        if words[start + k] != 0 {
             return true;
         }
     }
     false
 }
 
-// The loans that are in scope at point p, in the order of the table.
-pub fn in_scope(table: &[u16; 1024], count: usize, scope: &[u32], p: usize) -> InScope
-    requires { ⌜ length (now table) ≡ 1024 ⌝ }
-    ensures { λ r. ⌜ Gathered (now (table .entry)) count (now (scope .entry)) p r ⌝ }
+// Whether there may be a loan in scope at point p.
+pub fn some_in_scope(scope: &[u32], p: usize) -> bool
+    ensures { λ r. ⌜ SomeIn (now (scope .entry)) p r ⌝ }
 {
-    let mut loans = [loan_at(table, 0); 128];
-    let mut n = 0;
     if 1024 <= p {
-        return InScope { loans, count: n };
+        return false;
     }
     let start = 4 * p;
-    let many = at_most(count);
-    for i in 0..many {
+    some_set(scope, start)
+}
+
+// The loans from number from on that are in scope at point p, in the order of the table: as many as a part has room for.
+pub fn part_of(table: &[u16; 1024], many: usize, scope: &[u32], p: usize, from: usize) -> Part
+    requires { ⌜ (length (now table) ≡ 1024) × (many ≤ 128) × (p < 1024) ⌝ }
+    ensures { λ r. ⌜ Gathered (now (table .entry)) many (now (scope .entry)) p from r ⌝ }
+{
+    let mut loans = [loan_at(table, 0); 16];
+    let mut n = 0;
+    let start = 4 * p;
+    let mut i = from;
+    while i < many {
+        if n == 16 {
+            return Part {
+                loans,
+                count: n,
+                next: i,
+            };
+        }
         if !bit_slice::is_set(scope, start, i) {
+            i += 1;
             continue;
         }
         loans[n] = loan_at(table, i);
         n += 1;
+        i += 1;
     }
-    InScope { loans, count: n }
+    Part {
+        loans,
+        count: n,
+        next: i,
+    }
 }

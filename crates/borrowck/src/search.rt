@@ -1,5 +1,6 @@
 // The search for a loan that conflicts with an access.
 use super::Access;
+use super::Conflict;
 use super::Depth;
 use super::Found;
 use super::Mode;
@@ -11,12 +12,12 @@ use loans::Loan;
 use repr::BorrowKind;
 use repr::Path;
 ghost use mathlib.Core.Path.{_≡_};
-ghost use Prim.Native.Nat.{_≤_};
+ghost use Prim.Native.Nat.{_≤_, _<_};
 ghost use lib.ListN.{take};
 ghost use Rattle.nll_spec.specs.Syntax.{Job};
 ghost use Rattle.repr.specs.Reading.{borrowKindOf, pathOf};
 ghost use Rattle.env.specs.Prefixes.{ShortestOf};
-ghost use Rattle.borrowck.specs.Search.{counts, near, lentAt, ownAt, Touches, Prefixes, FoundIn};
+ghost use Rattle.borrowck.specs.Search.{counts, near, lentAt, ownAt, Touches, Prefixes, FoundIn, nthAccess, isFound, FirstIn};
 
 // Whether an access minds a loan of this kind: reading minds Mut loans only.
 fn minds(mode: Mode, kind: BorrowKind) -> bool
@@ -111,10 +112,50 @@ pub fn search(s: &[u8], loans: &[Loan], access: Access) -> Found
     }
 }
 
-// The bridge from an array by value: its callers have plain values only.
-pub fn search_in(s: &[u8], loans: [Loan; 128], n: usize, access: Access) -> Found
-    requires { ⌜ n ≤ 128 ⌝ }
-    ensures { λ r. ⌜ FoundIn (now (s .entry)) access (take n loans) r ⌝ }
+fn access_at(accesses: [Access; 9], k: usize) -> Access
+    requires { ⌜ k < 9 ⌝ }
+    ensures { λ r. ⌜ r ≡ nthAccess accesses k ⌝ }
 {
-    search(s, &loans[..n], access)
+    accesses[k]
+}
+
+fn is_found(found: Found) -> bool
+    ensures { λ r. ⌜ r ≡ isFound found ⌝ }
+{
+    match found {
+        Found::At(_) => true,
+        Found::Nothing => false,
+    }
+}
+
+// The first of the accesses that conflicts with one of the loans; the bridge from arrays by value, since its callers have plain values only.
+pub fn search_in(
+    s: &[u8],
+    loans: [Loan; 16],
+    n: usize,
+    accesses: [Access; 9],
+    many: usize,
+) -> Conflict
+    requires { ⌜ (n ≤ 16) × (many ≤ 9) ⌝ }
+    ensures { λ r. ⌜ FirstIn (now (s .entry)) accesses many (take n loans) r ⌝ }
+{
+    let lent = &loans[..n];
+    let mut k = 0;
+    'first: loop {
+        if many <= k {
+            break 'first Conflict {
+                access: many,
+                loan: Found::Nothing,
+            };
+        }
+        let access = access_at(accesses, k);
+        let found = search(s, lent, access);
+        if is_found(found) {
+            break 'first Conflict {
+                access: k,
+                loan: found,
+            };
+        }
+        k += 1;
+    }
 }
