@@ -357,3 +357,13 @@ module _ {s t : List ℕ} {h : Head} (p : repr.Path) {c : ℕ} {kinds names : Li
 -- one step more in the record
 pub onward-inside : {s t : List ℕ} {h : Head} {c : ℕ} {kinds names : List ℕ} {i at left : ℕ} {c′ : ℕ} {kinds′ names′ : List ℕ} {i′ at′ left′ : ℕ} → Onward s t h s c kinds names i at left s c′ kinds′ names′ i′ at′ left′ → (length kinds′ ≡ 8) × (length names′ ≡ 8) → {b : ByteStep} → byteSays s b ≡ byte (drop at′ s) → {f : ℕ} {next : Cursor} → b ≡ byteStep.Byte f next → (left′ ≡ 0 → ⊥) → {to kinds″ names″ : List ℕ} {d : Stepped} → StepSays s t h s c′ f i′ to kinds′ names′ kinds″ names″ d → {y : Cursor} → d ≡ stepped.Inside y → Onward s t h s c kinds names i at left s (y .at) kinds″ names″ (i′ + 1) (next .at) (left′ - 1)
 onward-inside g size m e z v o = onward-more g size m e z (back-inside v o) refl
+
+-- ---- A path without steps
+
+-- entries of which none is used
+abbrev pub noEntries : List ℕ
+noEntries = 0 ∷ 0 ∷ 0 ∷ 0 ∷ 0 ∷ 0 ∷ 0 ∷ 0 ∷ []
+
+-- its type stands where its variable's does
+pub stepless : {s t : List ℕ} {h : Head} (p : repr.Path) (x : Cursor) → p .steps ≡ 0 → x .at ≡ entryIn t 32 64 (p .base .0) → PathSays s t h p [] noEntries noEntries (pathTypes.Inside x)
+stepless {s} {t} {h} p x z v = path-end p v (onward s t h s (x .at) noEntries noEntries 0 (p .from .at) (p .steps)) (refl, refl) x refl z

@@ -1,7 +1,7 @@
 -- The shortest prefixes of a path, by what `path_type` says of it. Assumes nothing.
 use mathlib.Core.Path.{_≡_, refl, sym, subst, _∙_}
 use mathlib.Core.Bool.{true, true≢false}
-use mathlib.Core.List.{List, [], _∷_}
+use mathlib.Core.List.{List, []}
 use Prim.Native.Nat.{ℕ, _≤_, _<_}
 use native.Mathlib.Omega.{arith}
 use lib.ListN.{length}
@@ -18,7 +18,7 @@ use Rattle.env.specs.Paths.{PathResult, PathSays}
 use Rattle.env.specs.declared.Shortest.{Shortest}
 use Rattle.env.specs.declared.paths.PathType.{PathType}
 use Rattle.env.specs.declared.paths.PathType.the-variants.{Inside, Written, Refused}
-use Rattle.env.proofs.PathLaws.{no-leaves}
+use Rattle.env.proofs.PathLaws.{no-leaves, noEntries}
 use Rattle.env.proofs.PrefixLaws.{shortest-of, shortest-none}
 
 -- what the steps of a path that may be taken leave, wherever its type stands
@@ -33,6 +33,5 @@ module _ (s : List ℕ) (p : Path) (j : Job) where
 
   pub stepless-shortest : p .steps ≡ 0 → ShortestOf j (pathOf s p) (record { supporting = 0; frozen = 0 })
   stepless-shortest e =
-      let kinds : List ℕ = 0 ∷ 0 ∷ 0 ∷ 0 ∷ 0 ∷ 0 ∷ 0 ∷ 0 ∷ [] in
       let none : pathOf s p .steps ≡ [] = rw e in
-      shortest-of j (pathOf s p) {kinds = kinds} {names = []} (rw none no-leaves) refl (rw none (omega arith)) (rw none (shortest-none kinds))
+      shortest-of j (pathOf s p) {kinds = noEntries} {names = noEntries} (rw none no-leaves) refl (rw none (omega arith)) (rw none (shortest-none noEntries))
