@@ -19,24 +19,28 @@ use Rattle.env.specs.Fields.{TypeThere}
 use Rattle.env.specs.Prefixes.{kindCode, Leaves}
 use Rattle.env.specs.declared.paths.PathType.{PathType}
 use Rattle.env.specs.declared.paths.PathType.the-variants as pathTypes
+use Rattle.env.specs.declared.paths.Lent.{Lent}
+use Rattle.env.specs.declared.paths.Lent.the-variants as lent
 use Rattle.env.specs.declared.paths.Stepped.{Stepped}
 use Rattle.env.specs.declared.paths.Stepped.the-variants as stepped
 
 -- ---- The whole path
 
 -- The path may be taken; its type stands there, and each step's entries say what it leaves.
-pub record PathIs (j : Job) (p : Path) (out : List ℕ) (at : ℕ) (kinds names : List ℕ) : Type 0 where
+pub record PathIs (j : Job) (p : Path) (bytes : List ℕ) (at : ℕ) (kinds names : List ℕ) : Type 0 where
   pub fits : pathFits j p ≡ true
-  pub stands : TypeAt out at (pathType j p)
+  pub stands : TypeAt bytes at (pathType j p)
   pub few : typeNodes (pathType j p) ≤ maxNodes
   pub leaves : Leaves (j .structs) (variableType j (p .base)) (p .steps) kinds names
 
-abbrev pub PathResult : Job → Path → List ℕ → List ℕ → List ℕ → PathType → Type 0
-PathResult j p out kinds names (pathTypes.At c) = PathIs j p out (c .at) kinds names
-PathResult j p out kinds names pathTypes.Refused = pathFits j p ≡ false
+-- Its type stands in the record s or in the lent bytes, or it may not be taken.
+abbrev pub PathResult : Job → Path → List ℕ → List ℕ → List ℕ → List ℕ → PathType → Type 0
+PathResult j p s out kinds names (pathTypes.Inside c) = PathIs j p s (c .at) kinds names
+PathResult j p s out kinds names (pathTypes.Written c) = PathIs j p out (c .at) kinds names
+PathResult j p s out kinds names pathTypes.Refused = pathFits j p ≡ false
 
 pub record PathSays (s t : List ℕ) (h : Head) (p : repr.Path) (out kinds names : List ℕ) (r : PathType) : Type 0 where
-  pub says : (j : Job) → Layout s t h j → p .base .0 < length (j .variables) → PathResult j (pathOf s p) out kinds names r
+  pub says : (j : Job) → Layout s t h j → p .base .0 < length (j .variables) → PathResult j (pathOf s p) s out kinds names r
   pub sizes : (length kinds ≡ 8) × (length names ≡ 8)
 
 -- ---- A step
@@ -82,22 +86,22 @@ pub record StepSays (s t : List ℕ) (h : Head) (from : List ℕ) (at f i : ℕ)
   pub nameSize : length names′ ≡ length names
 
 -- The step reaches a type of `out`.
-abbrev pub BackIs : List ℕ → Option Ty → Type 0 → PathType → Type 0
-BackIs out o noted (pathTypes.At c) = TypeThere out (c .at) o × noted
-BackIs out o noted pathTypes.Refused = small o ≡ false
+abbrev pub BackIs : List ℕ → Option Ty → Type 0 → Lent → Type 0
+BackIs out o noted (lent.At c) = TypeThere out (c .at) o × noted
+BackIs out o noted lent.Refused = small o ≡ false
 
-pub record BackSays (s t : List ℕ) (h : Head) (from : List ℕ) (at f i : ℕ) (out kinds names kinds′ names′ : List ℕ) (r : PathType) : Type 0 where
+pub record BackSays (s t : List ℕ) (h : Head) (from : List ℕ) (at f i : ℕ) (out kinds names kinds′ names′ : List ℕ) (r : Lent) : Type 0 where
   pub says : (j : Job) → Layout s t h j → (u : Ty) → TypeAt from at u → typeNodes u ≤ maxNodes → BackIs out (stepType (j .structs) u f) (Noted u i kinds names kinds′ names′) r
   pub kindSize : length kinds′ ≡ length kinds
   pub nameSize : length names′ ≡ length names
 
 -- ---- A copy
 
-abbrev pub CopyIs : List ℕ → Ty → PathType → Type 0
-CopyIs out u (pathTypes.At c) = TypeAt out (c .at) u
-CopyIs out u pathTypes.Refused = ⊥
+abbrev pub CopyIs : List ℕ → Ty → Lent → Type 0
+CopyIs out u (lent.At c) = TypeAt out (c .at) u
+CopyIs out u lent.Refused = ⊥
 
-pub record CopiedSays (s : List ℕ) (at : ℕ) (out : List ℕ) (r : PathType) : Type 0 where
+pub record CopiedSays (s : List ℕ) (at : ℕ) (out : List ℕ) (r : Lent) : Type 0 where
   pub says : (u : Ty) → TypeAt s at u → typeNodes u ≤ maxNodes → CopyIs out u r
 
 -- ---- The steps that are left
@@ -113,16 +117,17 @@ pub record Stage (ss : List StructDecl) (t : Ty) (all bytes : List ℕ) (at : �
   pub few : typeNodes (typeAfter ss t taken) ≤ maxNodes
 
 -- All of them are taken.
-pub record Reached (ss : List StructDecl) (t : Ty) (all out : List ℕ) (at : ℕ) (kinds names : List ℕ) : Type 0 where
+pub record Reached (ss : List StructDecl) (t : Ty) (all bytes : List ℕ) (at : ℕ) (kinds names : List ℕ) : Type 0 where
   pub fits : stepsFit ss t all ≡ true
-  pub stands : TypeAt out at (typeAfter ss t all)
+  pub stands : TypeAt bytes at (typeAfter ss t all)
   pub few : typeNodes (typeAfter ss t all) ≤ maxNodes
   pub leaves : Leaves ss t all kinds names
 
-abbrev pub OnwardIs : List StructDecl → Ty → List ℕ → List ℕ → List ℕ → List ℕ → PathType → Type 0
-OnwardIs ss t all out kinds names (pathTypes.At c) = Reached ss t all out (c .at) kinds names
-OnwardIs ss t all out kinds names pathTypes.Refused = stepsFit ss t all ≡ false
+abbrev pub OnwardIs : List StructDecl → Ty → List ℕ → List ℕ → List ℕ → List ℕ → List ℕ → PathType → Type 0
+OnwardIs ss t all s out kinds names (pathTypes.Inside c) = Reached ss t all s (c .at) kinds names
+OnwardIs ss t all s out kinds names (pathTypes.Written c) = Reached ss t all out (c .at) kinds names
+OnwardIs ss t all s out kinds names pathTypes.Refused = stepsFit ss t all ≡ false
 
 pub record OnwardSays (s t : List ℕ) (h : Head) (bytes : List ℕ) (at : ℕ) (kinds names : List ℕ) (i from left : ℕ) (out kinds′ names′ : List ℕ) (r : PathType) : Type 0 where
-  pub says : (j : Job) → Layout s t h j → (u : Ty) (all : List ℕ) → Stage (j .structs) u all bytes at kinds names i (take left (drop from s)) → OnwardIs (j .structs) u all out kinds′ names′ r
+  pub says : (j : Job) → Layout s t h j → (u : Ty) (all : List ℕ) → Stage (j .structs) u all bytes at kinds names i (take left (drop from s)) → OnwardIs (j .structs) u all s out kinds′ names′ r
   pub sizes : (length kinds′ ≡ 8) × (length names′ ≡ 8)

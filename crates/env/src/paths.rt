@@ -21,9 +21,10 @@ ghost use lib.ListN.{length, set};
 ghost use Rattle.repr.specs.Reading.{borrowKindOf, regionOf};
 ghost use Rattle.env.specs.Paths.{kindNumber, Named, FieldStepSays, StepSays, BackSays, CopiedSays, OnwardSays, PathSays};
 
-// The type of a path, in the lent bytes from a place on, or refusal 8.
+// The type of a path, in the record or written into the lent bytes, from a place on, or refusal 8.
 pub enum PathType {
-    At(Cursor),
+    Inside(Cursor),
+    Written(Cursor),
     Refused,
 }
 
@@ -31,6 +32,12 @@ pub enum PathType {
 enum Stepped {
     Inside(Cursor),
     Written,
+    Refused,
+}
+
+// A type in the lent bytes, from a place on, or nothing.
+enum Lent {
+    At(Cursor),
     Refused,
 }
 
@@ -129,12 +136,12 @@ fn take_step(
 }
 
 // The type at c, written from the first of the lent bytes on.
-fn copied(s: &[u8], c: Cursor, out: &mut [u8; 512]) -> PathType
+fn copied(s: &[u8], c: Cursor, out: &mut [u8; 512]) -> Lent
     ensures { λ r. ⌜ CopiedSays (now (s .entry)) (c .at) (now (out .exit)) r ⌝ }
 {
     match copy(s, c, out) {
-        Whole::TooLarge => PathType::Refused,
-        Whole::Written(_) => PathType::At(Cursor { at: 0 }),
+        Whole::TooLarge => Lent::Refused,
+        Whole::Written(_) => Lent::At(Cursor { at: 0 }),
     }
 }
 
@@ -150,13 +157,13 @@ fn step_back(
     spare: &mut [u8; 512],
     kinds: &mut [u8; 8],
     names: &mut [u8; 8],
-) -> PathType
+) -> Lent
     requires { ⌜ (length (now layout) ≡ 1280) × (length (now kinds) ≡ 8) × (length (now names) ≡ 8) ⌝ }
     ensures { λ r. ⌜ BackSays (now (s .entry)) (now (layout .entry)) head (now (out .entry)) (c .at) (f .0) i (now (out .exit)) (now (kinds .entry)) (now (names .entry)) (now (kinds .exit)) (now (names .exit)) r ⌝ }
 {
     match take_step(s, layout, head, out, c, f, i, spare, kinds, names) {
-        Stepped::Refused => PathType::Refused,
-        Stepped::Inside(d) => PathType::At(d),
+        Stepped::Refused => Lent::Refused,
+        Stepped::Inside(d) => Lent::At(d),
         Stepped::Written => copied(spare, Cursor { at: 0 }, out),
     }
 }
@@ -183,9 +190,9 @@ fn steps_on(
     let mut i = first;
     while left != 0 {
         let ByteStep::Byte(f, next) = at.byte(s) else {
-            return PathType::At(c);
+            return PathType::Written(c);
         };
-        let PathType::At(d) = step_back(
+        let Lent::At(d) = step_back(
             s,
             layout,
             head,
@@ -204,7 +211,7 @@ fn steps_on(
         left -= 1;
         i += 1;
     }
-    PathType::At(c)
+    PathType::Written(c)
 }
 
 // The type of a path, and what each of its first 8 steps leaves.
@@ -228,7 +235,7 @@ pub fn path_type(
     let mut i = 0;
     while left != 0 {
         let ByteStep::Byte(f, next) = at.byte(s) else {
-            return copied(s, c, out);
+            return PathType::Inside(c);
         };
         match take_step(s, layout, head, s, c, FieldName(f), i, out, kinds, names) {
             Stepped::Refused => return PathType::Refused,
@@ -254,5 +261,5 @@ pub fn path_type(
             }
         }
     }
-    copied(s, c, out)
+    PathType::Inside(c)
 }

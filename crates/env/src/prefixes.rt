@@ -1,6 +1,5 @@
 // Prefixes of paths: whether a path is one of another, and of which kinds.
 use super::Shortest;
-use super::paths::PathType;
 use super::paths::path_type;
 use super::wide;
 use record::Head;
@@ -145,11 +144,17 @@ pub fn shortest_of(s: &[u8], layout: &[u16; 1280], head: Head, p: Path) -> Short
     requires { ⌜ length (now layout) ≡ 1280 ⌝ }
     ensures { λ r. ⌜ ((j : Job) → Layout (now (s .entry)) (now (layout .entry)) head j → p .base .0 < length (j .variables) → pathFits j (pathOf (now (s .entry)) p) ≡ true → length (pathOf (now (s .entry)) p .steps) ≤ 8 → ShortestOf j (pathOf (now (s .entry)) p) r) ⌝ }
 {
+    if p.steps == 0 {
+        return Shortest {
+            supporting: 0,
+            frozen: 0,
+        };
+    }
     let mut out = [0; 512];
     let mut spare = [0; 512];
     let mut kinds = [0; 8];
     let mut names = [0; 8];
-    match path_type(
+    path_type(
         s,
         layout,
         head,
@@ -158,11 +163,6 @@ pub fn shortest_of(s: &[u8], layout: &[u16; 1280], head: Head, p: Path) -> Short
         &mut spare,
         &mut kinds,
         &mut names,
-    ) {
-        PathType::Refused => Shortest {
-            supporting: 0,
-            frozen: 0,
-        },
-        PathType::At(_) => shortest(&kinds, steps_of(s, p)),
-    }
+    );
+    shortest(&kinds, steps_of(s, p))
 }

@@ -1,20 +1,20 @@
 -- The constraints of an action: of a borrow, of an assignment, and of any other. Assumes nothing.
 use mathlib.Core.Path.{_≡_, refl, sym, ap, _∙_, subst}
-use mathlib.Core.Bool.{Bool, true, false, _&&_, not, cond, true≢false}
-use mathlib.Core.List.{List, [], _∷_, _++_}
+use mathlib.Core.Bool.{Bool, true, false, _&&_, _||_, not, cond, true≢false}
+use mathlib.Core.List.{List, [], _∷_, _++_, append-nil}
 use Prim.Native.Nat.{ℕ, _+_, _≤_, _<_}
 use native.Mathlib.Omega.{arith}
 use native.Mathlib.Numerals.{add-one}
 use lib.ListN.{length, getD, List·getD-eq-default}
 use lib.Dec.{T, eqb, leb}
-use borrow.Author.Tests.{eq-eqb, ne-eqb, le-leb, lt-leb}
+use borrow.Author.Tests.{eqb-true, eq-eqb, ne-eqb, le-leb, lt-leb}
 use types.Run.{OneOf, miss}
 use denote.Enum.Declared.{tagOf}
 use Rattle.nll_spec.specs.Syntax as syntax
 use Rattle.nll_spec.specs.Syntax.{Job, Point, Free, RefTy, Co, Contra}
 use Rattle.nll_spec.specs.Decode.{read, done, items, path, codeCount}
 use Rattle.nll_spec.specs.Types.{pathType, variableType}
-use Rattle.nll_spec.specs.WellFormed.{shapeFits}
+use Rattle.nll_spec.specs.WellFormed.{shapeFits, refusal}
 use Rattle.nll_spec.specs.Graph.{graphOf, actionAt}
 use Rattle.nll_spec.specs.Constraints.{Outlives, requireOutlives, relate, relateSource, constraintsAt}
 use Rattle.nll_spec.proofs.AcceptedLaws.{accepted-job}
@@ -31,7 +31,7 @@ use Rattle.repr.specs.declared.Action.the-variants as actions
 use Rattle.repr.specs.declared.ActionStep.{ActionStep}
 use Rattle.repr.specs.declared.ActionStep.the-variants as actionStep
 use Rattle.record.specs.Layout.{Layout}
-use Rattle.record.specs.Access.{Acts}
+use Rattle.record.specs.Access.{entryIn, Acts}
 use Rattle.record.specs.declared.Head.{Head}
 use Rattle.repr.proofs.SpellLaws.{clash, carry, then}
 use Rattle.env.specs.Prefixes.{ShortestIn}
@@ -39,14 +39,18 @@ use Rattle.env.specs.Paths.{PathResult, PathSays}
 use Rattle.env.specs.declared.Shortest.{Shortest}
 use Rattle.env.specs.declared.paths.PathType.{PathType}
 use Rattle.env.specs.declared.paths.PathType.the-variants as pathType
+use Rattle.env.proofs.PathLaws.{stepless}
 use Rattle.env.proofs.PrefixLaws.{shortest-of}
+use Rattle.env.proofs.ShortestLaws.{taken-leaves}
 use Rattle.relate.specs.Relates.{Runs, Relates, RelatesRef}
 use Rattle.relate.specs.declared.Run.{Run}
 use Rattle.relate.proofs.RelateLaws.{runs-none, runs-append}
-use Rattle.regionck.specs.Constraining.{after, stepConstraints, sourceConstraints, Takes, SourceSays, TypesResult, PathTypesSay, Assigns, Borrows, Constrains}
+use Rattle.regionck.specs.Constraining.{after, stepConstraints, sourceConstraints, Takes, SourceIs, SourceSays, PathTypesSay, alongSource, TypesRun, SecondRuns, PathsRun, PairRuns, Constrains}
 use Rattle.regionck.specs.declared.constraints.Source.{Source}
 use Rattle.regionck.specs.declared.constraints.PathTypes.{PathTypes}
-use Rattle.regionck.specs.declared.constraints.PathTypes.the-variants as pathTypes
+use Rattle.regionck.specs.declared.constraints.Pair.{Pair}
+use Rattle.regionck.specs.declared.constraints.Related.{Related}
+use Rattle.regionck.specs.declared.constraints.Related.the-variants.{Assigned, Borrowed}
 use Rattle.regionck.proofs.ListLaws.{gather-below}
 use Rattle.regionck.proofs.ActionLaws.{assign-takes, borrow-takes}
 use Rattle.regionck.proofs.SourceLaws.{source-same}
@@ -90,70 +94,96 @@ module _ {run : Run} {first succ chain last : List ℕ} where
         → Runs run first succ chain last (stepConstraints (run .at) kinds names shortest r i) ws₁ grew₁ ws₂ grew₂ → Runs run first succ chain last (sourceConstraints (run .at) kinds names shortest r (i + 1)) ws grew ws₂ grew₂
     source-more i x y = runs-as (sym (gather-below (stepConstraints (run .at) kinds names shortest r) i)) (runs-append x y)
 
-pub source-says : {s : List ℕ} {p : Path} {region : RegionName} {kinds : List ℕ} {n m c : ℕ} {of : Shortest} → n ≡ length (pathOf s p .steps) → ShortestIn kinds n of → c ≡ of .supporting → m ≡ n
-    → SourceSays s p region kinds (record { region = region; supporting = c; steps = m })
-source-says {kinds = kinds} {of = of} len short sup count =
-    record { same = refl; steps = count ∙ len; of = of; shortest = subst (λ (n : ℕ). ShortestIn kinds n of) (sym count) short; supporting = sup }
+pub source-unread : {s : List ℕ} {p : Path} {how : Related} {kinds : List ℕ} {r : Source} → how ≡ Assigned → r .steps ≡ 0 → SourceSays s p how kinds r
+source-unread e z = rw e (record { says = z })
 
--- ---- The types of two paths
+pub source-says : {s : List ℕ} {p : Path} {how : Related} {region : RegionName} {kinds : List ℕ} {n m c : ℕ} {of : Shortest} → how ≡ Borrowed region → n ≡ length (pathOf s p .steps) → ShortestIn kinds n of → c ≡ of .supporting → m ≡ n
+    → SourceSays s p how kinds (record { region = region; supporting = c; steps = m })
+source-says {kinds = kinds} {of = of} e len short sup count =
+    rw e (record { says = record { same = refl; steps = count ∙ len; of = of; shortest = subst (λ (n : ℕ). ShortestIn kinds n of) (sym count) short; supporting = sup } })
+
+-- ---- Two types, where they stand
+
+module _ {s t : List ℕ} {run : Run} {first succ chain last : List ℕ} {how : Related} {a : List ℕ} {x : ℕ} {b : List ℕ} {y : ℕ} {ws grew ws′ grew′ : List ℕ} where
+  pub types-assigned : how ≡ Assigned → Relates s t run first succ chain last a x b y Co ws grew ws′ grew′ → TypesRun s t run first succ chain last how a x b y ws grew ws′ grew′
+  types-assigned e v = rw e (record { runs = λ j l m n k p q f g z. v .runs j l m n p q f g z })
+
+  pub types-borrowed : {r : RegionName} → how ≡ Borrowed r → RelatesRef (r .0) s t run first succ chain last a x b y Contra ws grew ws′ grew′ → TypesRun s t run first succ chain last how a x b y ws grew ws′ grew′
+  types-borrowed e v = rw e (record { runs = λ j l m n k p q f g z. v .runs j l m n k p q f g z })
 
 module _ {s t : List ℕ} {h : Head} {p : Path} {out kinds names : List ℕ} {d : PathType} (v : PathSays s t h p out kinds names d) (j : Job) (l : Layout s t h j) (w : Takes s j p) where
-  result : {x : PathType} → d ≡ x → PathResult j (pathOf s p) out kinds names x
-  result e = subst (λ (x : PathType). PathResult j (pathOf s p) out kinds names x) e (v .says j l (w .named))
+  result : {x : PathType} → d ≡ x → PathResult j (pathOf s p) s out kinds names x
+  result e = subst (λ (x : PathType). PathResult j (pathOf s p) s out kinds names x) e (v .says j l (w .named))
 
   refused : d ≡ pathType.Refused → ⊥
   refused e = true≢false (sym (w .fits) ∙ result e)
 
-module _ {s t : List ℕ} {h : Head} {p q : Path} {a b kinds names : List ℕ} where
-  pub no-first : {d : PathType} → PathSays s t h p a kinds names d → d ≡ pathType.Refused → PathTypesSay s t h p q a b kinds names pathTypes.Refused
-  no-first v e = record { says = λ j l x y. refused v j l x e; sizes = v .sizes }
+module _ {s t : List ℕ} {run : Run} {first succ chain last : List ℕ} {how : Related} {ws grew : List ℕ} where
+  module _ {a : List ℕ} {x : ℕ} {q : Path} {b kinds names : List ℕ} {d : PathType} (v : PathSays s t (run .head) q b kinds names d) where
+    pub second-refused : d ≡ pathType.Refused → SecondRuns s t run first succ chain last how a x q ws grew ws grew
+    second-refused e = record { runs = λ j l w m k p f z. absurd (refused v j l w e) }
 
-  pub no-second : {d : PathType} → PathSays s t h q b kinds names d → d ≡ pathType.Refused → PathTypesSay s t h p q a b kinds names pathTypes.Refused
-  no-second v e = record { says = λ j l x y. refused v j l y e; sizes = v .sizes }
+    pub second-inside : {y : Cursor} {ws′ grew′ : List ℕ} → d ≡ pathType.Inside y → TypesRun s t run first succ chain last how a x s (y .at) ws grew ws′ grew′ → SecondRuns s t run first succ chain last how a x q ws grew ws′ grew′
+    second-inside e u = record { runs = λ j l w m k p f z. let r = result v j l w e in u .runs j l m _ k p (r .stands) f (r .few) z }
 
-  pub both-typed : {kinds₁ names₁ : List ℕ} {d f : PathType} {x y : Cursor} → PathSays s t h p a kinds₁ names₁ d → d ≡ pathType.At x → PathSays s t h q b kinds names f → f ≡ pathType.At y
-      → PathTypesSay s t h p q a b kinds names (pathTypes.At x y)
-  both-typed v e w i = record { says = λ j l tp tq. let r = result v j l tp e in record { stands = r .stands; few = r .few; second = result w j l tq i }; sizes = w .sizes }
+    pub second-written : {y : Cursor} {ws′ grew′ : List ℕ} → d ≡ pathType.Written y → TypesRun s t run first succ chain last how a x b (y .at) ws grew ws′ grew′ → SecondRuns s t run first succ chain last how a x q ws grew ws′ grew′
+    second-written e u = record { runs = λ j l w m k p f z. let r = result v j l w e in u .runs j l m _ k p (r .stands) f (r .few) z }
 
-module _ {s t : List ℕ} {h : Head} {p q : Path} {a b kinds names : List ℕ} {d : PathTypes} (v : PathTypesSay s t h p q a b kinds names d) where
-  typed : {x : PathTypes} → d ≡ x → (j : Job) → Layout s t h j → Takes s j p → Takes s j q → TypesResult j (pathOf s p) (pathOf s q) a b kinds names x
-  typed e j l tp tq = subst (λ (x : PathTypes). TypesResult j (pathOf s p) (pathOf s q) a b kinds names x) e (v .says j l tp tq)
+  module _ {p q : Path} {a kinds names : List ℕ} {d : PathType} (v : PathSays s t (run .head) p a kinds names d) where
+    pub paths-refused : d ≡ pathType.Refused → PathsRun s t run first succ chain last how p q ws grew ws grew
+    paths-refused e = record { runs = λ j l w u k z. absurd (refused v j l w e) }
+
+    pub paths-inside : {x : Cursor} {ws′ grew′ : List ℕ} → d ≡ pathType.Inside x → SecondRuns s t run first succ chain last how s (x .at) q ws grew ws′ grew′ → PathsRun s t run first succ chain last how p q ws grew ws′ grew′
+    paths-inside e u = record { runs = λ j l w o k z. let r = result v j l w e in u .runs j l o _ k (r .stands) (r .few) z }
+
+    pub paths-written : {x : Cursor} {ws′ grew′ : List ℕ} → d ≡ pathType.Written x → SecondRuns s t run first succ chain last how a (x .at) q ws grew ws′ grew′ → PathsRun s t run first succ chain last how p q ws grew ws′ grew′
+    paths-written e u = record { runs = λ j l w o k z. let r = result v j l w e in u .runs j l o _ k (r .stands) (r .few) z }
 
 -- ---- An assignment and a borrow
 
-module _ {s t : List ℕ} {run : Run} {first succ chain last : List ℕ} {dest source : Path} {ws grew : List ℕ} where
-  module _ {a b kinds names : List ℕ} {d : PathTypes} (v : PathTypesSay s t (run .head) source dest a b kinds names d) where
-    pub assign-untyped : d ≡ pathTypes.Refused → Assigns s t run first succ chain last dest source ws grew ws grew
-    assign-untyped e = record { runs = λ j l td ts z. absurd (typed v e j l ts td) }
+-- a test of two numbers, of which each is 0
+pub both-zero : (m n : ℕ) → not (eqb m 0) || not (eqb n 0) ≡ false → (m ≡ 0) × (n ≡ 0)
+both-zero m n e = go (eqb m 0) (eqb n 0) refl refl e
+  where
+    go : (x y : Bool) → eqb m 0 ≡ x → eqb n 0 ≡ y → not x || not y ≡ false → (m ≡ 0) × (n ≡ 0)
+    go true true i k e = (eqb-true m 0 i, eqb-true n 0 k)
+    go true false i k e = absurd (true≢false e)
+    go false y i k e = absurd (true≢false e)
 
-    pub assign-runs : {x y : Cursor} {ws′ grew′ : List ℕ} → d ≡ pathTypes.At x y → Relates s t run first succ chain last a (x .at) b (y .at) Co ws grew ws′ grew′ → Assigns s t run first succ chain last dest source ws grew ws′ grew′
-    assign-runs e m =
-        record {
-          runs = λ j l td ts z.
-              let p = typed v e j l ts td in
-              m .runs j l (pathType j (pathOf s source)) (pathType j (pathOf s dest)) (p .stands) (p .second .stands) (p .few) (p .second .few) z;
-        }
+then-none : (cs : List Outlives) {ds : List Outlives} → ds ≡ [] → cs ++ ds ≡ cs
+then-none cs e = ap (λ (ds : List Outlives). cs ++ ds) e ∙ append-nil cs
 
-  module _ {r : RegionName} {a b kinds names : List ℕ} {d : PathTypes} (v : PathTypesSay s t (run .head) dest source a b kinds names d) where
-    pub borrow-untyped : d ≡ pathTypes.Refused → Borrows s t run first succ chain last dest (r .0) source ws grew ws grew
-    borrow-untyped e = record { runs = λ j l accepted td ts k z. absurd (typed v e j l td ts) }
+no-steps : (how : Related) (at : Point) (j : Job) (q : syntax.Path) → q .steps ≡ [] → alongSource how at j q ≡ []
+unfolding relateSource
+no-steps Assigned at j q e = refl
+no-steps (Borrowed r) at j q e = rw e
 
-    pub borrow-runs : {x y : Cursor} {ws₁ grew₁ ws₂ grew₂ : List ℕ} {of : Source} → d ≡ pathTypes.At x y → RelatesRef (r .0) s t run first succ chain last a (x .at) b (y .at) Contra ws grew ws₁ grew₁
-        → SourceSays s source r kinds of → Runs run first succ chain last (sourceConstraints (run .at) kinds names (of .supporting) (of .region .0) (of .steps)) ws₁ grew₁ ws₂ grew₂
-        → Borrows s t run first succ chain last dest (r .0) source ws grew ws₂ grew₂
-    borrow-runs {of = of} e rel u src =
-        record {
-          runs = λ j l accepted td ts k z.
-              let p = typed v e j l td ts in
-              let q = p .second in
-              let o = shortest-of j (pathOf s source) (q .leaves) (v .sizes .0) (ts .short) (subst (λ (n : ℕ). ShortestIn kinds n (u .of)) (u .steps) (u .shortest)) in
-              runs-append (rel .runs j l (pathType j (pathOf s dest)) (pathType j (pathOf s source)) k (p .stands) (q .stands) (p .few) (q .few) z)
-              (runs-as
-              (ap (λ (n : ℕ). sourceConstraints (run .at) kinds names n (of .region .0) (of .steps)) (u .supporting)
-              ∙ ap (λ (n : RegionName). sourceConstraints (run .at) kinds names (u .of .supporting) (n .0) (of .steps)) (u .same)
-              ∙ ap (sourceConstraints (run .at) kinds names (u .of .supporting) (r .0)) (u .steps)
-              ∙ source-same j accepted (pathOf s source) (q .leaves) (ts .short) o (run .at) (r .0)) src);
-        }
+module _ {s t : List ℕ} {h : Head} {q : Path} {b kinds names : List ℕ} {d : PathType} (v : PathSays s t h q b kinds names d) (at : Point) (of : Source) (j : Job) (l : Layout s t h j) (accepted : refusal j ≡ 0) (w : Takes s j q) where
+  along : (how : Related) → SourceIs s q how kinds of → sourceConstraints at kinds names (of .supporting) (of .region .0) (of .steps) ≡ alongSource how at j (pathOf s q)
+  along Assigned u = ap (sourceConstraints at kinds names (of .supporting) (of .region .0)) u
+  along (Borrowed r) u =
+      let leaves = taken-leaves j (pathOf s q) s b d (w .fits) (v .says j l (w .named)) in
+      let o = shortest-of j (pathOf s q) leaves (v .sizes .0) (w .short) (subst (λ (n : ℕ). ShortestIn kinds n (u .of)) (u .steps) (u .shortest)) in
+      ap (λ (n : ℕ). sourceConstraints at kinds names n (of .region .0) (of .steps)) (u .supporting)
+      ∙ ap (λ (n : RegionName). sourceConstraints at kinds names (u .of .supporting) (n .0) (of .steps)) (u .same)
+      ∙ ap (sourceConstraints at kinds names (u .of .supporting) (r .0)) (u .steps)
+      ∙ source-same j accepted (pathOf s q) leaves (w .short) o at (r .0)
+
+module _ {s t : List ℕ} {run : Run} {first succ chain last : List ℕ} (pair : Pair) {ws grew : List ℕ} where
+  pub pair-stepless : (x y : Cursor) {ws′ grew′ : List ℕ} → (pair .p .steps ≡ 0) × (pair .q .steps ≡ 0) → x .at ≡ entryIn t 32 64 (pair .p .base .0) → y .at ≡ entryIn t 32 64 (pair .q .base .0)
+      → TypesRun s t run first succ chain last (pair .how) s (x .at) s (y .at) ws grew ws′ grew′ → PairRuns s t run first succ chain last pair ws grew ws′ grew′
+  pair-stepless x y z vp vq u =
+      record {
+        runs = λ j l accepted wp wq k same.
+            runs-as (sym (then-none _ (no-steps (pair .how) (run .at) j (pathOf s (pair .q)) (rw (z .1)))))
+            (paths-inside (stepless (pair .p) x (z .0) vp) refl (second-inside (stepless (pair .q) y (z .1) vq) refl u) .runs j l wp wq k same);
+      }
+
+  pub pair-runs : {a b kinds names : List ℕ} {d : PathTypes} {ws₁ grew₁ ws₂ grew₂ : List ℕ} {of : Source} → PathTypesSay s t (run .head) (pair .p) (pair .q) a b kinds names d
+      → PathsRun s t run first succ chain last (pair .how) (pair .p) (pair .q) ws grew ws₁ grew₁
+      → SourceSays s (pair .q) (pair .how) kinds of → Runs run first succ chain last (sourceConstraints (run .at) kinds names (of .supporting) (of .region .0) (of .steps)) ws₁ grew₁ ws₂ grew₂
+      → PairRuns s t run first succ chain last pair ws grew ws₂ grew₂
+  pair-runs {of = of} v u o src = record { runs = λ j l accepted wp wq k z. runs-append (u .runs j l wp wq k z) (runs-as (along (v .second) (run .at) of j l accepted wq (pair .how) (o .says)) src) }
 
 -- ---- An action
 
@@ -195,7 +225,7 @@ module _ {s t : List ℕ} {run : Run} {first succ chain last : List ℕ} {ws gre
 
     module _ {ws′ grew′ : List ℕ} where
       pub action-borrow : {d q : Path} {o : RegionName} {k : BorrowKind} {next : Run} → a ≡ actions.Borrow d o k q → next ≡ after run
-          → Borrows s t next first succ chain last d (o .0) q ws grew ws′ grew′ → Constrains s t run first succ chain last ws grew ws′ grew′
+          → PairRuns s t next first succ chain last (record { how = Borrowed o; p = d; q = q }) ws grew ws′ grew′ → Constrains s t run first succ chain last ws grew ws′ grew′
       unfolding constraintsAt shapeFits
       action-borrow {d} {q} {o} {k} {next} i f b =
           record {
@@ -204,7 +234,8 @@ module _ {s t : List ℕ} {run : Run} {first succ chain last : List ℕ} {ws gre
                 = carry (λ x y. x ≡ syntax.Borrow (pathOf s d) (o .0) (borrowKindOf k) (pathOf s q)) (is act j l h e i .reads) refl in
                 let w = borrow-takes l accepted (run .at) d q u in
                 let z : T (shapeFits j (syntax.Borrow (pathOf s d) (o .0) (borrowKindOf k) (pathOf s q))) = subst (λ (x : syntax.Action). T (shapeFits j x)) u (accepted-job j accepted .shapes (run .at)) in
-                let b′ : Borrows s t (after run) first succ chain last d (o .0) q ws grew ws′ grew′ = subst (λ (x : Run). Borrows s t x first succ chain last d (o .0) q ws grew ws′ grew′) f b in
+                let b′ : PairRuns s t (after run) first succ chain last (record { how = Borrowed o; p = d; q = q }) ws grew ws′ grew′
+                = subst (λ (x : Run). PairRuns s t x first succ chain last (record { how = Borrowed o; p = d; q = q }) ws grew ws′ grew′) f b in
                 runs-as (ap (constraintsAt j (run .at)) (sym u))
                 (record {
                   ran = subst (λ (p : Point). Runs (after run) first succ chain last
@@ -215,7 +246,7 @@ module _ {s t : List ℕ} {run : Run} {first succ chain last : List ℕ} {ws gre
           }
 
       pub action-assign : {d q : Path} {next : Run} → a ≡ actions.Assign d q → next ≡ after run
-          → Assigns s t next first succ chain last d q ws grew ws′ grew′ → Constrains s t run first succ chain last ws grew ws′ grew′
+          → PairRuns s t next first succ chain last (record { how = Assigned; p = q; q = d }) ws grew ws′ grew′ → Constrains s t run first succ chain last ws grew ws′ grew′
       unfolding constraintsAt shapeFits
       action-assign {d} {q} {next} i f b =
           record {
@@ -223,11 +254,12 @@ module _ {s t : List ℕ} {run : Run} {first succ chain last : List ℕ} {ws gre
                 let u : actionAt (graphOf j) (run .at) ≡ syntax.Assign (pathOf s d) (pathOf s q) = carry (λ x y. x ≡ syntax.Assign (pathOf s d) (pathOf s q)) (is act j l h e i .reads) refl in
                 let w = assign-takes l accepted (run .at) d q u in
                 let z : T (shapeFits j (syntax.Assign (pathOf s d) (pathOf s q))) = subst (λ (x : syntax.Action). T (shapeFits j x)) u (accepted-job j accepted .shapes (run .at)) in
-                let b′ : Assigns s t (after run) first succ chain last d q ws grew ws′ grew′ = subst (λ (x : Run). Assigns s t x first succ chain last d q ws grew ws′ grew′) f b in
+                let b′ : PairRuns s t (after run) first succ chain last (record { how = Assigned; p = q; q = d }) ws grew ws′ grew′
+                = subst (λ (x : Run). PairRuns s t x first succ chain last (record { how = Assigned; p = q; q = d }) ws grew ws′ grew′) f b in
                 runs-as (ap (constraintsAt j (run .at)) (sym u))
                 (record {
                   ran = subst (λ (p : Point). Runs (after run) first succ chain last (relate p (j .structs) (pathType j (pathOf s q)) Co (pathType j (pathOf s d))) ws grew ws′ grew′)
-                      (add-one (run .at)) (b′ .runs j l (w .0) (w .1) z) .ran;
+                      (add-one (run .at)) (runs-as (append-nil _) (b′ .runs j l accepted (w .1) (w .0) syntax.Mut z)) .ran;
                 });
           }
 

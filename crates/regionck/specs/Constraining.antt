@@ -7,7 +7,7 @@ use lib.ListN.{length, getD}
 use lib.Dec.{T, eqb, leb}
 use Rattle.nll_spec.specs.Lists.{gather, below}
 use Rattle.nll_spec.specs.Syntax as syntax
-use Rattle.nll_spec.specs.Syntax.{Job, Point, RegionName, BorrowKind, Co, Contra, Free, RefTy}
+use Rattle.nll_spec.specs.Syntax.{Job, Point, RegionName, BorrowKind, Variance, Co, Contra, Free, Ty, RefTy}
 use Rattle.nll_spec.specs.Decode.{maxNodes}
 use Rattle.nll_spec.specs.Types.{variableType, pathType, typeNodes}
 use Rattle.nll_spec.specs.WellFormed.{pathFits, sameShape, refusal}
@@ -19,14 +19,16 @@ use Rattle.repr.specs.declared.RegionName as repr
 use Rattle.record.specs.Layout.{Layout}
 use Rattle.record.specs.declared.Head.{Head}
 use Rattle.repr.specs.Stands.{TypeAt}
-use Rattle.env.specs.Paths.{PathIs}
+use Rattle.env.specs.Paths.{PathSays}
 use Rattle.env.specs.Prefixes.{ShortestIn}
 use Rattle.env.specs.declared.Shortest.{Shortest}
 use Rattle.relate.specs.Relates.{Runs}
 use Rattle.relate.specs.declared.Run.{Run}
 use Rattle.regionck.specs.declared.constraints.Source.{Source}
 use Rattle.regionck.specs.declared.constraints.PathTypes.{PathTypes}
-use Rattle.regionck.specs.declared.constraints.PathTypes.the-variants as pathTypes
+use Rattle.regionck.specs.declared.constraints.Pair.{Pair}
+use Rattle.regionck.specs.declared.constraints.Related.{Related}
+use Rattle.regionck.specs.declared.constraints.Related.the-variants.{Assigned, Borrowed}
 
 -- the same at the next point
 abbrev pub after : Run → Run
@@ -48,44 +50,70 @@ pub record Takes (s : List ℕ) (j : Job) (p : Path) : Type 0 where
   pub short : length (pathOf s p .steps) ≤ 8
 
 -- The source p of a borrow of this region, by the kinds that its steps leave.
-pub record SourceSays (s : List ℕ) (p : Path) (region : repr.RegionName) (kinds : List ℕ) (r : Source) : Type 0 where
+pub record BorrowSource (s : List ℕ) (p : Path) (region : repr.RegionName) (kinds : List ℕ) (r : Source) : Type 0 where
   pub same : r .region ≡ region
   pub steps : r .steps ≡ length (pathOf s p .steps)
   pub of : Shortest
   pub shortest : ShortestIn kinds (r .steps) of
   pub supporting : r .supporting ≡ of .supporting
 
--- ---- The types of two paths
+-- An assignment has none.
+abbrev pub SourceIs : List ℕ → Path → Related → List ℕ → Source → Type 0
+SourceIs s p Assigned kinds r = r .steps ≡ 0
+SourceIs s p (Borrowed region) kinds r = BorrowSource s p region kinds r
 
--- They stand there, and each step's entries say what the second's leaves.
-pub record TypesAre (j : Job) (p q : syntax.Path) (a : List ℕ) (x : ℕ) (b : List ℕ) (y : ℕ) (kinds names : List ℕ) : Type 0 where
-  pub stands : TypeAt a x (pathType j p)
-  pub few : typeNodes (pathType j p) ≤ maxNodes
-  pub second : PathIs j q b y kinds names
+pub record SourceSays (s : List ℕ) (p : Path) (how : Related) (kinds : List ℕ) (r : Source) : Type 0 where
+  pub says : SourceIs s p how kinds r
 
-abbrev pub TypesResult : Job → syntax.Path → syntax.Path → List ℕ → List ℕ → List ℕ → List ℕ → PathTypes → Type 0
-TypesResult j p q a b kinds names (pathTypes.At c d) = TypesAre j p q a (c .at) b (d .at) kinds names
-TypesResult j p q a b kinds names pathTypes.Refused = ⊥
-
+-- The types of two paths, with what the steps of the second leave.
 pub record PathTypesSay (s t : List ℕ) (h : Head) (p q : Path) (a b kinds names : List ℕ) (r : PathTypes) : Type 0 where
-  pub says : (j : Job) → Layout s t h j → Takes s j p → Takes s j q → TypesResult j (pathOf s p) (pathOf s q) a b kinds names r
-  pub sizes : (length kinds ≡ 8) × (length names ≡ 8)
+  pub before : List ℕ
+  pub before′ : List ℕ
+  pub first : PathSays s t h p a before before′ (r .p)
+  pub second : PathSays s t h q b kinds names (r .q)
 
--- ---- The constraints of an action
+-- ---- Two types that are related
+
+-- the variance under which they are
+abbrev pub under : Related → Variance
+under Assigned = Co
+under (Borrowed r) = Contra
+
+-- what the first is related to: the second, or a Ref of some kind to it
+abbrev pub against : Related → BorrowKind → Ty → Ty
+against Assigned k u = u
+against (Borrowed r) k u = RefTy k (Free (r .0)) u
+
+-- what the steps of a borrow's source make
+abbrev pub alongSource : Related → Point → Job → syntax.Path → List Outlives
+alongSource Assigned at j q = []
+alongSource (Borrowed r) at j q = relateSource at (j .structs) (Free (r .0)) (variableType j (q .base)) (q .steps)
 
 module _ (s t : List ℕ) (run : Run) (first succ chain last : List ℕ) where
-  -- The constraints of an assignment are run, at the run's point.
-  pub record Assigns (dest source : Path) (ws grew ws′ grew′ : List ℕ) : Type 0 where
-    pub runs : (j : Job) → Layout s t (run .head) j → Takes s j dest → Takes s j source → T (sameShape (pathType j (pathOf s source)) (pathType j (pathOf s dest)))
-        → Runs run first succ chain last (relate (run .at) (j .structs) (pathType j (pathOf s source)) Co (pathType j (pathOf s dest))) ws grew ws′ grew′
+  -- The constraints of the two types that stand there are run, if the types have one shape.
+  pub record TypesRun (how : Related) (a : List ℕ) (x : ℕ) (b : List ℕ) (y : ℕ) (ws grew ws′ grew′ : List ℕ) : Type 0 where
+    pub runs : (j : Job) → Layout s t (run .head) j → (m n : Ty) (k : BorrowKind) → TypeAt a x m → TypeAt b y n → typeNodes m ≤ maxNodes → typeNodes n ≤ maxNodes → T (sameShape m (against how k n))
+        → Runs run first succ chain last (relate (run .at) (j .structs) m (under how) (against how k n)) ws grew ws′ grew′
 
-  -- The constraints of a borrow, of some kind.
-  pub record Borrows (dest : Path) (r : RegionName) (source : Path) (ws grew ws′ grew′ : List ℕ) : Type 0 where
-    pub runs : (j : Job) → Layout s t (run .head) j → refusal j ≡ 0 → Takes s j dest → Takes s j source → (k : BorrowKind)
-        → T (sameShape (pathType j (pathOf s dest)) (RefTy k (Free r) (pathType j (pathOf s source))))
+  -- The same for the type that stands there and that of a path.
+  pub record SecondRuns (how : Related) (a : List ℕ) (x : ℕ) (q : Path) (ws grew ws′ grew′ : List ℕ) : Type 0 where
+    pub runs : (j : Job) → Layout s t (run .head) j → Takes s j q → (m : Ty) (k : BorrowKind) → TypeAt a x m → typeNodes m ≤ maxNodes → T (sameShape m (against how k (pathType j (pathOf s q))))
+        → Runs run first succ chain last (relate (run .at) (j .structs) m (under how) (against how k (pathType j (pathOf s q)))) ws grew ws′ grew′
+
+  -- The same for the types of two paths.
+  pub record PathsRun (how : Related) (p q : Path) (ws grew ws′ grew′ : List ℕ) : Type 0 where
+    pub runs : (j : Job) → Layout s t (run .head) j → Takes s j p → Takes s j q → (k : BorrowKind) → T (sameShape (pathType j (pathOf s p)) (against how k (pathType j (pathOf s q))))
+        → Runs run first succ chain last (relate (run .at) (j .structs) (pathType j (pathOf s p)) (under how) (against how k (pathType j (pathOf s q)))) ws grew ws′ grew′
+
+  -- ---- The constraints of an action
+
+  -- The constraints of an assignment or a borrow are run, at the run's point.
+  pub record PairRuns (pair : Pair) (ws grew ws′ grew′ : List ℕ) : Type 0 where
+    pub runs : (j : Job) → Layout s t (run .head) j → refusal j ≡ 0 → Takes s j (pair .p) → Takes s j (pair .q) → (k : BorrowKind)
+        → T (sameShape (pathType j (pathOf s (pair .p))) (against (pair .how) k (pathType j (pathOf s (pair .q)))))
         → Runs run first succ chain last
-        (relate (run .at) (j .structs) (pathType j (pathOf s dest)) Contra (RefTy k (Free r) (pathType j (pathOf s source)))
-        ++ relateSource (run .at) (j .structs) (Free r) (variableType j (source .base .0)) (pathOf s source .steps))
+        (relate (run .at) (j .structs) (pathType j (pathOf s (pair .p))) (under (pair .how)) (against (pair .how) k (pathType j (pathOf s (pair .q))))
+        ++ alongSource (pair .how) (run .at) j (pathOf s (pair .q)))
         ws grew ws′ grew′
 
   -- The constraints of the action at the run's point, which is one of the blocks.

@@ -5,6 +5,7 @@ use env::prefixes::shortest;
 use env::prefixes::steps_of;
 use record::Head;
 use record::access::action_at;
+use record::access::variable_at;
 use relate::Run;
 use repr::Action;
 use repr::ActionStep;
@@ -14,10 +15,13 @@ use repr::Region;
 use repr::RegionName;
 use repr::Variance;
 ghost use mathlib.Core.Path.{_≡_};
-ghost use Prim.Native.Nat.{_+_, _≤_};
+ghost use mathlib.Core.List.{List};
+ghost use Prim.Native.Nat.{ℕ, _+_, _≤_};
 ghost use lib.ListN.{length};
+ghost use Rattle.repr.specs.declared.Path.{Path};
+ghost use Rattle.env.specs.Paths.{PathSays};
 ghost use Rattle.relate.specs.Relates.{Runs};
-ghost use Rattle.regionck.specs.Constraining.{after, stepConstraints, sourceConstraints, SourceSays, PathTypesSay, Assigns, Borrows, Constrains};
+ghost use Rattle.regionck.specs.Constraining.{after, stepConstraints, sourceConstraints, SourceSays, PathTypesSay, TypesRun, SecondRuns, PathsRun, PairRuns, Constrains};
 
 fn wide(x: u8) -> usize
     ensures { λ r. ⌜ (r ≡ x) × (r ≤ 255) ⌝ }
@@ -41,10 +45,23 @@ fn after(run: Run) -> Run
     }
 }
 
-// Where the types of two paths begin, or that one of the paths may not be taken.
-enum PathTypes {
-    At(Cursor, Cursor),
-    Refused,
+// How two types are related: the first to the second, or as where a borrow of a region goes to what is borrowed.
+enum Related {
+    Assigned,
+    Borrowed(RegionName),
+}
+
+// Two paths whose types are related.
+struct Pair {
+    how: Related,
+    p: Path,
+    q: Path,
+}
+
+// The types of two paths.
+struct PathTypes {
+    p: PathType,
+    q: PathType,
 }
 
 // A borrow's region, and how many steps its source has, and the source's shortest supporting prefix.
@@ -107,16 +124,35 @@ fn relate_source(
 {
     let mut i = 0;
     while i < of.steps {
-        relate_step(of, kinds, names, i, run, words, first, succ, chain, last, grew);
+        relate_step(
+            of,
+            kinds,
+            names,
+            i,
+            run,
+            words,
+            first,
+            succ,
+            chain,
+            last,
+            grew,
+        );
         i += 1;
     }
 }
 
-// The source of a borrow of this region. The kinds say what its steps leave.
-fn source_of(s: &[u8], p: Path, region: RegionName, kinds: &[u8; 8]) -> Source
+// The source of a borrow, or one without steps for an assignment. The kinds say what its steps leave.
+fn source_of(s: &[u8], p: Path, how: Related, kinds: &[u8; 8]) -> Source
     requires { ⌜ length (now kinds) ≡ 8 ⌝ }
-    ensures { λ r. ⌜ SourceSays (now (s .entry)) p region (now (kinds .entry)) r ⌝ }
+    ensures { λ r. ⌜ SourceSays (now (s .entry)) p how (now (kinds .entry)) r ⌝ }
 {
+    let Related::Borrowed(region) = how else {
+        return Source {
+            region: RegionName(0),
+            supporting: 0,
+            steps: 0,
+        };
+    };
     let steps = steps_of(s, p);
     let of = shortest(kinds, steps);
     Source {
@@ -126,7 +162,7 @@ fn source_of(s: &[u8], p: Path, region: RegionName, kinds: &[u8; 8]) -> Source
     }
 }
 
-// The types of two paths, in a and in b, and what the steps of the second leave.
+// The types of two paths, in the record, in a or in b, and what the steps of the second leave.
 fn path_types(
     s: &[u8],
     layout: &[u16; 1280],
@@ -142,22 +178,20 @@ fn path_types(
     ensures { λ r. ⌜ PathTypesSay (now (s .entry)) (now (layout .entry)) head p q (now (a .exit)) (now (b .exit)) (now (kinds .exit)) (now (names .exit)) r ⌝ }
 {
     let mut spare = [0; 512];
-    let PathType::At(x) = path_type(s, layout, head, p, a, &mut spare, kinds, names) else {
-        return PathTypes::Refused;
-    };
-    let PathType::At(y) = path_type(s, layout, head, q, b, &mut spare, kinds, names) else {
-        return PathTypes::Refused;
-    };
-    PathTypes::At(x, y)
+    let x = path_type(s, layout, head, p, a, &mut spare, kinds, names);
+    let y = path_type(s, layout, head, q, b, &mut spare, kinds, names);
+    PathTypes { p: x, q: y }
 }
 
-// A borrow's constraints, at the point of the run.
-fn borrow(
+// Relates the types at x of a and at y of b.
+fn relate_types(
+    how: Related,
     s: &[u8],
     layout: &[u16; 1280],
-    dest: Path,
-    region: RegionName,
-    source: Path,
+    a: &[u8],
+    x: Cursor,
+    b: &[u8],
+    y: Cursor,
     run: Run,
     words: &mut [u32],
     first: &[u16; 1025],
@@ -167,36 +201,198 @@ fn borrow(
     grew: &mut [u8; 128],
 )
     requires { ⌜ length (now layout) ≡ 1280 ⌝ }
-    ensures { λ _. ⌜ Borrows (now (s .entry)) (now (layout .entry)) run (now (first .entry)) (now (succ .entry)) (now (chain .entry)) (now (last .entry)) dest (region .0) source
+    ensures { λ _. ⌜ TypesRun (now (s .entry)) (now (layout .entry)) run (now (first .entry)) (now (succ .entry)) (now (chain .entry)) (now (last .entry)) how (now (a .entry)) (x .at) (now (b .entry)) (y .at)
         (now (words .entry)) (now (grew .entry)) (now (words .exit)) (now (grew .exit)) ⌝ }
 {
+    match how {
+        Related::Assigned => relate::relate(
+            s,
+            layout,
+            a,
+            x,
+            b,
+            y,
+            Variance::Co,
+            run,
+            words,
+            first,
+            succ,
+            chain,
+            last,
+            grew,
+        ),
+        Related::Borrowed(region) => relate::relate_ref(
+            s,
+            layout,
+            a,
+            x,
+            region,
+            b,
+            y,
+            Variance::Contra,
+            run,
+            words,
+            first,
+            succ,
+            chain,
+            last,
+            grew,
+        ),
+    }
+}
+
+// The type at x of a, and a path's, which stands in the record or in b.
+fn relate_second(
+    how: Related,
+    s: &[u8],
+    layout: &[u16; 1280],
+    a: &[u8],
+    x: Cursor,
+    b: &[u8; 512],
+    found: PathType,
+    run: Run,
+    words: &mut [u32],
+    first: &[u16; 1025],
+    succ: &[u16; 1536],
+    chain: &[u32; 32],
+    last: &[u8; 128],
+    grew: &mut [u8; 128],
+)
+    requires { ⌜ length (now layout) ≡ 1280 ⌝ }
+    ensures { λ _. ⌜ ((q : Path) (kinds names : List ℕ) → PathSays (now (s .entry)) (now (layout .entry)) (run .head) q (now (b .entry)) kinds names found
+        → SecondRuns (now (s .entry)) (now (layout .entry)) run (now (first .entry)) (now (succ .entry)) (now (chain .entry)) (now (last .entry)) how (now (a .entry)) (x .at) q
+        (now (words .entry)) (now (grew .entry)) (now (words .exit)) (now (grew .exit))) ⌝ }
+{
+    match found {
+        PathType::Refused => {}
+        PathType::Inside(y) => relate_types(
+            how,
+            s,
+            layout,
+            a,
+            x,
+            s,
+            y,
+            run,
+            words,
+            first,
+            succ,
+            chain,
+            last,
+            grew,
+        ),
+        PathType::Written(y) => relate_types(
+            how,
+            s,
+            layout,
+            a,
+            x,
+            b,
+            y,
+            run,
+            words,
+            first,
+            succ,
+            chain,
+            last,
+            grew,
+        ),
+    }
+}
+
+// The types of two paths, which stand in the record, in a or in b.
+fn relate_found(
+    how: Related,
+    s: &[u8],
+    layout: &[u16; 1280],
+    a: &[u8; 512],
+    b: &[u8; 512],
+    found: PathTypes,
+    run: Run,
+    words: &mut [u32],
+    first: &[u16; 1025],
+    succ: &[u16; 1536],
+    chain: &[u32; 32],
+    last: &[u8; 128],
+    grew: &mut [u8; 128],
+)
+    requires { ⌜ length (now layout) ≡ 1280 ⌝ }
+    ensures { λ _. ⌜ ((p q : Path) (kinds names : List ℕ) → PathTypesSay (now (s .entry)) (now (layout .entry)) (run .head) p q (now (a .entry)) (now (b .entry)) kinds names found
+        → PathsRun (now (s .entry)) (now (layout .entry)) run (now (first .entry)) (now (succ .entry)) (now (chain .entry)) (now (last .entry)) how p q
+        (now (words .entry)) (now (grew .entry)) (now (words .exit)) (now (grew .exit))) ⌝ }
+{
+    let first_type = found.p;
+    let second_type = found.q;
+    match first_type {
+        PathType::Refused => {}
+        PathType::Inside(x) => relate_second(
+            how,
+            s,
+            layout,
+            s,
+            x,
+            b,
+            second_type,
+            run,
+            words,
+            first,
+            succ,
+            chain,
+            last,
+            grew,
+        ),
+        PathType::Written(x) => relate_second(
+            how,
+            s,
+            layout,
+            a,
+            x,
+            b,
+            second_type,
+            run,
+            words,
+            first,
+            succ,
+            chain,
+            last,
+            grew,
+        ),
+    }
+}
+
+// Two paths, of which one has steps, and the steps of a borrow's source.
+fn relate_stepped(
+    pair: Pair,
+    s: &[u8],
+    layout: &[u16; 1280],
+    run: Run,
+    words: &mut [u32],
+    first: &[u16; 1025],
+    succ: &[u16; 1536],
+    chain: &[u32; 32],
+    last: &[u8; 128],
+    grew: &mut [u8; 128],
+)
+    requires { ⌜ length (now layout) ≡ 1280 ⌝ }
+    ensures { λ _. ⌜ PairRuns (now (s .entry)) (now (layout .entry)) run (now (first .entry)) (now (succ .entry)) (now (chain .entry)) (now (last .entry)) pair
+        (now (words .entry)) (now (grew .entry)) (now (words .exit)) (now (grew .exit)) ⌝ }
+{
+    let how = pair.how;
     let head = run.head;
+    let p = pair.p;
+    let q = pair.q;
     let mut a = [0; 512];
     let mut b = [0; 512];
-    let mut kinds = [0; 8];
-    let mut names = [0; 8];
-    let PathTypes::At(x, y) = path_types(
-        s,
-        layout,
-        head,
-        dest,
-        source,
-        &mut a,
-        &mut b,
-        &mut kinds,
-        &mut names,
-    ) else {
-        return;
-    };
-    relate::relate_ref(
+    let mut kind = [0; 8];
+    let mut name = [0; 8];
+    let found = path_types(s, layout, head, p, q, &mut a, &mut b, &mut kind, &mut name);
+    relate_found(
+        how,
         s,
         layout,
         &a,
-        x,
-        region,
         &b,
-        y,
-        Variance::Contra,
+        found,
         run,
         words,
         first,
@@ -205,16 +401,15 @@ fn borrow(
         last,
         grew,
     );
-    let of = source_of(s, source, region, &kinds);
-    relate_source(of, &kinds, &names, run, words, first, succ, chain, last, grew);
+    let of = source_of(s, q, how, &kind);
+    relate_source(of, &kind, &name, run, words, first, succ, chain, last, grew);
 }
 
-// An assignment's constraints, at the point of the run.
-fn assign(
+// The constraints of an assignment or a borrow, at the point of the run.
+fn relate_paths(
+    pair: Pair,
     s: &[u8],
     layout: &[u16; 1280],
-    dest: Path,
-    source: Path,
     run: Run,
     words: &mut [u32],
     first: &[u16; 1025],
@@ -224,35 +419,26 @@ fn assign(
     grew: &mut [u8; 128],
 )
     requires { ⌜ length (now layout) ≡ 1280 ⌝ }
-    ensures { λ _. ⌜ Assigns (now (s .entry)) (now (layout .entry)) run (now (first .entry)) (now (succ .entry)) (now (chain .entry)) (now (last .entry)) dest source
+    ensures { λ _. ⌜ PairRuns (now (s .entry)) (now (layout .entry)) run (now (first .entry)) (now (succ .entry)) (now (chain .entry)) (now (last .entry)) pair
         (now (words .entry)) (now (grew .entry)) (now (words .exit)) (now (grew .exit)) ⌝ }
 {
-    let head = run.head;
-    let mut a = [0; 512];
-    let mut b = [0; 512];
-    let mut kinds = [0; 8];
-    let mut names = [0; 8];
-    let PathTypes::At(x, y) = path_types(
-        s,
-        layout,
-        head,
-        source,
-        dest,
-        &mut a,
-        &mut b,
-        &mut kinds,
-        &mut names,
-    ) else {
+    let how = pair.how;
+    let p = pair.p;
+    let q = pair.q;
+    if (p.steps != 0) | (q.steps != 0) {
+        relate_stepped(pair, s, layout, run, words, first, succ, chain, last, grew);
         return;
-    };
-    relate::relate(
+    }
+    let x = variable_at(layout, p.base);
+    let y = variable_at(layout, q.base);
+    relate_types(
+        how,
         s,
         layout,
-        &a,
+        s,
         x,
-        &b,
+        s,
         y,
-        Variance::Co,
         run,
         words,
         first,
@@ -286,39 +472,29 @@ pub fn constrain(
     let ActionStep::Action(a, _) = action_at(s, layout, p) else {
         return;
     };
+    let next = after(run);
     match a {
         Action::Borrow {
             dest,
             region,
             kind: _,
             source,
-        } => borrow(
-            s,
-            layout,
-            dest,
-            region,
-            source,
-            after(run),
-            words,
-            first,
-            succ,
-            chain,
-            last,
-            grew,
-        ),
-        Action::Assign { dest, source } => assign(
-            s,
-            layout,
-            dest,
-            source,
-            after(run),
-            words,
-            first,
-            succ,
-            chain,
-            last,
-            grew,
-        ),
+        } => {
+            let pair = Pair {
+                how: Related::Borrowed(region),
+                p: dest,
+                q: source,
+            };
+            relate_paths(pair, s, layout, next, words, first, succ, chain, last, grew)
+        }
+        Action::Assign { dest, source } => {
+            let pair = Pair {
+                how: Related::Assigned,
+                p: source,
+                q: dest,
+            };
+            relate_paths(pair, s, layout, next, words, first, succ, chain, last, grew)
+        }
         Action::Constraint { sup, sub } => {
             let left = Region::Free(sup);
             let right = Region::Free(sub);

@@ -59,7 +59,18 @@ pub fn round(
             shape,
             rule,
         };
-        point(s, layout, run, walked, words, first, succ, chain, last, &mut grew);
+        point(
+            s,
+            layout,
+            run,
+            walked,
+            words,
+            first,
+            succ,
+            chain,
+            last,
+            &mut grew,
+        );
         p += 1;
     }
     grew

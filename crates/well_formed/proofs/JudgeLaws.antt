@@ -14,6 +14,7 @@ use Rattle.record.specs.Layout.{Layout, Verdict, DecodedSays}
 use Rattle.record.specs.declared.Head.{Head}
 use Rattle.record.specs.declared.Decoded.{Decoded}
 use Rattle.record.specs.declared.Decoded.the-variants.{Refused, Job as Accept}
+use Rattle.well_formed.specs.Tests.{refusalOf}
 
 -- what a test that passed says
 holds : {x y : Bool} → x ≡ y → x ≡ true → T y
@@ -27,24 +28,14 @@ module _ (j : Job) where
   unfolding refusal
   refused-6 e k = rw (← e, k)
 
-  module _ {x : Bool} (e : x ≡ named j) (k : x ≡ true) where
-    pub refused-7 : {y : Bool} → y ≡ typesFit j → y ≡ false → 7 ≡ refusal j
+  module _ {x : Bool} (e : x ≡ named j) (k : x ≡ true) {y : Bool} (f : y ≡ typesFit j) where
+    pub refused-7 : y ≡ false → 7 ≡ refusal j
     unfolding refusal
-    refused-7 f l = rw (← e, k, ← f, l)
+    refused-7 l = rw (← e, k, ← f, l)
 
-    module _ {y : Bool} (f : y ≡ typesFit j) (l : y ≡ true) where
-      pub refused-8 : {z : Bool} → (T (named j) → z ≡ pathsFit j) → z ≡ false → 8 ≡ refusal j
-      unfolding refusal
-      refused-8 g m = rw (← e, k, ← f, l, ← g (holds e k), m)
-
-      module _ {z : Bool} (g : T (named j) → z ≡ pathsFit j) (m : z ≡ true) where
-        pub refused-9 : {u : Bool} → (T (named j) → T (pathsFit j) → u ≡ shapesFit j) → u ≡ false → 9 ≡ refusal j
-        unfolding refusal
-        refused-9 o n = let i = g (holds e k) in rw (← e, k, ← f, l, ← i, m, ← o (holds e k) (holds i m), n)
-
-        pub not-refused : {u : Bool} → (T (named j) → T (pathsFit j) → u ≡ shapesFit j) → u ≡ true → 0 ≡ refusal j
-        unfolding refusal
-        not-refused o n = let i = g (holds e k) in rw (← e, k, ← f, l, ← i, m, ← o (holds e k) (holds i m), n)
+    pub refused-later : {r : ℕ} → y ≡ true → (T (named j) → r ≡ refusalOf (pathsFit j) (shapesFit j)) → r ≡ refusal j
+    unfolding refusal
+    refused-later l g = g (holds e k) ∙ rw (← e, k, ← f, l)
 
 -- ---- A record
 

@@ -1,11 +1,13 @@
 -- A test of all actions, made point by point. Assumes nothing.
 use mathlib.Core.Path.{_≡_, refl, sym, ap, _∙_}
-use mathlib.Core.Bool.{Bool, true, false, _&&_}
+use mathlib.Core.Bool.{Bool, true, false, _&&_, and-true, cond}
 use mathlib.Core.List.{List, [], _∷_, _++_, map}
 use Prim.Native.Nat.{ℕ, suc, _+_, _<_, _≤_}
 use native.Mathlib.Omega.{arith}
-use lib.ListN.{length}
-use lib.Dec.{T, leb, ltb}
+use native.Mathlib.Numerals.{add-one}
+use lib.ListN.{length, getD, drop, drop-of-length-le}
+use lib.Seq.{drop-cons}
+use lib.Dec.{T, eqb, leb, ltb}
 use Rattle.nll_spec.specs.Lists.{every, gather}
 use Rattle.nll_spec.specs.Syntax.{Action, Noop, Init, Borrow, Assign, Constraint, Use, Drop, StorageDead, Block, Job, Point, BlockIndex}
 use Rattle.nll_spec.specs.Decode.{codeCount}
@@ -15,9 +17,9 @@ use Rattle.nll_spec.proofs.Tests.{is-true, and-left, and-right}
 use Rattle.nll_spec.proofs.GraphLaws.{every-action, length-statements}
 use Rattle.record.specs.Layout.{Layout}
 use Rattle.record.specs.declared.Head.{Head}
-use Rattle.refusals.proofs.RowLaws.{Testing, testing-end, ItemTested}
+use Rattle.refusals.proofs.RowLaws.{Testing, testing-start, testing-fails, testing-more, testing-end, ItemTested}
 use Rattle.refusals.proofs.PartLaws.{every-append, every-both}
-use Rattle.well_formed.specs.Tests.{actionTaken}
+use Rattle.well_formed.specs.Tests.{refusalOf, actionTaken}
 
 -- what stands for a point that is not there
 abbrev pub noPoint : Statement
@@ -109,24 +111,64 @@ module _ (j : Job) where
   unfolding pathsOf
   no-paths = refl
 
-  pub taken-at : T (named j) → T (pathsFit j) → (p : Point) → actionTaken j (actionAt (graphOf j) p) ≡ true
-  unfolding graphOf statementsOf pathsOf
-  taken-at h k p = is-true _ (every-action (actionTaken j) (j .blocks) 0 0 (j .blocks) tt (rw (paths-taken h) k) p)
-
-  -- ---- What all points passed
-
-  pub all-taken : {code p : ℕ} → length (statementsOf j) ≡ code → Testing (atPoint (actionTaken j)) (statementsOf j) p → code ≤ p → T (named j) → true ≡ pathsFit j
-  all-taken e g l h = testing-end e g l ∙ every-point (actionTaken j) no-paths j ∙ paths-taken h
-
-  pub not-taken : T (named j) → false ≡ every (atPoint (actionTaken j)) (statementsOf j) → false ≡ pathsFit j
-  not-taken h e = e ∙ every-point (actionTaken j) no-paths j ∙ paths-taken h
+  every-path : T (named j) → every (atPoint (actionTaken j)) (statementsOf j) ≡ pathsFit j
+  every-path h = every-point (actionTaken j) no-paths j ∙ paths-taken h
 
   every-shape : every (atPoint (shapeFits j)) (statementsOf j) ≡ shapesFit j
   unfolding shapeFits shapesFit
   every-shape = every-point (shapeFits j) refl j
 
-  pub all-shapes : {code p : ℕ} → length (statementsOf j) ≡ code → Testing (atPoint (shapeFits j)) (statementsOf j) p → code ≤ p → true ≡ shapesFit j
-  all-shapes e g l = testing-end e g l ∙ every-shape
+-- ---- The refusal of a point
 
-  pub not-shaped : false ≡ every (atPoint (shapeFits j)) (statementsOf j) → false ≡ shapesFit j
-  not-shaped e = e ∙ every-shape
+taken-of : (x y : Bool) {k : ℕ} → k ≡ refusalOf x y → (k ≡ 8 → ⊥) → x ≡ true
+taken-of true y e n = refl
+taken-of false y e n = absurd (n e)
+
+untaken-of : (x y : Bool) {k : ℕ} → k ≡ refusalOf x y → k ≡ 8 → x ≡ false
+untaken-of true true e n = absurd (omega arith)
+untaken-of true false e n = absurd (omega arith)
+untaken-of false y e n = refl
+
+shape-of : (x y : Bool) {k : ℕ} → k ≡ refusalOf x y → (k ≡ 8 → ⊥) → eqb k 0 ≡ y
+shape-of true true e n = rw e
+shape-of true false e n = rw e
+shape-of false y e n = absurd (n e)
+
+-- from item i on
+every-from : {A : Type 0} (f : A → Bool) (xs : List A) (x : A) (i : ℕ) {r : Bool} → i < length xs → r ≡ f (getD xs i x) → every f (drop i xs) ≡ r && every f (drop (i + 1) xs)
+every-from f xs x i h e = rw (drop-cons xs i x h, add-one, e)
+
+-- all points are tested for both, up to p: their paths may be taken, and `fits` says whether the shapes fit
+pub record Judged (j : Job) (p : Point) (fits : Bool) : Type 0 where
+  pub paths : Testing (atPoint (actionTaken j)) (statementsOf j) p
+  pub shapes : every (atPoint (shapeFits j)) (statementsOf j) ≡ fits && every (atPoint (shapeFits j)) (drop p (statementsOf j))
+
+pub judged-start : (j : Job) → Judged j 0 true
+judged-start j = record { paths = testing-start _ _; shapes = refl }
+
+module _ {j : Job} {code p : ℕ} {fits : Bool} (c : length (statementsOf j) ≡ code) (g : Judged j p fits) where
+  module _ {k : ℕ} (l : p < code) (e : k ≡ refusalOf (actionTaken j (actionAt (graphOf j) p)) (shapeFits j (actionAt (graphOf j) p))) where
+    pub judged-stop : k ≡ 8 → T (named j) → 8 ≡ refusalOf (pathsFit j) (shapesFit j)
+    judged-stop n h =
+        let f : false ≡ pathsFit j = testing-fails c (g .paths) l (point-tested (actionTaken j) j (sym (untaken-of (actionTaken j (actionAt (graphOf j) p)) (shapeFits j (actionAt (graphOf j) p)) e n))) refl ∙ every-path j h in
+        rw (← f)
+
+    pub judged-more : (k ≡ 8 → ⊥) → Judged j (p + 1) (fits && eqb k 0)
+    judged-more n = record {
+      paths = testing-more c (g .paths) l (point-tested (actionTaken j) j (sym (taken-of (actionTaken j (actionAt (graphOf j) p)) (shapeFits j (actionAt (graphOf j) p)) e n))) refl;
+      shapes = g .shapes ∙ ap (λ (z : Bool). fits && z) (every-from (atPoint (shapeFits j)) (statementsOf j) noPoint p (omega arith) (point-tested (shapeFits j) j (shape-of (actionTaken j (actionAt (graphOf j) p)) (shapeFits j (actionAt (graphOf j) p)) e n) .says)) ∙ and-assoc fits (eqb k 0) _;
+    }
+
+  module _ (l : code ≤ p) (h : T (named j)) where
+    judged-all : refusalOf (pathsFit j) (shapesFit j) ≡ cond fits 0 9
+    judged-all =
+        let a : pathsFit j ≡ true = sym (every-path j h) ∙ sym (testing-end c (g .paths) l) in
+        let o : length (statementsOf j) ≤ p = omega arith in
+        let b : shapesFit j ≡ fits = sym (every-shape j) ∙ g .shapes ∙ rw (drop-of-length-le (statementsOf j) o) (and-true fits) in
+        rw (a, b)
+
+    pub judged-end : fits ≡ true → 0 ≡ refusalOf (pathsFit j) (shapesFit j)
+    judged-end e = sym (judged-all ∙ rw e)
+
+    pub judged-not : fits ≡ false → 9 ≡ refusalOf (pathsFit j) (shapesFit j)
+    judged-not e = sym (judged-all ∙ rw e)

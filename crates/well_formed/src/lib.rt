@@ -1,14 +1,14 @@
 // Refusals 8 and 9 of a record that was read, and the one number of a record: a refusal, 1 to 9, or none.
 mod paths;
+mod points;
 mod shapes;
 
-use paths::paths_fit;
+use points::points_refusal;
 use record::Decoded;
 use record::Head;
 use record::read;
 use refusals::named;
 use refusals::types_fit;
-use shapes::shapes_fit;
 ghost use mathlib.Core.Path.{_≡_};
 ghost use lib.ListN.{length};
 ghost use Rattle.nll_spec.specs.Syntax.{Job};
@@ -33,13 +33,7 @@ pub fn refusal(s: &[u8], layout: &[u16; 1280], head: Head) -> u8
     if !types_fit(s, layout, head) {
         return 7;
     }
-    if !paths_fit(s, layout, head) {
-        return 8;
-    }
-    if !shapes_fit(s, layout, head) {
-        return 9;
-    }
-    0
+    points_refusal(s, layout, head)
 }
 
 // The refusal of a record, 1 to 9, or the head of its job, with the table of where each part lies. A record that is refused leaves anything in the table.

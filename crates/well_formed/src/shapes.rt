@@ -1,107 +1,120 @@
-// Refusal 9: what is assigned has the shape of where it goes.
+// The refusal of two paths: 8 where one may not be taken, 9 where their types do not fit, 0 where they do.
 use super::paths::type_of;
-use super::wide;
 use env::paths::PathType;
 use record::Head;
-use record::access::action_at;
-use repr::Action;
-use repr::ActionStep;
+use record::access::variable_at;
 use repr::BorrowKind;
+use repr::Cursor;
 use repr::Path;
 use ty::shape::same_shape;
 use ty::shape::same_shape_ref;
 ghost use mathlib.Core.Path.{_≡_};
-ghost use mathlib.Core.Bool.{true};
+ghost use mathlib.Core.Bool.{cond};
+ghost use mathlib.Core.List.{List};
+ghost use Prim.Native.Nat.{ℕ, _<_};
 ghost use lib.ListN.{length};
-ghost use lib.Dec.{T};
-ghost use Rattle.nll_spec.specs.Syntax as syntax;
-ghost use Rattle.nll_spec.specs.Syntax.{Job};
-ghost use Rattle.nll_spec.specs.WellFormed.{named, pathsFit, shapeFits, shapesFit};
-ghost use Rattle.repr.specs.Reading.{borrowKindOf};
-ghost use Rattle.record.specs.Layout.{Layout};
-ghost use Rattle.record.specs.Access.{Acts};
-ghost use Rattle.well_formed.specs.Tests.{actionTaken, AssignSays, BorrowSays};
+ghost use Rattle.repr.specs.declared.Path.{Path};
+ghost use Rattle.record.specs.declared.Head.{Head};
+ghost use Rattle.well_formed.specs.Tests.{TypeSays, TypesFit, SecondSays, PairSays};
 
-// Whether two paths that may be taken have types of one shape.
-fn assign_fits(
-    s: &[u8],
-    layout: &[u16; 1280],
-    head: Head,
-    dest: Path,
-    source: Path,
-    a: &mut [u8; 512],
-    b: &mut [u8; 512],
-) -> bool
-    requires { ⌜ length (now layout) ≡ 1280 ⌝ }
-    ensures { λ r. ⌜ AssignSays (now (s .entry)) (now (layout .entry)) head dest source r ⌝ }
-{
-    let PathType::At(x) = type_of(s, layout, head, source, a) else {
-        return false;
-    };
-    let PathType::At(y) = type_of(s, layout, head, dest, b) else {
-        return false;
-    };
-    same_shape(a, x, b, y)
+// What the first of two types is to have: the shape of the second, or of a Ref of a kind to it.
+pub enum Wanted {
+    Same,
+    RefTo(BorrowKind),
 }
 
-// Whether the first path has the type of a Ref of this kind to the second, but for regions.
-fn borrow_fits(
-    s: &[u8],
-    layout: &[u16; 1280],
-    head: Head,
-    dest: Path,
-    kind: BorrowKind,
-    source: Path,
-    a: &mut [u8; 512],
-    b: &mut [u8; 512],
-) -> bool
-    requires { ⌜ length (now layout) ≡ 1280 ⌝ }
-    ensures { λ r. ⌜ BorrowSays (now (s .entry)) (now (layout .entry)) head dest (borrowKindOf kind) source r ⌝ }
+fn nine(fits: bool) -> u8
+    ensures { λ r. ⌜ r ≡ cond fits 0 9 ⌝ }
 {
-    let PathType::At(x) = type_of(s, layout, head, dest, a) else {
-        return false;
-    };
-    let PathType::At(y) = type_of(s, layout, head, source, b) else {
-        return false;
-    };
-    same_shape_ref(kind, a, x, b, y)
+    if fits { 0 } else { 9 }
 }
 
-fn shape_fits(s: &[u8], layout: &[u16; 1280], head: Head, d: ActionStep) -> bool
-    requires { ⌜ length (now layout) ≡ 1280 ⌝ }
-    ensures { λ r. ⌜ ((j : Job) (a : syntax.Action) → Layout (now (s .entry)) (now (layout .entry)) head j → Acts (now (s .entry)) a d → actionTaken j a ≡ true → r ≡ shapeFits j a) ⌝ }
+// Two types where they stand.
+fn types_refusal(wanted: Wanted, a: &[u8], x: Cursor, b: &[u8], y: Cursor) -> u8
+    ensures { λ r. ⌜ TypesFit wanted (now (a .entry)) (x .at) (now (b .entry)) (y .at) r ⌝ }
 {
-    let ActionStep::Action(a, _) = d else {
-        return false;
-    };
-    let mut x = [0; 512];
-    let mut y = [0; 512];
-    match a {
-        Action::Borrow {
-            dest,
-            region: _,
-            kind,
-            source,
-        } => borrow_fits(s, layout, head, dest, kind, source, &mut x, &mut y),
-        Action::Assign { dest, source } => {
-            assign_fits(s, layout, head, dest, source, &mut x, &mut y)
-        }
-        _ => true,
+    match wanted {
+        Wanted::Same => nine(same_shape(a, x, b, y)),
+        Wanted::RefTo(kind) => nine(same_shape_ref(kind, a, x, b, y)),
     }
 }
 
-// Whether the shapes of all actions fit: refusal 9 does not apply.
-pub fn shapes_fit(s: &[u8], layout: &[u16; 1280], head: Head) -> bool
-    requires { ⌜ length (now layout) ≡ 1280 ⌝ }
-    ensures { λ r. ⌜ ((j : Job) → Layout (now (s .entry)) (now (layout .entry)) head j → T (named j) → T (pathsFit j) → r ≡ shapesFit j) ⌝ }
+// The type at x, and the type of a path that was found in the record or in b.
+fn second_found(wanted: Wanted, a: &[u8], x: Cursor, s: &[u8], b: &[u8; 512], found: PathType) -> u8
+    ensures { λ r. ⌜ ((t : List ℕ) (h : Head) (q : Path) → q .base .0 < h .variables → TypeSays (now (s .entry)) t h q (now (b .entry)) found → SecondSays wanted (now (s .entry)) t h (now (a .entry)) (x .at) q r) ⌝ }
 {
-    let code = wide(head.code);
-    let mut p = 0;
-    while p < code {
-        if !shape_fits(s, layout, head, action_at(s, layout, p)) {
-            return false;
-        }
-        p += 1;
+    match found {
+        PathType::Refused => 8,
+        PathType::Inside(y) => types_refusal(wanted, a, x, s, y),
+        PathType::Written(y) => types_refusal(wanted, a, x, b, y),
     }
-    true
+}
+
+// The type at x, and that of a path.
+fn second_refusal(
+    wanted: Wanted,
+    s: &[u8],
+    layout: &[u16; 1280],
+    head: Head,
+    a: &[u8],
+    x: Cursor,
+    q: Path,
+) -> u8
+    requires { ⌜ length (now layout) ≡ 1280 ⌝ }
+    ensures { λ r. ⌜ SecondSays wanted (now (s .entry)) (now (layout .entry)) head (now (a .entry)) (x .at) q r ⌝ }
+{
+    let base = q.base;
+    if head.variables <= base.0 {
+        return 8;
+    }
+    if q.steps == 0 {
+        return types_refusal(wanted, a, x, s, variable_at(layout, base));
+    }
+    let mut b = [0; 512];
+    let found = type_of(s, layout, head, q, &mut b);
+    second_found(wanted, a, x, s, &b, found)
+}
+
+// The type of a path that was found in the record or in a, and that of another.
+fn pair_found(
+    wanted: Wanted,
+    s: &[u8],
+    layout: &[u16; 1280],
+    head: Head,
+    a: &[u8; 512],
+    found: PathType,
+    q: Path,
+) -> u8
+    requires { ⌜ length (now layout) ≡ 1280 ⌝ }
+    ensures { λ r. ⌜ ((p : Path) → p .base .0 < head .variables → TypeSays (now (s .entry)) (now (layout .entry)) head p (now (a .entry)) found → PairSays wanted (now (s .entry)) (now (layout .entry)) head p q r) ⌝ }
+{
+    match found {
+        PathType::Refused => 8,
+        PathType::Inside(x) => second_refusal(wanted, s, layout, head, s, x, q),
+        PathType::Written(x) => second_refusal(wanted, s, layout, head, a, x, q),
+    }
+}
+
+// The types of two paths.
+pub fn pair_refusal(
+    wanted: Wanted,
+    s: &[u8],
+    layout: &[u16; 1280],
+    head: Head,
+    p: Path,
+    q: Path,
+) -> u8
+    requires { ⌜ length (now layout) ≡ 1280 ⌝ }
+    ensures { λ r. ⌜ PairSays wanted (now (s .entry)) (now (layout .entry)) head p q r ⌝ }
+{
+    let base = p.base;
+    if head.variables <= base.0 {
+        return 8;
+    }
+    if p.steps == 0 {
+        return second_refusal(wanted, s, layout, head, s, variable_at(layout, base), q);
+    }
+    let mut a = [0; 512];
+    let found = type_of(s, layout, head, p, &mut a);
+    pair_found(wanted, s, layout, head, &a, found, q)
 }

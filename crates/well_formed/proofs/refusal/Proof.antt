@@ -1,6 +1,6 @@
 -- `well_formed::refusal` meets its contract. Assumes nothing.
 use borrow.Author.Tests.{not-true, not-false}
-use Rattle.well_formed.proofs.JudgeLaws.{refused-6, refused-7, refused-8, refused-9, not-refused}
+use Rattle.well_formed.proofs.JudgeLaws.{refused-6, refused-7, refused-later}
 use borrow.Author.Needs.{needs}
 use Rattle.well_formed.proofs.refusal.Statement.{statement}
 use Rattle.well_formed.proofs.refusal.Tie as tie
@@ -17,20 +17,11 @@ types-fit-requires c κs = search needs
 returns-2 : tie.Need-returns-2
 returns-2 c = λ j w. refused-7 j (c .before .before .before .named .ensures j w) (not-false _ (c .before .before .if1 .left)) (c .before .types-fit .ensures j w) (not-true _ (c .if2 .taken))
 
-paths-fit-requires : tie.Need-paths-fit-requires
-paths-fit-requires c κs = search needs
+points-refusal-requires : tie.Need-points-refusal-requires
+points-refusal-requires c κs = search needs
 
 returns-3 : tie.Need-returns-3
-returns-3 c = λ j w. refused-8 j (c .before .before .before .before .before .named .ensures j w) (not-false _ (c .before .before .before .before .if1 .left)) (c .before .before .before .types-fit .ensures j w) (not-false _ (c .before .before .if2 .left)) (c .before .paths-fit .ensures j w) (not-true _ (c .if3 .taken))
-
-shapes-fit-requires : tie.Need-shapes-fit-requires
-shapes-fit-requires c κs = search needs
-
-returns-4 : tie.Need-returns-4
-returns-4 c = λ j w. refused-9 j (c .before .before .before .before .before .before .before .named .ensures j w) (not-false _ (c .before .before .before .before .before .before .if1 .left)) (c .before .before .before .before .before .types-fit .ensures j w) (not-false _ (c .before .before .before .before .if2 .left)) (c .before .before .before .paths-fit .ensures j w) (not-false _ (c .before .before .if3 .left)) (c .before .shapes-fit .ensures j w) (not-true _ (c .if4 .taken))
-
-returns-5 : tie.Need-returns-5
-returns-5 c = λ j w. not-refused j (c .before .before .before .before .before .before .before .named .ensures j w) (not-false _ (c .before .before .before .before .before .before .if1 .left)) (c .before .before .before .before .before .types-fit .ensures j w) (not-false _ (c .before .before .before .before .if2 .left)) (c .before .before .before .paths-fit .ensures j w) (not-false _ (c .before .before .if3 .left)) (c .before .shapes-fit .ensures j w) (not-false _ (c .if4 .left))
+returns-3 c = λ j w. refused-later j (c .before .before .before .before .named .ensures j w) (not-false _ (c .before .before .before .if1 .left)) (c .before .before .types-fit .ensures j w) (not-false _ (c .before .if2 .left)) (c .points-refusal .ensures j w)
 
 pub refusal-spec : {M : Type 1} → statement M
 refusal-spec =
@@ -40,8 +31,5 @@ refusal-spec =
     returns
     types-fit-requires
     returns-2
-    paths-fit-requires
-    returns-3
-    shapes-fit-requires
-    returns-4
-    returns-5)
+    points-refusal-requires
+    returns-3)

@@ -1,6 +1,6 @@
 -- `env::paths::path_type` meets its contract. Assumes nothing.
 use Rattle.env.proofs.PathLaws as laws
-use mathlib.Core.Path.{_≡_, _∙_}
+use mathlib.Core.Path.{_≡_, refl, _∙_}
 use Prim.Native.Nat.{_+_, _≤_}
 use native.Mathlib.Omega.{arith}
 use lib.ListN.{length}
@@ -30,11 +30,8 @@ enum-known-f c = search needs
 enum-told : tie.Need-enum-told Inv-loop μ-loop
 enum-told c = search needs
 
-copied-requires : tie.Need-copied-requires Inv-loop μ-loop
-copied-requires c κs = search needs
-
 returns : tie.Need-returns Inv-loop μ-loop
-returns c = laws.path-out (c .before .before .before .before .before .before .before .before .before .before .before .args .p) (c .before .before .before .before .before .before .before .before .variable-at .ensures) (c .before .before .before .before .before .before .loop .inv .3) (c .before .before .before .before .before .before .loop .inv .0, c .before .before .before .before .before .before .loop .inv .1) (c .before .before .before .before .byte .ensures) (c .before .before .enum-told .given .1) (c .copied .ensures)
+returns c = laws.path-out (c .before .before .before .before .before .before .before .before .before .args .p) (c .before .before .before .before .before .before .variable-at .ensures) (c .before .before .before .before .loop .inv .3) (c .before .before .before .before .loop .inv .0, c .before .before .before .before .loop .inv .1) (c .before .before .byte .ensures) _ refl (c .enum-told .given .1)
 
 take-step-requires : tie.Need-take-step-requires Inv-loop μ-loop
 take-step-requires c κs = search needs
@@ -75,11 +72,8 @@ loop-less c = search needs
 loop-again : tie.Need-loop-again Inv-loop μ-loop
 loop-again c = (c .before .before .before .take-step .ensures .kindSize ∙ c .before .before .before .before .before .before .before .before .before .before .before .before .loop .inv .0, c .before .before .before .take-step .ensures .nameSize ∙ c .before .before .before .before .before .before .before .before .before .before .before .before .loop .inv .1, omega (arith, c .before .before .before .before .before .before .before .before .before .before .before .before .loop .inv .2), laws.onward-inside (c .before .before .before .before .before .before .before .before .before .before .before .before .loop .inv .3) (c .before .before .before .before .before .before .before .before .before .before .before .before .loop .inv .0, c .before .before .before .before .before .before .before .before .before .before .before .before .loop .inv .1) (c .before .before .before .before .before .before .before .before .before .before .byte .ensures) (c .before .before .before .before .before .before .before .before .f .given .1) (c .before .before .before .before .before .before .before .before .before .before .before .loop-test .taken) (c .before .before .before .take-step .ensures) (c .before .d .given .1))
 
-copied-requires-2 : tie.Need-copied-requires-2 Inv-loop μ-loop
-copied-requires-2 c κs = search needs
-
 returns-4 : tie.Need-returns-4 Inv-loop μ-loop
-returns-4 c = laws.path-end (c .before .before .before .before .before .before .before .before .args .p) (c .before .before .before .before .before .variable-at .ensures) (c .before .before .before .loop .inv .3) (c .before .before .before .loop .inv .0, c .before .before .before .loop .inv .1) (c .before .before .loop-test .left) (c .copied2 .ensures)
+returns-4 c = laws.path-end (c .before .before .before .before .before .before .args .p) (c .before .before .before .variable-at .ensures) (c .before .loop .inv .3) (c .before .loop .inv .0, c .before .loop .inv .1) _ refl (c .loop-test .left)
 
 pub path-type-spec : {M : Type 1} → statement M
 path-type-spec =
@@ -92,7 +86,6 @@ path-type-spec =
     byte-requires
     enum-known-f
     enum-told
-    copied-requires
     returns
     take-step-requires
     enum-told-2
@@ -107,5 +100,4 @@ path-type-spec =
     add-i
     loop-less
     loop-again
-    copied-requires-2
     returns-4)

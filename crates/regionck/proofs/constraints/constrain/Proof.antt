@@ -19,23 +19,20 @@ enum-told c = search needs
 returns-2 : tie.Need-returns-2
 returns-2 c = action-refused (record { acts = c .before .before .action-at .ensures }) (c .enum-told .given .1)
 
-enum-known-a-2 : tie.Need-enum-known-a-2
-enum-known-a-2 c = search needs
-
 after-requires : tie.Need-after-requires
 after-requires c κs = search needs
 
-borrow-requires : tie.Need-borrow-requires
-borrow-requires c κs = c .before .before .before .before .before .before .before .before .before .before .before .before .before .pre
+enum-known-a-2 : tie.Need-enum-known-a-2
+enum-known-a-2 c = search needs
+
+relate-paths-requires : tie.Need-relate-paths-requires
+relate-paths-requires c κs = c .before .before .before .before .before .before .before .before .before .before .before .before .before .pre
 
 enum-known-a-3 : tie.Need-enum-known-a-3
 enum-known-a-3 c = search needs
 
-after-requires-2 : tie.Need-after-requires-2
-after-requires-2 c κs = search needs
-
-assign-requires : tie.Need-assign-requires
-assign-requires c κs = c .before .before .before .before .before .before .before .before .before .before .before .before .before .pre
+relate-paths-requires-2 : tie.Need-relate-paths-requires-2
+relate-paths-requires-2 c κs = c .before .before .before .before .before .before .before .before .before .before .before .before .before .pre
 
 enum-known-a-4 : tie.Need-enum-known-a-4
 enum-known-a-4 c = search needs
@@ -47,22 +44,22 @@ same-length : tie.Need-same-length
 same-length c = search needs
 
 returns-3 : tie.Need-returns-3
-returns-3 c = action-borrow (record { acts = c .before .before .before .before .before .before .before .before .before .before .before .before .action-at .ensures }) (c .before .before .before .before .before .before .before .before .before .before .a .given .1) (c .before .before .before .before .before .before .before .a2 .given .1) (c .before .before .before .before .before .after .ensures) (c .before .before .borrow .ensures)
+returns-3 c = action-borrow (record { acts = c .before .before .before .before .before .before .before .before .before .before .before .before .action-at .ensures }) (c .before .before .before .before .before .before .before .before .before .before .a .given .1) (c .before .before .before .before .before .before .a2 .given .1) (c .before .before .before .before .before .before .before .before .after .ensures) (c .before .before .relate-paths .ensures)
 
 same-length-2 : tie.Need-same-length-2
 same-length-2 c = search needs
 
 returns-4 : tie.Need-returns-4
-returns-4 c = action-assign (record { acts = c .before .before .before .before .before .before .before .before .before .before .before .before .action-at .ensures }) (c .before .before .before .before .before .before .before .before .before .before .a .given .1) (c .before .before .before .before .before .before .before .a3 .given .1) (c .before .before .before .before .before .after2 .ensures) (c .before .before .assign .ensures)
+returns-4 c = action-assign (record { acts = c .before .before .before .before .before .before .before .before .before .before .before .before .action-at .ensures }) (c .before .before .before .before .before .before .before .before .before .before .a .given .1) (c .before .before .before .before .before .before .a3 .given .1) (c .before .before .before .before .before .before .before .before .after .ensures) (c .before .before .relate-paths2 .ensures)
 
 same-length-3 : tie.Need-same-length-3
 same-length-3 c = search needs
 
 returns-5 : tie.Need-returns-5
-returns-5 c = action-constraint (record { acts = c .before .before .before .before .before .before .before .before .before .before .before .action-at .ensures }) (c .before .before .before .before .before .before .before .before .before .a .given .1) (c .before .before .before .before .before .before .a4 .given .1) (c .before .before .require-outlives .ensures)
+returns-5 c = action-constraint (record { acts = c .before .before .before .before .before .before .before .before .before .before .before .before .action-at .ensures }) (c .before .before .before .before .before .before .before .before .before .before .a .given .1) (c .before .before .before .before .before .before .a4 .given .1) (c .before .before .require-outlives .ensures)
 
 returns-6 : tie.Need-returns-6
-returns-6 c = action-other (record { acts = c .before .before .before .before .action-at .ensures }) (c .before .before .a .given .1) (c .match2 .keys4)
+returns-6 c = action-other (record { acts = c .before .before .before .before .before .action-at .ensures }) (c .before .before .before .a .given .1) (c .match2 .keys4)
 
 pub constrain-spec : {M : Type 1} → statement M
 constrain-spec =
@@ -73,12 +70,11 @@ constrain-spec =
     enum-known-a
     enum-told
     returns-2
-    enum-known-a-2
     after-requires
-    borrow-requires
+    enum-known-a-2
+    relate-paths-requires
     enum-known-a-3
-    after-requires-2
-    assign-requires
+    relate-paths-requires-2
     enum-known-a-4
     require-outlives-requires
     same-length
