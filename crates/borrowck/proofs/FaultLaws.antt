@@ -115,9 +115,6 @@ module _ {s table scope : List ℕ} {p : Point} {accs : Accesses} where
         go j z h (yes o) = rw (found-any (v .here o) j (shortest j z), v .hit o) (or-true (any (hits j s (nthAccess (accs .list) (c .access))) (inScope table scope p 0 from)))
         go j z h (no o) = let e : c .access ≡ first = omega (arith, v .most) in rw (e, w .here j (fewer j z) (omega arith))
 
-    pub part-high : part .next ≤ many
-    part-high = g .most (omega arith)
-
   pub checked-all : (count : ℕ) {from first : ℕ} → Checked s table scope p accs from first → from ≡ min count 128 → Checked s table scope p accs (min count 128) first
   checked-all count {first = first} w e = subst (λ (n : ℕ). Checked s table scope p accs n first) e w
 

@@ -3,7 +3,7 @@ use Prim.Native.Nat.{_-_, _≤_}
 use borrow.Author.Needs.{needs}
 use native.Mathlib.Omega.{arith}
 use Rattle.borrowck.specs.Faults.{Checked}
-use Rattle.borrowck.proofs.FaultLaws.{checked-none, checked-more, part-high, checked-all}
+use Rattle.borrowck.proofs.FaultLaws.{checked-none, checked-more, checked-all}
 use Rattle.borrowck.proofs.checks.check_accesses.Statement.{statement}
 use Rattle.borrowck.proofs.checks.check_accesses.Tie as tie
 
@@ -29,7 +29,7 @@ loop-less : tie.Need-loop-less Inv-loop μ-loop
 loop-less c = let o = c .before .before .part-of .ensures .on (c .before .before .before .loop-test .taken) in omega arith
 
 loop-again : tie.Need-loop-again Inv-loop μ-loop
-loop-again c = (part-high (c .before .before .before .before .loop .inv .1) (c .before .before .before .loop-test .taken) (c .before .before .part-of .ensures) (c .search-in .ensures), checked-more (c .before .before .before .before .loop .inv .1) (c .before .before .before .loop-test .taken) (c .before .before .part-of .ensures) (c .search-in .ensures))
+loop-again c = (c .before .before .part-of .ensures .most (omega arith), checked-more (c .before .before .before .before .loop .inv .1) (c .before .before .before .loop-test .taken) (c .before .before .part-of .ensures) (c .search-in .ensures))
 
 returns : tie.Need-returns Inv-loop μ-loop
 returns c = checked-all _ (c .before .loop .inv .1) (omega (arith, c .before .before .at-most .ensures, c .before .loop .inv .0))
