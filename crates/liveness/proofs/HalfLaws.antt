@@ -11,7 +11,7 @@ use borrow.Author.Tests.{eq-eqb, ne-eqb, lt-ltb, le-ltb, le-leb, lt-leb}
 use Rattle.nll_spec.specs.Lists.{contains}
 use Rattle.nll_spec.specs.Output.{wordBits}
 use Rattle.bit_set.specs.Bits.{has, withBit, withoutBit}
-use Rattle.bit_set.proofs.BitLaws.{length-with, length-without, has-with, has-with-other, has-without, has-without-other}
+use Rattle.bit_set.proofs.BitLaws.{has-with, has-with-other, has-without, has-without-other}
 use Rattle.flow.specs.Flows.{bitAt}
 use Rattle.liveness.specs.Needs.{inHalf, inEither, Added, Removed}
 

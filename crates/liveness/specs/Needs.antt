@@ -3,7 +3,7 @@ use mathlib.Core.Path.{_≡_}
 use mathlib.Core.Bool.{Bool, true, false, not, _&&_, _||_}
 use mathlib.Core.List.{List, map}
 use Prim.Native.Nat.{ℕ, _+_, _-_, _<_}
-use lib.ListN.{length, drop}
+use lib.ListN.{drop}
 use lib.Dec.{eqb, leb, ltb}
 use Rattle.nll_spec.specs.Lists.{contains}
 use Rattle.nll_spec.specs.Syntax as syntax

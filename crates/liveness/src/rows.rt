@@ -1,5 +1,4 @@
 // From the points' sets of variables to the variables' rows of points.
-ghost use mathlib.Core.Path.{_≡_};
 ghost use Prim.Native.Nat.{_*_, _<_, _≤_};
 ghost use lib.ListN.{length};
 ghost use Rattle.liveness.specs.Rows.{Column, Columns};

@@ -1,5 +1,4 @@
 -- `liveness::compute`. Assumes nothing.
-use native.Mathlib.Omega.{arith}
 use Rattle.nll_spec.specs.Graph.{graphOf}
 use Rattle.liveness.proofs.LiveLaws.{live-rows}
 use borrow.Author.Needs.{needs}

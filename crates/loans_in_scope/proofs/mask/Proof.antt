@@ -1,6 +1,6 @@
 -- `loans_in_scope::mask`. The loop's invariant: the first w words are cut down. Assumes nothing.
 use Prim.Native.Nat.{_-_, _≤_}
-use mathlib.Core.Path.{_≡_, refl, _∙_}
+use mathlib.Core.Path.{_≡_, refl}
 use native.Mathlib.Omega.{arith}
 use lib.ListN.{length}
 use Rattle.loans_in_scope.specs.Gains.{Masked}
