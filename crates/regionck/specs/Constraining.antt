@@ -67,9 +67,9 @@ pub record SourceSays (s : List ℕ) (p : Path) (how : Related) (kinds : List �
 
 -- The types of two paths, with what the steps of the second leave.
 pub record PathTypesSay (s t : List ℕ) (h : Head) (p q : Path) (a b kinds names : List ℕ) (r : PathTypes) : Type 0 where
-  pub before : List ℕ
-  pub before′ : List ℕ
-  pub first : PathSays s t h p a before before′ (r .p)
+  pub firstKinds : List ℕ
+  pub firstNames : List ℕ
+  pub first : PathSays s t h p a firstKinds firstNames (r .p)
   pub second : PathSays s t h q b kinds names (r .q)
 
 -- ---- Two types that are related

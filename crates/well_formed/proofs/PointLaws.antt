@@ -14,7 +14,7 @@ use Rattle.nll_spec.specs.Decode.{codeCount}
 use Rattle.nll_spec.specs.WellFormed.{pathNamed, actionNamed, actionsNamed, structsNamed, outlivedNamed, variablesNamed, successorsNamed, named, isRegion, pathFits, pathsOf, pathsFit, shapeFits, shapesFit, actionsOf}
 use Rattle.nll_spec.specs.Graph.{Statement, firstPoint, blockStatements, statementsFrom, statementsOf, graphOf, actionAt}
 use Rattle.nll_spec.proofs.Tests.{is-true, and-left, and-right}
-use Rattle.nll_spec.proofs.GraphLaws.{every-action, length-statements}
+use Rattle.nll_spec.proofs.GraphLaws.{length-statements}
 use Rattle.record.specs.Layout.{Layout}
 use Rattle.record.specs.declared.Head.{Head}
 use Rattle.refusals.proofs.RowLaws.{Testing, testing-start, testing-fails, testing-more, testing-end, ItemTested}
