@@ -174,7 +174,21 @@ fn relate_types(
             relate_regions(invert(v), r, o, run, words, first, succ, chain, last, grew);
             let w = within(v, referent_variance(kind));
             let to = Types { a: p, b: q, left };
-            relate_types(s, layout, a, b, to, w, run, words, first, succ, chain, last, grew)
+            relate_types(
+                s,
+                layout,
+                a,
+                b,
+                to,
+                w,
+                run,
+                words,
+                first,
+                succ,
+                chain,
+                last,
+                grew,
+            )
         }
         Heads::Structs { name, a: g, b: h } => {
             let head = run.head;
@@ -185,7 +199,21 @@ fn relate_types(
                 b: h,
                 left,
             };
-            relate_arguments(s, layout, a, b, of, v, run, words, first, succ, chain, last, grew)
+            relate_arguments(
+                s,
+                layout,
+                a,
+                b,
+                of,
+                v,
+                run,
+                words,
+                first,
+                succ,
+                chain,
+                last,
+                grew,
+            )
         }
     }
 }
@@ -233,7 +261,21 @@ fn relate_first(
         }
         Pair::Types(p, q) => {
             let to = Types { a: p, b: q, left };
-            relate_types(s, layout, a, b, to, v, run, words, first, succ, chain, last, grew)
+            relate_types(
+                s,
+                layout,
+                a,
+                b,
+                to,
+                v,
+                run,
+                words,
+                first,
+                succ,
+                chain,
+                last,
+                grew,
+            )
         }
     }
 }
@@ -277,7 +319,21 @@ fn relate_arguments(
     let own = first_parameter(s, params);
     let declared = own.variance;
     let w = within(v, declared);
-    match relate_first(s, layout, a, b, two, w, run, words, first, succ, chain, last, grew) {
+    match relate_first(
+        s,
+        layout,
+        a,
+        b,
+        two,
+        w,
+        run,
+        words,
+        first,
+        succ,
+        chain,
+        last,
+        grew,
+    ) {
         Both::Stopped => Both::Stopped,
         Both::Ended { left, a: p, b: q } => {
             let others = own.others;
@@ -287,7 +343,21 @@ fn relate_arguments(
                 b: after(h, q),
                 left,
             };
-            relate_arguments(s, layout, a, b, to, v, run, words, first, succ, chain, last, grew)
+            relate_arguments(
+                s,
+                layout,
+                a,
+                b,
+                to,
+                v,
+                run,
+                words,
+                first,
+                succ,
+                chain,
+                last,
+                grew,
+            )
         }
     }
 }
