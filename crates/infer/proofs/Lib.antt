@@ -2,6 +2,7 @@ pub mod EndLaws
 pub mod PutLaws
 pub mod TableLaws
 pub mod RanLaws
+pub mod RunLaws
 pub mod SubsetLaws
 pub mod CoverLaws
 pub mod OneLaws

@@ -12,7 +12,8 @@ ghost use Rattle.nll_spec.specs.Output.{wordBits};
 ghost use Rattle.bit_set.specs.Bits.{bothFit};
 ghost use Rattle.dfs.specs.Walk.{inCode, Chained};
 ghost use Rattle.infer.specs.Search.{ruleOf, passes, withRun, Gets, In, Below, Spread, isSubset, hasEnds, addsNothing, inBounds, isCovered, Covered};
-ghost use Rattle.infer.specs.Ran.{Setting, Given, Names, Ran, constraint, anyMarked};
+ghost use Rattle.constraint_list.specs.Listed.{constraintsIn};
+ghost use Rattle.infer.specs.Ran.{Setting, Given, Names, Ran, Runs, constraint, anyMarked};
 
 // A region's number.
 pub struct RegionVariable(pub u8);
@@ -252,6 +253,51 @@ pub fn outlives(
     }
     if spread(words, first, succ, chain, shape, rule, to, from, point) {
         grew[s] = 1;
+    }
+}
+
+fn wide16(x: u16) -> usize
+    ensures { λ r. ⌜ r ≡ x ⌝ }
+{
+    x as usize
+}
+
+// Runs each constraint of the list once.
+pub fn run(
+    words: &mut [u32],
+    first: &[u16; 1025],
+    succ: &[u16; 1536],
+    chain: &[u32; 32],
+    shape: Shape,
+    rule: EndRule,
+    last: &[u8; 128],
+    grew: &mut [u8; 128],
+    list: &[u32],
+)
+    ensures { λ _. ⌜ Runs shape rule (now (first .entry)) (now (succ .entry)) (now (chain .entry)) (now (last .entry)) (constraintsIn (now (list .entry)))
+        (now (words .entry)) (now (grew .entry)) (now (words .exit)) (now (grew .exit)) ⌝ }
+{
+    let count = constraint_list::count(list);
+    let mut i = 0;
+    while i < count {
+        let c = constraint_list::get(list, i);
+        let sup = RegionVariable(c.sup);
+        let sub = RegionVariable(c.sub);
+        let point = wide16(c.point);
+        outlives(
+            words,
+            first,
+            succ,
+            chain,
+            shape,
+            rule,
+            last,
+            grew,
+            sup,
+            sub,
+            point,
+        );
+        i += 1;
     }
 }
 

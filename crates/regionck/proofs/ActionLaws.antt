@@ -37,11 +37,11 @@ module _ {s t : List ℕ} {h : Head} {j : Job} (w : Layout s t h j) (accepted : 
   names : T (actionNamed j a)
   names = subst (λ (x : Action). T (actionNamed j x)) e (accepted-job j accepted .actions-named p)
 
-  fits : T (every (pathFits j) (pathsOf a))
+  pub fits : T (every (pathFits j) (pathsOf a))
   unfolding graphOf statementsOf pathsFit pathsOf
   fits = subst (λ (x : Action). T (every (pathFits j) (pathsOf x))) e (every-action (λ x. every (pathFits j) (pathsOf x)) (j .blocks) 0 0 (j .blocks) tt (paths-fit j accepted) p)
 
-  shorts : T (allShort a)
+  pub shorts : T (allShort a)
   unfolding graphOf statementsOf pathsOf
   shorts = subst (λ (x : Action). T (allShort x)) e (every-action allShort (j .blocks) 0 0 (j .blocks) tt (coded-short (w .blocks .coded)) p)
 

@@ -42,10 +42,11 @@ use Rattle.env.specs.declared.paths.PathType.the-variants as pathType
 use Rattle.env.proofs.PathLaws.{stepless}
 use Rattle.env.proofs.PrefixLaws.{shortest-of}
 use Rattle.env.proofs.ShortestLaws.{taken-leaves}
-use Rattle.relate.specs.Relates.{Runs, Relates, RelatesRef}
+use Rattle.relate.specs.Relates.{Relates, RelatesRef}
 use Rattle.relate.specs.declared.Run.{Run}
-use Rattle.relate.proofs.RelateLaws.{runs-none, runs-append}
-use Rattle.regionck.specs.Constraining.{after, stepConstraints, sourceConstraints, Takes, SourceIs, SourceSays, PathTypesSay, alongSource, TypesRun, SecondRuns, PathsRun, PairRuns, Constrains}
+use Rattle.constraint_list.specs.Listed.{Adds}
+use Rattle.constraint_list.proofs.ListLaws.{adds-none, adds-append}
+use Rattle.regionck.specs.Constraining.{after, stepConstraints, sourceConstraints, Takes, SourceIs, SourceSays, PathTypesSay, alongSource, TypesAdd, SecondAdds, PathsAdd, PairAdds, Constrains}
 use Rattle.regionck.specs.declared.constraints.Source.{Source}
 use Rattle.regionck.specs.declared.constraints.PathTypes.{PathTypes}
 use Rattle.regionck.specs.declared.constraints.Pair.{Pair}
@@ -67,32 +68,32 @@ module _ (at : Point) (kinds names : List ℕ) (shortest r i : ℕ) where
 is-ref : (kind : ℕ) → (kind ≡ 0 → ⊥) → not (eqb kind 0) ≡ true
 is-ref kind h = ap not (ne-eqb kind 0 h)
 
-module _ {run : Run} {first succ chain last : List ℕ} where
-  runs-as : {cs ds : List Outlives} {ws grew ws′ grew′ : List ℕ} → cs ≡ ds → Runs run first succ chain last cs ws grew ws′ grew′ → Runs run first succ chain last ds ws grew ws′ grew′
-  runs-as {ws = ws} {grew = grew} {ws′ = ws′} {grew′ = grew′} e x = subst (λ (cs : List Outlives). Runs run first succ chain last cs ws grew ws′ grew′) e x
+adds-as : {cs ds : List Outlives} {ls ls′ : List ℕ} → cs ≡ ds → Adds cs ls ls′ → Adds ds ls ls′
+adds-as {ls = ls} {ls′ = ls′} e x = subst (λ (cs : List Outlives). Adds cs ls ls′) e x
 
+module _ (at : Point) where
   module _ (kinds names : List ℕ) (shortest r i : ℕ) where
-    pub step-other : {ws grew : List ℕ} → getD kinds i 0 ≡ 0 → Runs run first succ chain last (stepConstraints (run .at) kinds names shortest r i) ws grew ws grew
-    step-other e = runs-none (made (run .at) kinds names shortest r i false (leb shortest (i + 1)) (ap not (eq-eqb (getD kinds i 0) 0 e)) refl)
+    pub step-other : {ls : List ℕ} → getD kinds i 0 ≡ 0 → Adds (stepConstraints at kinds names shortest r i) ls ls
+    step-other e = adds-none (made at kinds names shortest r i false (leb shortest (i + 1)) (ap not (eq-eqb (getD kinds i 0) 0 e)) refl)
 
-    pub step-out : {ws grew : List ℕ} → length kinds ≡ 8 → 8 ≤ i → Runs run first succ chain last (stepConstraints (run .at) kinds names shortest r i) ws grew ws grew
+    pub step-out : {ls : List ℕ} → length kinds ≡ 8 → 8 ≤ i → Adds (stepConstraints at kinds names shortest r i) ls ls
     step-out e l = step-other (List·getD-eq-default kinds 0 {n = i} (omega arith))
 
     module _ (ref : getD kinds i 0 ≡ 0 → ⊥) where
-      pub step-short : {ws grew : List ℕ} → i + 1 < shortest → Runs run first succ chain last (stepConstraints (run .at) kinds names shortest r i) ws grew ws grew
-      step-short l = runs-none (made (run .at) kinds names shortest r i true false (is-ref (getD kinds i 0) ref) (lt-leb shortest (i + 1) l))
+      pub step-short : {ls : List ℕ} → i + 1 < shortest → Adds (stepConstraints at kinds names shortest r i) ls ls
+      step-short l = adds-none (made at kinds names shortest r i true false (is-ref (getD kinds i 0) ref) (lt-leb shortest (i + 1) l))
 
-      pub step-made : {ws grew ws′ grew′ : List ℕ} → shortest ≤ i + 1 → Runs run first succ chain last (requireOutlives (run .at) (Free (getD names i 0)) (Free r)) ws grew ws′ grew′
-          → Runs run first succ chain last (stepConstraints (run .at) kinds names shortest r i) ws grew ws′ grew′
-      step-made l x = runs-as (sym (made (run .at) kinds names shortest r i true true (is-ref (getD kinds i 0) ref) (le-leb shortest (i + 1) l))) x
+      pub step-made : {ls ls′ : List ℕ} → shortest ≤ i + 1 → Adds (requireOutlives at (Free (getD names i 0)) (Free r)) ls ls′
+          → Adds (stepConstraints at kinds names shortest r i) ls ls′
+      step-made l x = adds-as (sym (made at kinds names shortest r i true true (is-ref (getD kinds i 0) ref) (le-leb shortest (i + 1) l))) x
 
   module _ (kinds names : List ℕ) (shortest r : ℕ) where
-    pub source-none : {ws grew : List ℕ} → Runs run first succ chain last (sourceConstraints (run .at) kinds names shortest r 0) ws grew ws grew
-    source-none = runs-none refl
+    pub source-none : {ls : List ℕ} → Adds (sourceConstraints at kinds names shortest r 0) ls ls
+    source-none = adds-none refl
 
-    pub source-more : {ws grew ws₁ grew₁ ws₂ grew₂ : List ℕ} (i : ℕ) → Runs run first succ chain last (sourceConstraints (run .at) kinds names shortest r i) ws grew ws₁ grew₁
-        → Runs run first succ chain last (stepConstraints (run .at) kinds names shortest r i) ws₁ grew₁ ws₂ grew₂ → Runs run first succ chain last (sourceConstraints (run .at) kinds names shortest r (i + 1)) ws grew ws₂ grew₂
-    source-more i x y = runs-as (sym (gather-below (stepConstraints (run .at) kinds names shortest r) i)) (runs-append x y)
+    pub source-more : {ls ls₁ ls₂ : List ℕ} (i : ℕ) → Adds (sourceConstraints at kinds names shortest r i) ls ls₁
+        → Adds (stepConstraints at kinds names shortest r i) ls₁ ls₂ → Adds (sourceConstraints at kinds names shortest r (i + 1)) ls ls₂
+    source-more i x y = adds-as (sym (gather-below (stepConstraints at kinds names shortest r) i)) (adds-append x y)
 
 pub source-unread : {s : List ℕ} {p : Path} {how : Related} {kinds : List ℕ} {r : Source} → how ≡ Assigned → r .steps ≡ 0 → SourceSays s p how kinds r
 source-unread e z = rw e (record { says = z })
@@ -104,12 +105,12 @@ source-says {kinds = kinds} {of = of} e len short sup count =
 
 -- ---- Two types, where they stand
 
-module _ {s t : List ℕ} {run : Run} {first succ chain last : List ℕ} {how : Related} {a : List ℕ} {x : ℕ} {b : List ℕ} {y : ℕ} {ws grew ws′ grew′ : List ℕ} where
-  pub types-assigned : how ≡ Assigned → Relates s t run first succ chain last a x b y Co ws grew ws′ grew′ → TypesRun s t run first succ chain last how a x b y ws grew ws′ grew′
-  types-assigned e v = rw e (record { runs = λ j l m n k p q f g z. v .runs j l m n p q f g z })
+module _ {s t : List ℕ} {run : Run} {how : Related} {a : List ℕ} {x : ℕ} {b : List ℕ} {y : ℕ} {ls ls′ : List ℕ} where
+  pub types-assigned : how ≡ Assigned → Relates s t run a x b y Co ls ls′ → TypesAdd s t run how a x b y ls ls′
+  types-assigned e v = rw e (record { adds = λ j l m n k p q f g z. v .adds j l m n p q f g z })
 
-  pub types-borrowed : {r : RegionName} → how ≡ Borrowed r → RelatesRef (r .0) s t run first succ chain last a x b y Contra ws grew ws′ grew′ → TypesRun s t run first succ chain last how a x b y ws grew ws′ grew′
-  types-borrowed e v = rw e (record { runs = λ j l m n k p q f g z. v .runs j l m n k p q f g z })
+  pub types-borrowed : {r : RegionName} → how ≡ Borrowed r → RelatesRef (r .0) s t run a x b y Contra ls ls′ → TypesAdd s t run how a x b y ls ls′
+  types-borrowed e v = rw e (record { adds = λ j l m n k p q f g z. v .adds j l m n k p q f g z })
 
 module _ {s t : List ℕ} {h : Head} {p : Path} {out kinds names : List ℕ} {d : PathType} (v : PathSays s t h p out kinds names d) (j : Job) (l : Layout s t h j) (w : Takes s j p) where
   result : {x : PathType} → d ≡ x → PathResult j (pathOf s p) s out kinds names x
@@ -118,26 +119,26 @@ module _ {s t : List ℕ} {h : Head} {p : Path} {out kinds names : List ℕ} {d 
   refused : d ≡ pathType.Refused → ⊥
   refused e = true≢false (sym (w .fits) ∙ result e)
 
-module _ {s t : List ℕ} {run : Run} {first succ chain last : List ℕ} {how : Related} {ws grew : List ℕ} where
+module _ {s t : List ℕ} {run : Run} {how : Related} {ls : List ℕ} where
   module _ {a : List ℕ} {x : ℕ} {q : Path} {b kinds names : List ℕ} {d : PathType} (v : PathSays s t (run .head) q b kinds names d) where
-    pub second-refused : d ≡ pathType.Refused → SecondRuns s t run first succ chain last how a x q ws grew ws grew
-    second-refused e = record { runs = λ j l w m k p f z. absurd (refused v j l w e) }
+    pub second-refused : d ≡ pathType.Refused → SecondAdds s t run how a x q ls ls
+    second-refused e = record { adds = λ j l w m k p f z. absurd (refused v j l w e) }
 
-    pub second-inside : {y : Cursor} {ws′ grew′ : List ℕ} → d ≡ pathType.Inside y → TypesRun s t run first succ chain last how a x s (y .at) ws grew ws′ grew′ → SecondRuns s t run first succ chain last how a x q ws grew ws′ grew′
-    second-inside e u = record { runs = λ j l w m k p f z. let r = result v j l w e in u .runs j l m _ k p (r .stands) f (r .few) z }
+    pub second-inside : {y : Cursor} {ls′ : List ℕ} → d ≡ pathType.Inside y → TypesAdd s t run how a x s (y .at) ls ls′ → SecondAdds s t run how a x q ls ls′
+    second-inside e u = record { adds = λ j l w m k p f z. let r = result v j l w e in u .adds j l m _ k p (r .stands) f (r .few) z }
 
-    pub second-written : {y : Cursor} {ws′ grew′ : List ℕ} → d ≡ pathType.Written y → TypesRun s t run first succ chain last how a x b (y .at) ws grew ws′ grew′ → SecondRuns s t run first succ chain last how a x q ws grew ws′ grew′
-    second-written e u = record { runs = λ j l w m k p f z. let r = result v j l w e in u .runs j l m _ k p (r .stands) f (r .few) z }
+    pub second-written : {y : Cursor} {ls′ : List ℕ} → d ≡ pathType.Written y → TypesAdd s t run how a x b (y .at) ls ls′ → SecondAdds s t run how a x q ls ls′
+    second-written e u = record { adds = λ j l w m k p f z. let r = result v j l w e in u .adds j l m _ k p (r .stands) f (r .few) z }
 
   module _ {p q : Path} {a kinds names : List ℕ} {d : PathType} (v : PathSays s t (run .head) p a kinds names d) where
-    pub paths-refused : d ≡ pathType.Refused → PathsRun s t run first succ chain last how p q ws grew ws grew
-    paths-refused e = record { runs = λ j l w u k z. absurd (refused v j l w e) }
+    pub paths-refused : d ≡ pathType.Refused → PathsAdd s t run how p q ls ls
+    paths-refused e = record { adds = λ j l w u k z. absurd (refused v j l w e) }
 
-    pub paths-inside : {x : Cursor} {ws′ grew′ : List ℕ} → d ≡ pathType.Inside x → SecondRuns s t run first succ chain last how s (x .at) q ws grew ws′ grew′ → PathsRun s t run first succ chain last how p q ws grew ws′ grew′
-    paths-inside e u = record { runs = λ j l w o k z. let r = result v j l w e in u .runs j l o _ k (r .stands) (r .few) z }
+    pub paths-inside : {x : Cursor} {ls′ : List ℕ} → d ≡ pathType.Inside x → SecondAdds s t run how s (x .at) q ls ls′ → PathsAdd s t run how p q ls ls′
+    paths-inside e u = record { adds = λ j l w o k z. let r = result v j l w e in u .adds j l o _ k (r .stands) (r .few) z }
 
-    pub paths-written : {x : Cursor} {ws′ grew′ : List ℕ} → d ≡ pathType.Written x → SecondRuns s t run first succ chain last how a (x .at) q ws grew ws′ grew′ → PathsRun s t run first succ chain last how p q ws grew ws′ grew′
-    paths-written e u = record { runs = λ j l w o k z. let r = result v j l w e in u .runs j l o _ k (r .stands) (r .few) z }
+    pub paths-written : {x : Cursor} {ls′ : List ℕ} → d ≡ pathType.Written x → SecondAdds s t run how a (x .at) q ls ls′ → PathsAdd s t run how p q ls ls′
+    paths-written e u = record { adds = λ j l w o k z. let r = result v j l w e in u .adds j l o _ k (r .stands) (r .few) z }
 
 -- ---- An assignment and a borrow
 
@@ -169,31 +170,34 @@ module _ {s t : List ℕ} {h : Head} {q : Path} {b kinds names : List ℕ} {d : 
       ∙ ap (sourceConstraints at kinds names (u .of .supporting) (r .0)) (u .steps)
       ∙ source-same j accepted (pathOf s q) leaves (w .short) o at (r .0)
 
-module _ {s t : List ℕ} {run : Run} {first succ chain last : List ℕ} (pair : Pair) {ws grew : List ℕ} where
-  pub pair-stepless : (x y : Cursor) {ws′ grew′ : List ℕ} → (pair .p .steps ≡ 0) × (pair .q .steps ≡ 0) → x .at ≡ entryIn t 32 64 (pair .p .base .0) → y .at ≡ entryIn t 32 64 (pair .q .base .0)
-      → TypesRun s t run first succ chain last (pair .how) s (x .at) s (y .at) ws grew ws′ grew′ → PairRuns s t run first succ chain last pair ws grew ws′ grew′
+module _ {s t : List ℕ} {run : Run} (pair : Pair) {ls : List ℕ} where
+  pub pair-stepless : (x y : Cursor) {ls′ : List ℕ} → (pair .p .steps ≡ 0) × (pair .q .steps ≡ 0) → x .at ≡ entryIn t 32 64 (pair .p .base .0) → y .at ≡ entryIn t 32 64 (pair .q .base .0)
+      → TypesAdd s t run (pair .how) s (x .at) s (y .at) ls ls′ → PairAdds s t run pair ls ls′
   pair-stepless x y z vp vq u =
       record {
-        runs = λ j l accepted wp wq k same.
-            runs-as (sym (then-none _ (no-steps (pair .how) (run .at) j (pathOf s (pair .q)) (rw (z .1)))))
-            (paths-inside (stepless (pair .p) x (z .0) vp) refl (second-inside (stepless (pair .q) y (z .1) vq) refl u) .runs j l wp wq k same);
+        adds = λ j l accepted wp wq k same.
+            adds-as (sym (then-none _ (no-steps (pair .how) (run .at) j (pathOf s (pair .q)) (rw (z .1)))))
+            (paths-inside (stepless (pair .p) x (z .0) vp) refl (second-inside (stepless (pair .q) y (z .1) vq) refl u) .adds j l wp wq k same);
       }
 
-  pub pair-runs : {a b kinds names : List ℕ} {d : PathTypes} {ws₁ grew₁ ws₂ grew₂ : List ℕ} {of : Source} → PathTypesSay s t (run .head) (pair .p) (pair .q) a b kinds names d
-      → PathsRun s t run first succ chain last (pair .how) (pair .p) (pair .q) ws grew ws₁ grew₁
-      → SourceSays s (pair .q) (pair .how) kinds of → Runs run first succ chain last (sourceConstraints (run .at) kinds names (of .supporting) (of .region .0) (of .steps)) ws₁ grew₁ ws₂ grew₂
-      → PairRuns s t run first succ chain last pair ws grew ws₂ grew₂
-  pair-runs {of = of} v u o src = record { runs = λ j l accepted wp wq k z. runs-append (u .runs j l wp wq k z) (runs-as (along (v .second) (run .at) of j l accepted wq (pair .how) (o .says)) src) }
+  pub pair-runs : {a b kinds names : List ℕ} {d : PathTypes} {ls₁ ls₂ : List ℕ} {of : Source} → PathTypesSay s t (run .head) (pair .p) (pair .q) a b kinds names d
+      → PathsAdd s t run (pair .how) (pair .p) (pair .q) ls ls₁
+      → SourceSays s (pair .q) (pair .how) kinds of → Adds (sourceConstraints (run .at) kinds names (of .supporting) (of .region .0) (of .steps)) ls₁ ls₂
+      → PairAdds s t run pair ls ls₂
+  pair-runs {of = of} v u o src = record { adds = λ j l accepted wp wq k z. adds-append (u .adds j l wp wq k z) (adds-as (along (v .second) (run .at) of j l accepted wq (pair .how) (o .says)) src) }
 
 -- ---- An action
 
-module _ {s t : List ℕ} {run : Run} {first succ chain last : List ℕ} {ws grew : List ℕ} where
-  pub point-far : 1024 < run .at → Constrains s t run first succ chain last ws grew ws grew
-  point-far f = record { runs = λ j l accepted h. absurd (omega (arith, f, h, code-count j, l .few)) }
+module _ {s t : List ℕ} {run : Run} {ls : List ℕ} where
+  pub point-far : 1024 < run .at → Constrains s t run ls ls
+  point-far f = record { adds = λ j l accepted h. absurd (omega (arith, f, h, code-count j, l .few)) }
 
 -- what is read there, for every job
 pub record Read (s t : List ℕ) (p : Point) (r : ActionStep) : Type 0 where
   pub acts : (h : Head) (j : Job) → Layout s t h j → p < codeCount (j .blocks) → Acts s (actionAt (graphOf j) p) r
+
+pub read-at : {s t : List ℕ} {p q : Point} {r : ActionStep} → q ≡ p → Read s t q r → Read s t p r
+read-at {s} {t} {r = r} e x = subst (λ (p : Point). Read s t p r) e x
 
 module _ {s t : List ℕ} {p : Point} {r : ActionStep} (act : Read s t p r) {h : Head} (j : Job) (l : Layout s t h j) (k : p < graphOf j .code) where
   acts : {x : ActionStep} → r ≡ x → Acts s (actionAt (graphOf j) p) x
@@ -215,56 +219,52 @@ none-made s c j p (actions.Use q) o i = carry (λ y z. constraintsAt j p y ≡ [
 none-made s c j p (actions.Drop q) o i = carry (λ y z. constraintsAt j p y ≡ []) i refl
 none-made s c j p (actions.StorageDead v) o i = carry (λ y z. constraintsAt j p y ≡ []) i refl
 
-module _ {s t : List ℕ} {run : Run} {first succ chain last : List ℕ} {ws grew : List ℕ} {r : ActionStep} (act : Read s t (run .at) r) where
-  pub action-refused : {k : ℕ} → r ≡ actionStep.Refused k → Constrains s t run first succ chain last ws grew ws grew
-  action-refused e = record { runs = λ j l accepted h. absurd (clash (acts act j l h e .reads)) }
+module _ {s t : List ℕ} {run : Run} {ls : List ℕ} {r : ActionStep} (act : Read s t (run .at) r) where
+  pub action-refused : {k : ℕ} → r ≡ actionStep.Refused k → Constrains s t run ls ls
+  action-refused e = record { adds = λ j l accepted h. absurd (clash (acts act j l h e .reads)) }
 
   module _ {a : Action} {c : Cursor} (e : r ≡ actionStep.Action a c) where
-    pub action-other : OneOf (0 ∷ 1 ∷ 5 ∷ 6 ∷ 7 ∷ []) (tagOf the-type a) → Constrains s t run first succ chain last ws grew ws grew
-    action-other o = record { runs = λ j l accepted h. runs-none (none-made s c j (run .at) a o (acts act j l h e .reads)) }
+    pub action-other : OneOf (0 ∷ 1 ∷ 5 ∷ 6 ∷ 7 ∷ []) (tagOf the-type a) → Constrains s t run ls ls
+    action-other o = record { adds = λ j l accepted h. adds-none (none-made s c j (run .at) a o (acts act j l h e .reads)) }
 
-    module _ {ws′ grew′ : List ℕ} where
+    module _ {ls′ : List ℕ} where
       pub action-borrow : {d q : Path} {o : RegionName} {k : BorrowKind} {next : Run} → a ≡ actions.Borrow d o k q → next ≡ after run
-          → PairRuns s t next first succ chain last (record { how = Borrowed o; p = d; q = q }) ws grew ws′ grew′ → Constrains s t run first succ chain last ws grew ws′ grew′
+          → PairAdds s t next (record { how = Borrowed o; p = d; q = q }) ls ls′ → Constrains s t run ls ls′
       unfolding constraintsAt shapeFits
       action-borrow {d} {q} {o} {k} {next} i f b =
           record {
-            runs = λ j l accepted h.
+            adds = λ j l accepted h.
                 let u : actionAt (graphOf j) (run .at) ≡ syntax.Borrow (pathOf s d) (o .0) (borrowKindOf k) (pathOf s q)
                 = carry (λ x y. x ≡ syntax.Borrow (pathOf s d) (o .0) (borrowKindOf k) (pathOf s q)) (is act j l h e i .reads) refl in
                 let w = borrow-takes l accepted (run .at) d q u in
                 let z : T (shapeFits j (syntax.Borrow (pathOf s d) (o .0) (borrowKindOf k) (pathOf s q))) = subst (λ (x : syntax.Action). T (shapeFits j x)) u (accepted-job j accepted .shapes (run .at)) in
-                let b′ : PairRuns s t (after run) first succ chain last (record { how = Borrowed o; p = d; q = q }) ws grew ws′ grew′
-                = subst (λ (x : Run). PairRuns s t x first succ chain last (record { how = Borrowed o; p = d; q = q }) ws grew ws′ grew′) f b in
-                runs-as (ap (constraintsAt j (run .at)) (sym u))
-                (record {
-                  ran = subst (λ (p : Point). Runs (after run) first succ chain last
-                      (relate p (j .structs) (pathType j (pathOf s d)) Contra (RefTy (borrowKindOf k) (Free (o .0)) (pathType j (pathOf s q)))
-                      ++ relateSource p (j .structs) (Free (o .0)) (variableType j (q .base .0)) (pathOf s q .steps)) ws grew ws′ grew′)
-                      (add-one (run .at)) (b′ .runs j l accepted (w .0) (w .1) (borrowKindOf k) z) .ran;
-                });
+                let b′ : PairAdds s t (after run) (record { how = Borrowed o; p = d; q = q }) ls ls′
+                = subst (λ (x : Run). PairAdds s t x (record { how = Borrowed o; p = d; q = q }) ls ls′) f b in
+                adds-as (ap (constraintsAt j (run .at)) (sym u))
+                (subst (λ (p : Point). Adds
+                (relate p (j .structs) (pathType j (pathOf s d)) Contra (RefTy (borrowKindOf k) (Free (o .0)) (pathType j (pathOf s q)))
+                ++ relateSource p (j .structs) (Free (o .0)) (variableType j (q .base .0)) (pathOf s q .steps)) ls ls′)
+                (add-one (run .at)) (b′ .adds j l accepted (w .0) (w .1) (borrowKindOf k) z));
           }
 
       pub action-assign : {d q : Path} {next : Run} → a ≡ actions.Assign d q → next ≡ after run
-          → PairRuns s t next first succ chain last (record { how = Assigned; p = q; q = d }) ws grew ws′ grew′ → Constrains s t run first succ chain last ws grew ws′ grew′
+          → PairAdds s t next (record { how = Assigned; p = q; q = d }) ls ls′ → Constrains s t run ls ls′
       unfolding constraintsAt shapeFits
       action-assign {d} {q} {next} i f b =
           record {
-            runs = λ j l accepted h.
+            adds = λ j l accepted h.
                 let u : actionAt (graphOf j) (run .at) ≡ syntax.Assign (pathOf s d) (pathOf s q) = carry (λ x y. x ≡ syntax.Assign (pathOf s d) (pathOf s q)) (is act j l h e i .reads) refl in
                 let w = assign-takes l accepted (run .at) d q u in
                 let z : T (shapeFits j (syntax.Assign (pathOf s d) (pathOf s q))) = subst (λ (x : syntax.Action). T (shapeFits j x)) u (accepted-job j accepted .shapes (run .at)) in
-                let b′ : PairRuns s t (after run) first succ chain last (record { how = Assigned; p = q; q = d }) ws grew ws′ grew′
-                = subst (λ (x : Run). PairRuns s t x first succ chain last (record { how = Assigned; p = q; q = d }) ws grew ws′ grew′) f b in
-                runs-as (ap (constraintsAt j (run .at)) (sym u))
-                (record {
-                  ran = subst (λ (p : Point). Runs (after run) first succ chain last (relate p (j .structs) (pathType j (pathOf s q)) Co (pathType j (pathOf s d))) ws grew ws′ grew′)
-                      (add-one (run .at)) (runs-as (append-nil _) (b′ .runs j l accepted (w .1) (w .0) syntax.Mut z)) .ran;
-                });
+                let b′ : PairAdds s t (after run) (record { how = Assigned; p = q; q = d }) ls ls′
+                = subst (λ (x : Run). PairAdds s t x (record { how = Assigned; p = q; q = d }) ls ls′) f b in
+                adds-as (ap (constraintsAt j (run .at)) (sym u))
+                (subst (λ (p : Point). Adds (relate p (j .structs) (pathType j (pathOf s q)) Co (pathType j (pathOf s d))) ls ls′)
+                (add-one (run .at)) (adds-as (append-nil _) (b′ .adds j l accepted (w .1) (w .0) syntax.Mut z)));
           }
 
-      pub action-constraint : {m n : RegionName} → a ≡ actions.Constraint m n → Runs run first succ chain last (requireOutlives (run .at) (Free (m .0)) (Free (n .0))) ws grew ws′ grew′
-          → Constrains s t run first succ chain last ws grew ws′ grew′
+      pub action-constraint : {m n : RegionName} → a ≡ actions.Constraint m n → Adds (requireOutlives (run .at) (Free (m .0)) (Free (n .0))) ls ls′
+          → Constrains s t run ls ls′
       unfolding constraintsAt
       action-constraint {m} {n} i b =
-          record { runs = λ j l accepted h. runs-as (ap (constraintsAt j (run .at)) (sym (carry (λ x y. x ≡ syntax.Constraint (m .0) (n .0)) (is act j l h e i .reads) refl))) b }
+          record { adds = λ j l accepted h. adds-as (ap (constraintsAt j (run .at)) (sym (carry (λ x y. x ≡ syntax.Constraint (m .0) (n .0)) (is act j l h e i .reads) refl))) b }

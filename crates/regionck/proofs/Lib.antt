@@ -6,3 +6,4 @@ pub mod SourceLaws
 pub mod ConstrainLaws
 pub mod RoundLaws
 pub mod SolvedLaws
+pub mod FewLaws

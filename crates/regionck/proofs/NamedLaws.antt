@@ -25,7 +25,7 @@ use Rattle.nll_spec.proofs.GraphLaws.{next-in-code, walked-is-code}
 use Rattle.nll_spec.proofs.AcceptedLaws.{Accepted, accepted-job}
 use Rattle.nll_spec.proofs.RegionLaws.{both-named}
 use Rattle.infer.specs.Ran.{AllNamed}
-use Rattle.regionck.specs.Rounds.{settingOf}
+use Rattle.regionck.specs.Rounds.{settingOf, constraintsBelow}
 
 -- ---- After an action comes the next point
 
@@ -183,3 +183,8 @@ module _ (ends : EndRule) (j : Job) (accepted : refusal j ≡ 0) where
       all-named c
       (member-gather (λ (q : Point). constraintsAt j q (actionAt (graphOf j) q)) (select (isWalked (graphOf j)) (below (graphOf j .code))) p
       (contains-select (isWalked (graphOf j)) (below (graphOf j .code)) p (contains-below (graphOf j .code) p (walked-is-code j p w)) w) m)
+
+  pub named-below : (n : ℕ) → AllNamed (settingOf ends j) (constraintsBelow j n)
+  named-below n c m =
+      let (p, at, m′) = gather-member (λ (p : Point). constraintsAt j p (actionAt (graphOf j) p)) (select (isWalked (graphOf j)) (below n)) m in
+      named-at p (select-contains (isWalked (graphOf j)) (below n) p at .1) c m′

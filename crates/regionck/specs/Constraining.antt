@@ -1,4 +1,4 @@
--- What running the constraints of an action does.
+-- What adding the constraints of an action to a list does.
 use mathlib.Core.Path.{_≡_}
 use mathlib.Core.Bool.{true, _&&_, not, cond}
 use mathlib.Core.List.{List, [], _++_}
@@ -22,7 +22,7 @@ use Rattle.repr.specs.Stands.{TypeAt}
 use Rattle.env.specs.Paths.{PathSays}
 use Rattle.env.specs.Prefixes.{ShortestIn}
 use Rattle.env.specs.declared.Shortest.{Shortest}
-use Rattle.relate.specs.Relates.{Runs}
+use Rattle.constraint_list.specs.Listed.{Adds}
 use Rattle.relate.specs.declared.Run.{Run}
 use Rattle.regionck.specs.declared.constraints.Source.{Source}
 use Rattle.regionck.specs.declared.constraints.PathTypes.{PathTypes}
@@ -30,9 +30,9 @@ use Rattle.regionck.specs.declared.constraints.Pair.{Pair}
 use Rattle.regionck.specs.declared.constraints.Related.{Related}
 use Rattle.regionck.specs.declared.constraints.Related.the-variants.{Assigned, Borrowed}
 
--- the same at the next point
+-- the run, at the next point
 abbrev pub after : Run → Run
-after run = record { head = run .head; at = run .at + 1; shape = run .shape; rule = run .rule }
+after run = record { head = run .head; at = run .at + 1 }
 
 -- Step i of a borrow's source leaves a Ref, and the prefix that it ends has at least as many steps as the shortest supporting one: that Ref's region
 -- outlives the borrow's.
@@ -89,34 +89,34 @@ abbrev pub alongSource : Related → Point → Job → syntax.Path → List Outl
 alongSource Assigned at j q = []
 alongSource (Borrowed r) at j q = relateSource at (j .structs) (Free (r .0)) (variableType j (q .base)) (q .steps)
 
-module _ (s t : List ℕ) (run : Run) (first succ chain last : List ℕ) where
-  -- The constraints of the two types that stand there are run, if the types have one shape.
-  pub record TypesRun (how : Related) (a : List ℕ) (x : ℕ) (b : List ℕ) (y : ℕ) (ws grew ws′ grew′ : List ℕ) : Type 0 where
-    pub runs : (j : Job) → Layout s t (run .head) j → (m n : Ty) (k : BorrowKind) → TypeAt a x m → TypeAt b y n → typeNodes m ≤ maxNodes → typeNodes n ≤ maxNodes → T (sameShape m (against how k n))
-        → Runs run first succ chain last (relate (run .at) (j .structs) m (under how) (against how k n)) ws grew ws′ grew′
+module _ (s t : List ℕ) (run : Run) where
+  -- The constraints of the two types that stand there are added, if the types have one shape.
+  pub record TypesAdd (how : Related) (a : List ℕ) (x : ℕ) (b : List ℕ) (y : ℕ) (ls ls′ : List ℕ) : Type 0 where
+    pub adds : (j : Job) → Layout s t (run .head) j → (m n : Ty) (k : BorrowKind) → TypeAt a x m → TypeAt b y n → typeNodes m ≤ maxNodes → typeNodes n ≤ maxNodes → T (sameShape m (against how k n))
+        → Adds (relate (run .at) (j .structs) m (under how) (against how k n)) ls ls′
 
   -- The same for the type that stands there and that of a path.
-  pub record SecondRuns (how : Related) (a : List ℕ) (x : ℕ) (q : Path) (ws grew ws′ grew′ : List ℕ) : Type 0 where
-    pub runs : (j : Job) → Layout s t (run .head) j → Takes s j q → (m : Ty) (k : BorrowKind) → TypeAt a x m → typeNodes m ≤ maxNodes → T (sameShape m (against how k (pathType j (pathOf s q))))
-        → Runs run first succ chain last (relate (run .at) (j .structs) m (under how) (against how k (pathType j (pathOf s q)))) ws grew ws′ grew′
+  pub record SecondAdds (how : Related) (a : List ℕ) (x : ℕ) (q : Path) (ls ls′ : List ℕ) : Type 0 where
+    pub adds : (j : Job) → Layout s t (run .head) j → Takes s j q → (m : Ty) (k : BorrowKind) → TypeAt a x m → typeNodes m ≤ maxNodes → T (sameShape m (against how k (pathType j (pathOf s q))))
+        → Adds (relate (run .at) (j .structs) m (under how) (against how k (pathType j (pathOf s q)))) ls ls′
 
   -- The same for the types of two paths.
-  pub record PathsRun (how : Related) (p q : Path) (ws grew ws′ grew′ : List ℕ) : Type 0 where
-    pub runs : (j : Job) → Layout s t (run .head) j → Takes s j p → Takes s j q → (k : BorrowKind) → T (sameShape (pathType j (pathOf s p)) (against how k (pathType j (pathOf s q))))
-        → Runs run first succ chain last (relate (run .at) (j .structs) (pathType j (pathOf s p)) (under how) (against how k (pathType j (pathOf s q)))) ws grew ws′ grew′
+  pub record PathsAdd (how : Related) (p q : Path) (ls ls′ : List ℕ) : Type 0 where
+    pub adds : (j : Job) → Layout s t (run .head) j → Takes s j p → Takes s j q → (k : BorrowKind) → T (sameShape (pathType j (pathOf s p)) (against how k (pathType j (pathOf s q))))
+        → Adds (relate (run .at) (j .structs) (pathType j (pathOf s p)) (under how) (against how k (pathType j (pathOf s q)))) ls ls′
 
   -- ---- The constraints of an action
 
-  -- The constraints of an assignment or a borrow are run, at the run's point.
-  pub record PairRuns (pair : Pair) (ws grew ws′ grew′ : List ℕ) : Type 0 where
-    pub runs : (j : Job) → Layout s t (run .head) j → refusal j ≡ 0 → Takes s j (pair .p) → Takes s j (pair .q) → (k : BorrowKind)
+  -- The constraints of an assignment or a borrow are added, at the run's point.
+  pub record PairAdds (pair : Pair) (ls ls′ : List ℕ) : Type 0 where
+    pub adds : (j : Job) → Layout s t (run .head) j → refusal j ≡ 0 → Takes s j (pair .p) → Takes s j (pair .q) → (k : BorrowKind)
         → T (sameShape (pathType j (pathOf s (pair .p))) (against (pair .how) k (pathType j (pathOf s (pair .q)))))
-        → Runs run first succ chain last
+        → Adds
         (relate (run .at) (j .structs) (pathType j (pathOf s (pair .p))) (under (pair .how)) (against (pair .how) k (pathType j (pathOf s (pair .q))))
         ++ alongSource (pair .how) (run .at) j (pathOf s (pair .q)))
-        ws grew ws′ grew′
+        ls ls′
 
   -- The constraints of the action at the run's point, which is one of the blocks.
-  pub record Constrains (ws grew ws′ grew′ : List ℕ) : Type 0 where
-    pub runs : (j : Job) → Layout s t (run .head) j → refusal j ≡ 0 → run .at < graphOf j .code
-        → Runs run first succ chain last (constraintsAt j (run .at) (actionAt (graphOf j) (run .at))) ws grew ws′ grew′
+  pub record Constrains (ls ls′ : List ℕ) : Type 0 where
+    pub adds : (j : Job) → Layout s t (run .head) j → refusal j ≡ 0 → run .at < graphOf j .code
+        → Adds (constraintsAt j (run .at) (actionAt (graphOf j) (run .at))) ls ls′

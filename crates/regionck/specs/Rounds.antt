@@ -1,9 +1,10 @@
 -- What rounds of a job's constraints do to the regions' sets.
 use mathlib.Core.Path.{_≡_}
 use mathlib.Core.Bool.{cond}
-use mathlib.Core.List.{List, []}
+use mathlib.Core.List.{List, [], _++_}
 use Prim.Native.Nat.{ℕ, _≤_, _<_}
 use lib.ListN.{length, getD, replicate}
+use Rattle.nll_spec.specs.Lists.{gather, select, below}
 use Rattle.nll_spec.specs.Fixpoint.{Table}
 use Rattle.nll_spec.specs.Syntax.{Job, Point, RegionName}
 use Rattle.nll_spec.specs.Decode.{pointCount}
@@ -22,7 +23,8 @@ use Rattle.infer.specs.Search.{ruleOf}
 use Rattle.infer.specs.Ran.{Setting, Words, Given, Ran}
 use Rattle.infer.specs.declared.EndRule as declared
 use Rattle.infer.specs.declared.Shape.{Shape}
-use Rattle.relate.specs.declared.Run.{Run}
+use Rattle.constraint_list.specs.Listed.{constraintsIn, Adds}
+use Rattle.regionck.specs.declared.round.Held.{Held}
 
 -- what the constraints of a job are run in
 abbrev pub settingOf : EndRule → Job → Setting
@@ -40,11 +42,36 @@ walkedAt j p = cond (isWalked (graphOf j) p) (constraintsAt j p (actionAt (graph
 abbrev pub WalkedIn : Job → List ℕ → Type 0
 WalkedIn j walked = (p : Point) → p < 1024 → has walked p ≡ isWalked (graphOf j) p
 
--- The constraints of a point are run, if its block is walked.
-pub record PointRuns (s t : List ℕ) (run : Run) (walked first succ chain last ws grew ws′ grew′ : List ℕ) : Type 0 where
-  pub ran : (j : Job) → Layout s t (run .head) j → refusal j ≡ 0 → WalkedIn j walked → run .at < graphOf j .code
-      → Given (settingOf (ruleOf (run .rule)) j) (run .shape) (run .rule) first succ chain ws grew
-      → Ran (settingOf (ruleOf (run .rule)) j) last (walkedAt j (run .at)) ws grew ws′ grew′
+-- the constraints of the first n points
+abbrev pub constraintsBelow : Job → ℕ → List Outlives
+constraintsBelow j n = gather (λ p. constraintsAt j p (actionAt (graphOf j) p)) (select (isWalked (graphOf j)) (below n))
+
+-- What is handed in is that of an accepted job.
+pub record Known (s t : List ℕ) (h : Head) (walked : List ℕ) (code : ℕ) (j : Job) : Type 0 where
+  pub layout : Layout s t h j
+  pub accepted : refusal j ≡ 0
+  pub reached : WalkedIn j walked
+  pub points : code ≡ graphOf j .code
+
+-- The constraints of a point are added, if its block is walked.
+pub record PointAdds (s t : List ℕ) (h : Head) (walked : List ℕ) (p : Point) (ls ls′ : List ℕ) : Type 0 where
+  pub adds : (j : Job) (code : ℕ) → Known s t h walked code j → p < code → Adds (walkedAt j p) ls ls′
+
+-- The list has the constraints of the points from the first of `held` on, up to the second.
+pub record Holding (s t : List ℕ) (h : Head) (walked : List ℕ) (code : ℕ) (ls : List ℕ) (held : Held) : Type 0 where
+  pub within : held .to ≤ code
+  pub holds : (j : Job) → Known s t h walked code j → constraintsBelow j (held .from) ++ constraintsIn ls ≡ constraintsBelow j (held .to)
+
+-- The list has the constraints of `from` and of the points after it, up to r.
+pub record Collects (s t : List ℕ) (h : Head) (walked : List ℕ) (code from : ℕ) (ls ls′ : List ℕ) (r : ℕ) : Type 0 where
+  pub later : from < r
+  pub holding : Holding s t h walked code ls′ (record { from = from; to = r })
+
+-- The same of a list that may have them.
+pub record Holds (s t : List ℕ) (h : Head) (walked : List ℕ) (code p : ℕ) (ls : List ℕ) (held : Held) (ls′ : List ℕ) (r : Held) : Type 0 where
+  pub starts : r .from ≡ p
+  pub later : p < r .to
+  pub holding : Holding s t h walked code ls held → Holding s t h walked code ls′ r
 
 -- All constraints of a job are run, from no marks on.
 pub record RoundRuns (s t : List ℕ) (h : Head) (walked : List ℕ) (shape : Shape) (rule : declared.EndRule) (first succ chain last ws ws′ grew : List ℕ) : Type 0 where

@@ -20,8 +20,8 @@ ghost use Prim.Native.Nat.{ℕ, _+_, _≤_};
 ghost use lib.ListN.{length};
 ghost use Rattle.repr.specs.declared.Path.{Path};
 ghost use Rattle.env.specs.Paths.{PathSays};
-ghost use Rattle.relate.specs.Relates.{Runs};
-ghost use Rattle.regionck.specs.Constraining.{after, stepConstraints, sourceConstraints, SourceSays, PathTypesSay, TypesRun, SecondRuns, PathsRun, PairRuns, Constrains};
+ghost use Rattle.constraint_list.specs.Listed.{Adds};
+ghost use Rattle.regionck.specs.Constraining.{after, stepConstraints, sourceConstraints, SourceSays, PathTypesSay, TypesAdd, SecondAdds, PathsAdd, PairAdds, Constrains};
 
 fn wide(x: u8) -> usize
     ensures { λ r. ⌜ (r ≡ x) × (r ≤ 255) ⌝ }
@@ -29,19 +29,21 @@ fn wide(x: u8) -> usize
     x as usize
 }
 
-// The same at the next point.
+fn wide16(x: u16) -> usize
+    ensures { λ r. ⌜ r ≡ x ⌝ }
+{
+    x as usize
+}
+
+// The run, at the next point.
 fn after(run: Run) -> Run
     requires { ⌜ run .at ≤ 1024 ⌝ }
     ensures { λ r. ⌜ r ≡ after run ⌝ }
 {
     let head = run.head;
-    let shape = run.shape;
-    let rule = run.rule;
     Run {
         head,
         at: run.at + 1,
-        shape,
-        rule,
     }
 }
 
@@ -72,22 +74,10 @@ struct Source {
 }
 
 // Step i of a borrow's source: if it leaves a Ref and ends a supporting prefix, that Ref's region outlives the borrow's.
-fn relate_step(
-    of: Source,
-    kinds: &[u8; 8],
-    names: &[u8; 8],
-    i: usize,
-    run: Run,
-    words: &mut [u32],
-    first: &[u16; 1025],
-    succ: &[u16; 1536],
-    chain: &[u32; 32],
-    last: &[u8; 128],
-    grew: &mut [u8; 128],
-)
+fn relate_step(of: Source, kinds: &[u8; 8], names: &[u8; 8], i: usize, run: Run, list: &mut [u32])
     requires { ⌜ (length (now kinds) ≡ 8) × (length (now names) ≡ 8) ⌝ }
-    ensures { λ _. ⌜ Runs run (now (first .entry)) (now (succ .entry)) (now (chain .entry)) (now (last .entry)) (stepConstraints (run .at) (now (kinds .entry)) (now (names .entry)) (of .supporting) (of .region .0) i)
-        (now (words .entry)) (now (grew .entry)) (now (words .exit)) (now (grew .exit)) ⌝ }
+    ensures { λ _. ⌜ Adds (stepConstraints (run .at) (now (kinds .entry)) (now (names .entry)) (of .supporting) (of .region .0) i)
+        (now (list .entry)) (now (list .exit)) ⌝ }
 {
     if 8 <= i {
         return;
@@ -102,41 +92,18 @@ fn relate_step(
     let region = of.region;
     let left = Region::Free(RegionName(names[i]));
     let right = Region::Free(region);
-    relate::require_outlives(left, right, run, words, first, succ, chain, last, grew);
+    relate::require_outlives(left, right, run, list);
 }
 
 // The steps of a borrow's source.
-fn relate_source(
-    of: Source,
-    kinds: &[u8; 8],
-    names: &[u8; 8],
-    run: Run,
-    words: &mut [u32],
-    first: &[u16; 1025],
-    succ: &[u16; 1536],
-    chain: &[u32; 32],
-    last: &[u8; 128],
-    grew: &mut [u8; 128],
-)
+fn relate_source(of: Source, kinds: &[u8; 8], names: &[u8; 8], run: Run, list: &mut [u32])
     requires { ⌜ (length (now kinds) ≡ 8) × (length (now names) ≡ 8) ⌝ }
-    ensures { λ _. ⌜ Runs run (now (first .entry)) (now (succ .entry)) (now (chain .entry)) (now (last .entry)) (sourceConstraints (run .at) (now (kinds .entry)) (now (names .entry)) (of .supporting) (of .region .0) (of .steps))
-        (now (words .entry)) (now (grew .entry)) (now (words .exit)) (now (grew .exit)) ⌝ }
+    ensures { λ _. ⌜ Adds (sourceConstraints (run .at) (now (kinds .entry)) (now (names .entry)) (of .supporting) (of .region .0) (of .steps))
+        (now (list .entry)) (now (list .exit)) ⌝ }
 {
     let mut i = 0;
     while i < of.steps {
-        relate_step(
-            of,
-            kinds,
-            names,
-            i,
-            run,
-            words,
-            first,
-            succ,
-            chain,
-            last,
-            grew,
-        );
+        relate_step(of, kinds, names, i, run, list);
         i += 1;
     }
 }
@@ -193,34 +160,14 @@ fn relate_types(
     b: &[u8],
     y: Cursor,
     run: Run,
-    words: &mut [u32],
-    first: &[u16; 1025],
-    succ: &[u16; 1536],
-    chain: &[u32; 32],
-    last: &[u8; 128],
-    grew: &mut [u8; 128],
+    list: &mut [u32],
 )
     requires { ⌜ length (now layout) ≡ 1280 ⌝ }
-    ensures { λ _. ⌜ TypesRun (now (s .entry)) (now (layout .entry)) run (now (first .entry)) (now (succ .entry)) (now (chain .entry)) (now (last .entry)) how (now (a .entry)) (x .at) (now (b .entry)) (y .at)
-        (now (words .entry)) (now (grew .entry)) (now (words .exit)) (now (grew .exit)) ⌝ }
+    ensures { λ _. ⌜ TypesAdd (now (s .entry)) (now (layout .entry)) run how (now (a .entry)) (x .at) (now (b .entry)) (y .at)
+        (now (list .entry)) (now (list .exit)) ⌝ }
 {
     match how {
-        Related::Assigned => relate::relate(
-            s,
-            layout,
-            a,
-            x,
-            b,
-            y,
-            Variance::Co,
-            run,
-            words,
-            first,
-            succ,
-            chain,
-            last,
-            grew,
-        ),
+        Related::Assigned => relate::relate(s, layout, a, x, b, y, Variance::Co, run, list),
         Related::Borrowed(region) => relate::relate_ref(
             s,
             layout,
@@ -231,12 +178,7 @@ fn relate_types(
             y,
             Variance::Contra,
             run,
-            words,
-            first,
-            succ,
-            chain,
-            last,
-            grew,
+            list,
         ),
     }
 }
@@ -251,52 +193,17 @@ fn relate_second(
     b: &[u8; 512],
     found: PathType,
     run: Run,
-    words: &mut [u32],
-    first: &[u16; 1025],
-    succ: &[u16; 1536],
-    chain: &[u32; 32],
-    last: &[u8; 128],
-    grew: &mut [u8; 128],
+    list: &mut [u32],
 )
     requires { ⌜ length (now layout) ≡ 1280 ⌝ }
     ensures { λ _. ⌜ ((q : Path) (kinds names : List ℕ) → PathSays (now (s .entry)) (now (layout .entry)) (run .head) q (now (b .entry)) kinds names found
-        → SecondRuns (now (s .entry)) (now (layout .entry)) run (now (first .entry)) (now (succ .entry)) (now (chain .entry)) (now (last .entry)) how (now (a .entry)) (x .at) q
-        (now (words .entry)) (now (grew .entry)) (now (words .exit)) (now (grew .exit))) ⌝ }
+        → SecondAdds (now (s .entry)) (now (layout .entry)) run how (now (a .entry)) (x .at) q
+        (now (list .entry)) (now (list .exit))) ⌝ }
 {
     match found {
         PathType::Refused => {}
-        PathType::Inside(y) => relate_types(
-            how,
-            s,
-            layout,
-            a,
-            x,
-            s,
-            y,
-            run,
-            words,
-            first,
-            succ,
-            chain,
-            last,
-            grew,
-        ),
-        PathType::Written(y) => relate_types(
-            how,
-            s,
-            layout,
-            a,
-            x,
-            b,
-            y,
-            run,
-            words,
-            first,
-            succ,
-            chain,
-            last,
-            grew,
-        ),
+        PathType::Inside(y) => relate_types(how, s, layout, a, x, s, y, run, list),
+        PathType::Written(y) => relate_types(how, s, layout, a, x, b, y, run, list),
     }
 }
 
@@ -309,73 +216,27 @@ fn relate_found(
     b: &[u8; 512],
     found: PathTypes,
     run: Run,
-    words: &mut [u32],
-    first: &[u16; 1025],
-    succ: &[u16; 1536],
-    chain: &[u32; 32],
-    last: &[u8; 128],
-    grew: &mut [u8; 128],
+    list: &mut [u32],
 )
     requires { ⌜ length (now layout) ≡ 1280 ⌝ }
     ensures { λ _. ⌜ ((p q : Path) (kinds names : List ℕ) → PathTypesSay (now (s .entry)) (now (layout .entry)) (run .head) p q (now (a .entry)) (now (b .entry)) kinds names found
-        → PathsRun (now (s .entry)) (now (layout .entry)) run (now (first .entry)) (now (succ .entry)) (now (chain .entry)) (now (last .entry)) how p q
-        (now (words .entry)) (now (grew .entry)) (now (words .exit)) (now (grew .exit))) ⌝ }
+        → PathsAdd (now (s .entry)) (now (layout .entry)) run how p q
+        (now (list .entry)) (now (list .exit))) ⌝ }
 {
     let first_type = found.p;
     let second_type = found.q;
     match first_type {
         PathType::Refused => {}
-        PathType::Inside(x) => relate_second(
-            how,
-            s,
-            layout,
-            s,
-            x,
-            b,
-            second_type,
-            run,
-            words,
-            first,
-            succ,
-            chain,
-            last,
-            grew,
-        ),
-        PathType::Written(x) => relate_second(
-            how,
-            s,
-            layout,
-            a,
-            x,
-            b,
-            second_type,
-            run,
-            words,
-            first,
-            succ,
-            chain,
-            last,
-            grew,
-        ),
+        PathType::Inside(x) => relate_second(how, s, layout, s, x, b, second_type, run, list),
+        PathType::Written(x) => relate_second(how, s, layout, a, x, b, second_type, run, list),
     }
 }
 
 // Two paths, of which one has steps, and the steps of a borrow's source.
-fn relate_stepped(
-    pair: Pair,
-    s: &[u8],
-    layout: &[u16; 1280],
-    run: Run,
-    words: &mut [u32],
-    first: &[u16; 1025],
-    succ: &[u16; 1536],
-    chain: &[u32; 32],
-    last: &[u8; 128],
-    grew: &mut [u8; 128],
-)
+fn relate_stepped(pair: Pair, s: &[u8], layout: &[u16; 1280], run: Run, list: &mut [u32])
     requires { ⌜ length (now layout) ≡ 1280 ⌝ }
-    ensures { λ _. ⌜ PairRuns (now (s .entry)) (now (layout .entry)) run (now (first .entry)) (now (succ .entry)) (now (chain .entry)) (now (last .entry)) pair
-        (now (words .entry)) (now (grew .entry)) (now (words .exit)) (now (grew .exit)) ⌝ }
+    ensures { λ _. ⌜ PairAdds (now (s .entry)) (now (layout .entry)) run pair
+        (now (list .entry)) (now (list .exit)) ⌝ }
 {
     let how = pair.how;
     let head = run.head;
@@ -386,90 +247,40 @@ fn relate_stepped(
     let mut kind = [0; 8];
     let mut name = [0; 8];
     let found = path_types(s, layout, head, p, q, &mut a, &mut b, &mut kind, &mut name);
-    relate_found(
-        how,
-        s,
-        layout,
-        &a,
-        &b,
-        found,
-        run,
-        words,
-        first,
-        succ,
-        chain,
-        last,
-        grew,
-    );
+    relate_found(how, s, layout, &a, &b, found, run, list);
     let of = source_of(s, q, how, &kind);
-    relate_source(of, &kind, &name, run, words, first, succ, chain, last, grew);
+    relate_source(of, &kind, &name, run, list);
 }
 
 // The constraints of an assignment or a borrow, at the point of the run.
-fn relate_paths(
-    pair: Pair,
-    s: &[u8],
-    layout: &[u16; 1280],
-    run: Run,
-    words: &mut [u32],
-    first: &[u16; 1025],
-    succ: &[u16; 1536],
-    chain: &[u32; 32],
-    last: &[u8; 128],
-    grew: &mut [u8; 128],
-)
+fn relate_paths(pair: Pair, s: &[u8], layout: &[u16; 1280], run: Run, list: &mut [u32])
     requires { ⌜ length (now layout) ≡ 1280 ⌝ }
-    ensures { λ _. ⌜ PairRuns (now (s .entry)) (now (layout .entry)) run (now (first .entry)) (now (succ .entry)) (now (chain .entry)) (now (last .entry)) pair
-        (now (words .entry)) (now (grew .entry)) (now (words .exit)) (now (grew .exit)) ⌝ }
+    ensures { λ _. ⌜ PairAdds (now (s .entry)) (now (layout .entry)) run pair
+        (now (list .entry)) (now (list .exit)) ⌝ }
 {
     let how = pair.how;
     let p = pair.p;
     let q = pair.q;
     if (p.steps != 0) | (q.steps != 0) {
-        relate_stepped(pair, s, layout, run, words, first, succ, chain, last, grew);
+        relate_stepped(pair, s, layout, run, list);
         return;
     }
     let x = variable_at(layout, p.base);
     let y = variable_at(layout, q.base);
-    relate_types(
-        how,
-        s,
-        layout,
-        s,
-        x,
-        s,
-        y,
-        run,
-        words,
-        first,
-        succ,
-        chain,
-        last,
-        grew,
-    );
+    relate_types(how, s, layout, s, x, s, y, run, list);
 }
 
-// Runs the constraints of the action at a point of the blocks. A Constraint's is at that point, all others at the next one.
-pub fn constrain(
-    s: &[u8],
-    layout: &[u16; 1280],
-    run: Run,
-    words: &mut [u32],
-    first: &[u16; 1025],
-    succ: &[u16; 1536],
-    chain: &[u32; 32],
-    last: &[u8; 128],
-    grew: &mut [u8; 128],
-)
+// Adds the constraints of the action at a point of the blocks. A Constraint's is at that point, all others at the next one.
+pub fn constrain(s: &[u8], layout: &[u16; 1280], run: Run, list: &mut [u32])
     requires { ⌜ length (now layout) ≡ 1280 ⌝ }
-    ensures { λ _. ⌜ Constrains (now (s .entry)) (now (layout .entry)) run (now (first .entry)) (now (succ .entry)) (now (chain .entry)) (now (last .entry))
-        (now (words .entry)) (now (grew .entry)) (now (words .exit)) (now (grew .exit)) ⌝ }
+    ensures { λ _. ⌜ Constrains (now (s .entry)) (now (layout .entry)) run
+        (now (list .entry)) (now (list .exit)) ⌝ }
 {
     let p = run.at;
     if 1024 < p {
         return;
     }
-    let ActionStep::Action(a, _) = action_at(s, layout, p) else {
+    let ActionStep::Action(a, _) = action_at(s, layout, wide16(p)) else {
         return;
     };
     let next = after(run);
@@ -485,7 +296,7 @@ pub fn constrain(
                 p: dest,
                 q: source,
             };
-            relate_paths(pair, s, layout, next, words, first, succ, chain, last, grew)
+            relate_paths(pair, s, layout, next, list)
         }
         Action::Assign { dest, source } => {
             let pair = Pair {
@@ -493,12 +304,12 @@ pub fn constrain(
                 p: source,
                 q: dest,
             };
-            relate_paths(pair, s, layout, next, words, first, succ, chain, last, grew)
+            relate_paths(pair, s, layout, next, list)
         }
         Action::Constraint { sup, sub } => {
             let left = Region::Free(sup);
             let right = Region::Free(sub);
-            relate::require_outlives(left, right, run, words, first, succ, chain, last, grew)
+            relate::require_outlives(left, right, run, list)
         }
         _ => {}
     }

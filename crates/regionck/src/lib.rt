@@ -5,9 +5,11 @@ mod round;
 use infer::EndRule;
 use infer::Shape;
 use record::Head;
+use round::Held;
 use round::round;
 ghost use mathlib.Core.Path.{_≡_};
 ghost use mathlib.Core.Bool.{cond};
+ghost use Prim.Native.Nat.{_≤_};
 ghost use lib.ListN.{length};
 ghost use lib.Dec.{eqb};
 ghost use Rattle.nll_spec.specs.Syntax.{Job};
@@ -48,7 +50,7 @@ fn note(grew: &[u8; 128], grown: &mut [u8; 128])
     }
 }
 
-// Runs rounds until no set grows. `grown` marks, by 1, the regions whose sets grew.
+// Runs rounds until no set grows. `grown` marks, by 1, the regions whose sets grew. The list has room for constraints.
 fn solve(
     s: &[u8],
     layout: &[u16; 1280],
@@ -61,16 +63,19 @@ fn solve(
     rule: EndRule,
     words: &mut [u32],
     grown: &mut [u8; 128],
+    list: &mut [u32],
 )
-    requires { ⌜ (length (now layout) ≡ 1280) × (length (now grown) ≡ 128) ⌝ }
+    requires { ⌜ (length (now layout) ≡ 1280) × (length (now grown) ≡ 128) × (265 ≤ length (now list)) ⌝ }
     ensures { λ _. ⌜ (length (now (grown .exit)) ≡ 128) × ((j : Job) → Seeded (now (s .entry)) (now (layout .entry)) head (now (first .entry)) (now (succ .entry)) (now (walked .entry)) shape (now (words .entry)) j
         → Chained (now (chain .entry)) (now (first .entry)) (now (succ .entry)) → Solved (ruleOf rule) j (now (words .entry)) (now (words .exit)) (now (grown .exit))) ⌝ }
 {
     clear(grown);
+    constraint_list::clear(list);
+    let mut held = Held { from: 0, to: 0 };
     let mut last = [1; 128];
     let mut left = ROUNDS;
     while left != 0 {
-        let grew = round(
+        let one = round(
             s,
             layout,
             head,
@@ -82,17 +87,20 @@ fn solve(
             succ,
             chain,
             &last,
+            list,
+            held,
         );
-        if !infer::any_marked(&grew) {
+        last = one.grew;
+        held = one.held;
+        if !infer::any_marked(&last) {
             return;
         }
-        note(&grew, grown);
-        last = grew;
+        note(&last, grown);
         left -= 1;
     }
 }
 
-// The words hold the regions' seeds before, and their least sets after. `grown` marks, by 1, the regions whose sets exceed their seeds.
+// The words hold the regions' seeds before, and their least sets after. `grown` marks, by 1, the declared regions whose sets exceed their seeds.
 pub fn regionck(
     s: &[u8],
     layout: &[u16; 1280],
@@ -110,17 +118,37 @@ pub fn regionck(
         → Solved (ruleOf rule) j (now (words .entry)) (now (words .exit)) (now (grown .exit))) ⌝ }
 {
     let chain = dfs::chains(first, succ, shape.code);
-    solve(
-        s,
-        layout,
-        head,
-        first,
-        succ,
-        &chain,
-        walked,
-        shape,
-        rule,
-        words,
-        grown,
-    );
+    if shape.code <= 64 {
+        let mut list = [0; 513];
+        solve(
+            s,
+            layout,
+            head,
+            first,
+            succ,
+            &chain,
+            walked,
+            shape,
+            rule,
+            words,
+            grown,
+            &mut list,
+        );
+    } else {
+        let mut list = [0; 8193];
+        solve(
+            s,
+            layout,
+            head,
+            first,
+            succ,
+            &chain,
+            walked,
+            shape,
+            rule,
+            words,
+            grown,
+            &mut list,
+        );
+    }
 }

@@ -1,4 +1,4 @@
--- What each way through the relation of two types runs. Assumes nothing.
+-- What each way through the relation of two types adds. Assumes nothing.
 use mathlib.Core.Path.{_≡_, refl, sym, ap, subst, _∙_}
 use mathlib.Core.Bool.{Bool, true, false, _&&_, true≢false}
 use mathlib.Core.List.{List, [], _∷_, _++_, tail}
@@ -7,6 +7,7 @@ use native.Mathlib.Omega.{arith}
 use native.Mathlib.Nat.{le-refl, sub-zero}
 use types.Run.{OneOf, miss}
 use denote.Enum.Declared.{tagOf}
+use denote.Floats.{passes}
 use Rattle.nll_spec.specs.Syntax as syntax
 use Rattle.nll_spec.specs.Syntax.{Ty, UnitTy, RefTy, StructTy, Args, NoArgs, RegionArg, TypeArg, Param, Free}
 use Rattle.nll_spec.specs.Decode.{maxNodes}
@@ -14,8 +15,6 @@ use Rattle.nll_spec.specs.Types.{structOf, headRegion, headType, tailArgs, type
 use Rattle.nll_spec.specs.Constraints.{Outlives, invert, within, referentVariance, headVariance, requireOutlives, relateRegions, relate, relateArgs}
 use Rattle.nll_spec.specs.WellFormed.{isRefOf, sameShape, sameShapes}
 use Rattle.nll_spec.proofs.Tests.{is-true}
-use Rattle.nll_spec.specs.Lists.{here}
-use Rattle.nll_spec.proofs.Members.{member-left, member-right}
 use Rattle.repr.specs.Reading.{rest, borrowKindOf, varianceOf, regionOf}
 use Rattle.repr.specs.Types.{node, NodeSays, nodesSays}
 use Rattle.repr.specs.Types as reprTypes
@@ -31,14 +30,14 @@ use Rattle.repr.proofs.NodeStep.{the-type}
 use Rattle.repr.specs.declared.NodeStep.the-variants as nodeStep
 use Rattle.repr.specs.declared.NodesStep.{NodesStep}
 use Rattle.repr.specs.declared.NodesStep.the-variants as nodesStep
-use Rattle.infer.specs.Ran.{Setting, Given, Names, Ran, constraint}
-use Rattle.infer.proofs.RanLaws.{true-T, ran-none, ran-append, given-kept}
+use Rattle.constraint_list.specs.Listed.{Adds}
+use Rattle.constraint_list.proofs.ListLaws.{adds-none, adds-append}
 use Rattle.repr.specs.Stands.{ArgsTo}
 use Rattle.repr.proofs.SpellLaws.{clash}
 use Rattle.repr.proofs.StandLaws.{NodeIs, node-is, on-node, none-is, args-passed}
 use Rattle.repr.proofs.NodeLaws.{type-nodes, unit-nodes, ref-nodes, struct-nodes, region-nodes, first-nodes, tail-nodes}
 use Rattle.beside.specs.Beside.{headsOf, ParameterSays, TypesFirst, PairIs, FirstsSay}
-use Rattle.relate.specs.Relates.{Runs, Types, Arguments, Ends, Fewer, ParametersSay, relateFirst, OthersAt, Others, TypesRelate, FirstRelates, ArgumentsRelate, Relates, RelatesRef}
+use Rattle.relate.specs.Relates.{Types, Arguments, Ends, Fewer, ParametersSay, relateFirst, OthersAt, Others, TypesRelate, FirstRelates, ArgumentsRelate, Relates, RelatesRef}
 use Rattle.relate.specs.declared.Run.{Run}
 use Rattle.relate.specs.declared.Both.{Both}
 use Rattle.relate.specs.declared.Both.the-variants.{Ended, Stopped}
@@ -50,33 +49,18 @@ use Rattle.beside.specs.declared.Pair.the-variants as pairs
 use Rattle.beside.specs.declared.Parameter.{Parameter}
 use Rattle.beside.proofs.BesideLaws.{HeadsAre, heads-by}
 
--- ---- Runs
+-- ---- Two regions
 
-module _ {run : Run} {first succ chain last : List ℕ} where
-  pub runs-none : {cs : List Outlives} {ws grew : List ℕ} → cs ≡ [] → Runs run first succ chain last cs ws grew ws grew
-  runs-none {ws = ws} {grew = grew} i = record { ran = λ e given named. rw i (ran-none e last ws grew) }
+module _ (at : syntax.Point) {sup : Region} {ls : List ℕ} where
+  pub sup-bound : (sub : Region) {b : ℕ} → sup ≡ regions.Bound b → Adds (requireOutlives at (regionOf sup) (regionOf sub)) ls ls
+  sup-bound sub e = adds-none (rw e)
 
-  pub runs-append : {cs ds : List Outlives} {ws grew ws₁ grew₁ ws₂ grew₂ : List ℕ} → Runs run first succ chain last cs ws grew ws₁ grew₁ → Runs run first succ chain last ds ws₁ grew₁ ws₂ grew₂
-      → Runs run first succ chain last (cs ++ ds) ws grew ws₂ grew₂
-  runs-append {cs} {ds} x y = record {
-    ran = λ e given named.
-        let r = x .ran e given (λ c m. named c (member-left cs ds m)) in
-        ran-append r (y .ran e (given-kept given r) (λ c m. named c (member-right cs ds m)));
-  }
+  pub sub-bound : {sub : Region} {m : RegionName} {b : ℕ} → sup ≡ regions.Free m → sub ≡ regions.Bound b → Adds (requireOutlives at (regionOf sup) (regionOf sub)) ls ls
+  sub-bound e f = adds-none (rw (e, f))
 
-  -- ---- Two regions
-
-  module _ {sup : Region} {ws grew : List ℕ} where
-    pub sup-bound : (sub : Region) {b : ℕ} → sup ≡ regions.Bound b → Runs run first succ chain last (requireOutlives (run .at) (regionOf sup) (regionOf sub)) ws grew ws grew
-    sup-bound sub e = runs-none (rw e)
-
-    pub sub-bound : {sub : Region} {m : RegionName} {b : ℕ} → sup ≡ regions.Free m → sub ≡ regions.Bound b → Runs run first succ chain last (requireOutlives (run .at) (regionOf sup) (regionOf sub)) ws grew ws grew
-    sub-bound e f = runs-none (rw (e, f))
-
-    pub both-free : {sub : Region} {m n : RegionName} {ws′ grew′ : List ℕ} → sup ≡ regions.Free m → sub ≡ regions.Free n
-        → ((e : Setting) → Given e (run .shape) (run .rule) first succ chain ws grew → Names e (constraint (m .0) (n .0) (run .at)) → Ran e last (constraint (m .0) (n .0) (run .at) ∷ []) ws grew ws′ grew′)
-        → Runs run first succ chain last (requireOutlives (run .at) (regionOf sup) (regionOf sub)) ws grew ws′ grew′
-    both-free {m = m} {n = n} {ws′ = ws′} {grew′ = grew′} e f h = subst (λ (cs : List Outlives). Runs run first succ chain last cs ws grew ws′ grew′) (rw (e, f)) (record { ran = λ s given named. h s given (named (constraint (m .0) (n .0) (run .at)) here) })
+  pub both-free : {sub : Region} {m n : RegionName} {ls′ : List ℕ} → sup ≡ regions.Free m → sub ≡ regions.Free n → Adds (record { sup = m .0; sub = n .0; point = at } ∷ []) ls ls′
+      → Adds (requireOutlives at (regionOf sup) (regionOf sub)) ls ls′
+  both-free {ls′ = ls′} e f h = subst (λ (cs : List Outlives). Adds cs ls ls′) (rw (e, f)) h
 
 -- ---- Two types of one shape, by their first nodes
 
@@ -167,38 +151,38 @@ module _ {a : List ℕ} {x : ℕ} {b : List ℕ} {y left : ℕ} {j k : NodeStep}
         let fb = w .b-few in
         record { a-stand = i .a-stand; b-stand = i .b-stand; a-few = omega arith; b-few = omega arith; alike = sym (i .alike) ∙ w .alike }
 
-module _ {s t : List ℕ} {run : Run} {first succ chain last : List ℕ} {a : List ℕ} {x : ℕ} {b : List ℕ} {y left : ℕ} {v : syntax.Variance} {ws grew : List ℕ} where
-  pub types-none : left ≡ 0 → TypesRelate s t run first succ chain last a x b y left v ws grew ws grew Stopped
-  types-none z = record { runs = λ j l m n p q w. absurd (none m (w .a-few)); ends = λ m n p q w. none m (w .a-few); fewer = tt }
+module _ {s t : List ℕ} {run : Run} {a : List ℕ} {x : ℕ} {b : List ℕ} {y left : ℕ} {v : syntax.Variance} {ls : List ℕ} where
+  pub types-none : left ≡ 0 → TypesRelate s t run a x b y left v ls ls Stopped
+  types-none z = record { adds = λ j l m n p q w. absurd (none m (w .a-few)); ends = λ m n p q w. none m (w .a-few); fewer = tt }
     where
       none : (m : Ty) → typeNodes m ≤ left → ⊥
       none m h = let k = type-nodes m in absurd (omega arith)
 
   module _ {j k : NodeStep} {h : Heads} (ma : NodeSays node a x j) (nb : NodeSays node b y k) (eh : h ≡ headsOf j k) where
-    pub types-differ : h ≡ heads.Differ → TypesRelate s t run first succ chain last a x b y left v ws grew ws grew Stopped
+    pub types-differ : h ≡ heads.Differ → TypesRelate s t run a x b y left v ls ls Stopped
     types-differ f = record {
-      runs = λ j l m n p q w. absurd (true≢false (sym (w .alike) ∙ on-heads ma nb eh f m n p q w));
+      adds = λ j l m n p q w. absurd (true≢false (sym (w .alike) ∙ on-heads ma nb eh f m n p q w));
       ends = λ m n p q w. true≢false (sym (w .alike) ∙ on-heads ma nb eh f m n p q w);
       fewer = tt;
     }
 
-    pub types-units : {c d : Cursor} → h ≡ heads.Units c d → TypesRelate s t run first succ chain last a x b y left v ws grew ws grew (Ended (left - 1) c d)
+    pub types-units : {c d : Cursor} → h ≡ heads.Units c d → TypesRelate s t run a x b y left v ls ls (Ended (left - 1) c d)
     types-units f = record {
-      runs = λ j l m n p q w. runs-none (unit-relates (run .at) (j .structs) v n (on-heads ma nb eh f m n p q w .a-same));
+      adds = λ j l m n p q w. adds-none (unit-relates (run .at) (j .structs) v n (on-heads ma nb eh f m n p q w .a-same));
       ends = λ m n p q w. let o = on-heads ma nb eh f m n p q w in let i = unit-nodes (o .a-same) in record { nodes = omega arith; a-ends = o .a-ends; b-ends = o .b-ends };
       fewer = omega arith;
     }
 
     module _ {k′ : BorrowKind} {r o : Region} {c d : Cursor} (f : h ≡ heads.Refs k′ r c o d) (z : left ≡ 0 → ⊥) where
-      pub types-refs : {vi vr vw : syntax.Variance} {ws₁ grew₁ ws₂ grew₂ : List ℕ} {res : Both} → vi ≡ invert v → vr ≡ referentVariance (borrowKindOf k′) → vw ≡ within v vr
-          → Runs run first succ chain last (relateRegions (run .at) vi (regionOf r) (regionOf o)) ws grew ws₁ grew₁
-          → TypesRelate s t run first succ chain last a (c .at) b (d .at) (left - 1) vw ws₁ grew₁ ws₂ grew₂ res
-          → TypesRelate s t run first succ chain last a x b y left v ws grew ws₂ grew₂ res
-      types-refs {vi} {vr} {vw} {ws₂ = ws₂} {grew₂ = grew₂} {res = res} ei er ew one more = record {
-        runs = λ j l m n p q w.
+      pub types-refs : {vi vr vw : syntax.Variance} {ls₁ ls₂ : List ℕ} {res : Both} → vi ≡ invert v → vr ≡ referentVariance (borrowKindOf k′) → vw ≡ within v vr
+          → Adds (relateRegions (run .at) vi (regionOf r) (regionOf o)) ls ls₁
+          → TypesRelate s t run a (c .at) b (d .at) (left - 1) vw ls₁ ls₂ res
+          → TypesRelate s t run a x b y left v ls ls₂ res
+      types-refs {vi} {vr} {vw} {ls₂ = ls₂} {res = res} ei er ew one more = record {
+        adds = λ j l m n p q w.
             let i = on-heads ma nb eh f m n p q w in
-            subst (λ (cs : List Outlives). Runs run first succ chain last cs ws grew ws₂ grew₂) (ref-relates (run .at) (j .structs) v (i .a-same) (i .b-same) ei er ew)
-            (runs-append one (more .runs j l (i .first) (i .second) p q (ref-parts ma nb eh f z m n p q w)));
+            subst (λ (cs : List Outlives). Adds cs ls ls₂) (ref-relates (run .at) (j .structs) v (i .a-same) (i .b-same) ei er ew)
+            (adds-append one (more .adds j l (i .first) (i .second) p q (ref-parts ma nb eh f z m n p q w)));
         ends = λ m n p q w.
             let i = on-heads ma nb eh f m n p q w in
             let k = ref-nodes (i .a-same) in
@@ -208,14 +192,14 @@ module _ {s t : List ℕ} {run : Run} {first succ chain last : List ℕ} {a : Li
       }
 
     module _ {name : StructName} {c d : Row} (f : h ≡ heads.Structs name c d) (z : left ≡ 0 → ⊥) where
-      pub types-structs : {params : Row} {ws₁ grew₁ : List ℕ} {res : Both} → ParametersSay s t (run .head) (name .0) params
-          → ArgumentsRelate s t run first succ chain last params a c b d (left - 1) v ws grew ws₁ grew₁ res
-          → TypesRelate s t run first succ chain last a x b y left v ws grew ws₁ grew₁ res
-      types-structs {ws₁ = ws₁} {grew₁ = grew₁} {res = res} declared more = record {
-        runs = λ j l m n p q w.
+      pub types-structs : {params : Row} {ls₁ : List ℕ} {res : Both} → ParametersSay s t (run .head) (name .0) params
+          → ArgumentsRelate s t run params a c b d (left - 1) v ls ls₁ res
+          → TypesRelate s t run a x b y left v ls ls₁ res
+      types-structs {ls₁ = ls₁} {res = res} declared more = record {
+        adds = λ j l m n p q w.
             let i = on-heads ma nb eh f m n p q w in
-            subst (λ (cs : List Outlives). Runs run first succ chain last cs ws grew ws₁ grew₁) (struct-relates (run .at) (j .structs) v (i .a-same) (i .b-same))
-            (more .runs j l (structOf (j .structs) (name .0) .params) (declared .says j l) (i .first) (i .second) p q (struct-parts ma nb eh f z m n p q w));
+            subst (λ (cs : List Outlives). Adds cs ls ls₁) (struct-relates (run .at) (j .structs) v (i .a-same) (i .b-same))
+            (more .adds j l (structOf (j .structs) (name .0) .params) (declared .says j l) (i .first) (i .second) p q (struct-parts ma nb eh f z m n p q w));
         ends = λ m n p q w.
             let i = on-heads ma nb eh f m n p q w in
             let k = struct-nodes (i .a-same) in
@@ -261,16 +245,16 @@ module _ {a : List ℕ} {x : Row} {b : List ℕ} {y : Row} {left : ℕ} (zx : x 
       let fb = w .b-few in
       record { a-stands = i .first .first; b-stands = i .second .first; a-few = omega arith; b-few = omega arith; alike = types-alike h (i .first .same) (head-is h (i .second .same)) (w .alike) .0 }
 
-module _ {s t : List ℕ} {run : Run} {first succ chain last : List ℕ} {a : List ℕ} {x : Row} {b : List ℕ} {y : Row} {left : ℕ} {v : syntax.Variance} {ws grew : List ℕ} (zx : x .count ≡ 0 → ⊥) {pair : Pair} (np : FirstsSay a (x .from .at) b y pair) where
-  pub first-differ : pair ≡ pairs.Differ → FirstRelates s t run first succ chain last a x b y left v ws grew ws grew Stopped
-  first-differ e = record { runs = λ j l g h p q w. absurd (true≢false (sym (w .alike) ∙ on-pair zx np e g h p q w)); ends = λ g h p q w. true≢false (sym (w .alike) ∙ on-pair zx np e g h p q w); fewer = tt }
+module _ {s t : List ℕ} {run : Run} {a : List ℕ} {x : Row} {b : List ℕ} {y : Row} {left : ℕ} {v : syntax.Variance} {ls : List ℕ} (zx : x .count ≡ 0 → ⊥) {pair : Pair} (np : FirstsSay a (x .from .at) b y pair) where
+  pub first-differ : pair ≡ pairs.Differ → FirstRelates s t run a x b y left v ls ls Stopped
+  first-differ e = record { adds = λ j l g h p q w. absurd (true≢false (sym (w .alike) ∙ on-pair zx np e g h p q w)); ends = λ g h p q w. true≢false (sym (w .alike) ∙ on-pair zx np e g h p q w); fewer = tt }
 
-  pub first-regions : {r o : Region} {c d : Cursor} {ws₁ grew₁ : List ℕ} → pair ≡ pairs.Regions r c o d → Runs run first succ chain last (relateRegions (run .at) v (regionOf r) (regionOf o)) ws grew ws₁ grew₁
-      → FirstRelates s t run first succ chain last a x b y left v ws grew ws₁ grew₁ (Ended left c d)
-  first-regions {ws₁ = ws₁} {grew₁ = grew₁} e one = record {
-    runs = λ j l g h p q w.
+  pub first-regions : {r o : Region} {c d : Cursor} {ls₁ : List ℕ} → pair ≡ pairs.Regions r c o d → Adds (relateRegions (run .at) v (regionOf r) (regionOf o)) ls ls₁
+      → FirstRelates s t run a x b y left v ls ls₁ (Ended left c d)
+  first-regions {ls₁ = ls₁} e one = record {
+    adds = λ j l g h p q w.
         let i = on-pair zx np e g h p q w in
-        subst (λ (cs : List Outlives). Runs run first succ chain last cs ws grew ws₁ grew₁) (region-first (run .at) (j .structs) v h (i .same) (i .second .region)) one;
+        subst (λ (cs : List Outlives). Adds cs ls ls₁) (region-first (run .at) (j .structs) v h (i .same) (i .second .region)) one;
     ends = λ g h p q w.
         let i = on-pair zx np e g h p q w in
         others-at 0 (tail-of g (i .same)) (omega (arith, region-nodes (i .same))) (omega arith) (w .a-few) (w .b-few) (i .others) (i .second .others) (regions-alike h (i .same) (w .alike));
@@ -278,30 +262,30 @@ module _ {s t : List ℕ} {run : Run} {first succ chain last : List ℕ} {a : Li
   }
 
   module _ {c d : Cursor} (e : pair ≡ pairs.Units c d) where
-    pub first-spent : left ≡ 0 → FirstRelates s t run first succ chain last a x b y left v ws grew ws grew Stopped
-    first-spent f = record { runs = λ j l g h p q w. absurd (spent g h p q w); ends = spent; fewer = tt }
+    pub first-spent : left ≡ 0 → FirstRelates s t run a x b y left v ls ls Stopped
+    first-spent f = record { adds = λ j l g h p q w. absurd (spent g h p q w); ends = spent; fewer = tt }
       where
         spent : (g h : Args) (p q : List ℕ) → Arguments a x b y left g h p q → ⊥
         spent g h p q w = let k = unit-few zx np e g h p q w in let l = w .a-few in absurd (omega arith)
 
-    pub first-units : FirstRelates s t run first succ chain last a x b y left v ws grew ws grew (Ended (left - 1) c d)
+    pub first-units : FirstRelates s t run a x b y left v ls ls (Ended (left - 1) c d)
     first-units = record {
-      runs = λ j l g h p q w.
+      adds = λ j l g h p q w.
           let i = on-pair zx np e g h p q w in
-          runs-none (sym (type-first (run .at) (j .structs) v h (i .same) (i .second .unit)) ∙ unit-relates (run .at) (j .structs) v UnitTy refl);
+          adds-none (sym (type-first (run .at) (j .structs) v h (i .same) (i .second .unit)) ∙ unit-relates (run .at) (j .structs) v UnitTy refl);
       ends = λ g h p q w.
           let i = on-pair zx np e g h p q w in
           others-at 1 (tail-is g (i .same)) (unit-few zx np e g h p q w) refl (w .a-few) (w .b-few) (i .others) (i .second .others) (types-alike h (i .same) (i .second .unit) (w .alike) .1);
       fewer = omega arith;
     }
 
-  pub first-types : {c d : Cursor} {ws₁ grew₁ : List ℕ} {res : Both} → pair ≡ pairs.Types c d → TypesRelate s t run first succ chain last a (c .at) b (d .at) left v ws grew ws₁ grew₁ res
-      → FirstRelates s t run first succ chain last a x b y left v ws grew ws₁ grew₁ res
-  first-types {ws₁ = ws₁} {grew₁ = grew₁} {res = res} e u = record {
-    runs = λ j l g h p q w.
+  pub first-types : {c d : Cursor} {ls₁ : List ℕ} {res : Both} → pair ≡ pairs.Types c d → TypesRelate s t run a (c .at) b (d .at) left v ls ls₁ res
+      → FirstRelates s t run a x b y left v ls ls₁ res
+  first-types {ls₁ = ls₁} {res = res} e u = record {
+    adds = λ j l g h p q w.
         let i = on-pair zx np e g h p q w in
-        subst (λ (cs : List Outlives). Runs run first succ chain last cs ws grew ws₁ grew₁) (type-first (run .at) (j .structs) v h (i .first .same) (head-is h (i .second .same)))
-        (u .runs j l (i .first .item) (i .second .item) (i .first .mid) (i .second .mid) (first-parts zx np e g h p q w));
+        subst (λ (cs : List Outlives). Adds cs ls ls₁) (type-first (run .at) (j .structs) v h (i .first .same) (head-is h (i .second .same)))
+        (u .adds j l (i .first .item) (i .second .item) (i .first .mid) (i .second .mid) (first-parts zx np e g h p q w));
     ends = λ g h p q w.
         let i = on-pair zx np e g h p q w in
         go g h p q w i res (u .ends (i .first .item) (i .second .item) (i .first .mid) (i .second .mid) (first-parts zx np e g h p q w));
@@ -319,7 +303,7 @@ module _ {s t : List ℕ} {run : Run} {first succ chain last : List ℕ} {a : Li
 
 -- ---- Two rows of arguments
 
-module _ {s t : List ℕ} {run : Run} {first succ chain last : List ℕ} {a : List ℕ} {x : Row} {b : List ℕ} {y : Row} {left : ℕ} {v : syntax.Variance} {ws grew ws₁ grew₁ : List ℕ} {one : Both} (u : FirstRelates s t run first succ chain last a x b y left v ws grew ws₁ grew₁ one) where
+module _ {s t : List ℕ} {run : Run} {a : List ℕ} {x : Row} {b : List ℕ} {y : Row} {left : ℕ} {v : syntax.Variance} {ls ls₁ : List ℕ} {one : Both} (u : FirstRelates s t run a x b y left v ls ls₁ one) where
   on-first : {w : Both} → one ≡ w → (g h : Args) (p q : List ℕ) → Arguments a x b y left g h p q → Others a (x .count) b (y .count) left g h p q w
   on-first e g h p q w = subst (λ (z : Both). Others a (x .count) b (y .count) left g h p q z) e (u .ends g h p q w)
 
@@ -329,18 +313,18 @@ module _ {s t : List ℕ} {run : Run} {first succ chain last : List ℕ} {a : Li
       let i = on-first e g h p q w .stand in
       record { a-stand = rw (ex .0, ex .1) (i .a-stand); b-stand = rw (ey .0, ey .1) (i .b-stand); a-few = i .a-few; b-few = i .b-few; alike = i .alike }
 
-module _ {s t : List ℕ} {run : Run} {first succ chain last : List ℕ} {params : Row} {a : List ℕ} {x : Row} {b : List ℕ} {y : Row} {left : ℕ} {v : syntax.Variance} {ws grew : List ℕ} where
+module _ {s t : List ℕ} {run : Run} {params : Row} {a : List ℕ} {x : Row} {b : List ℕ} {y : Row} {left : ℕ} {v : syntax.Variance} {ls : List ℕ} where
   module _ {r : NodesStep} (n : reprTypes.ArgumentsSay b (y .from .at) (y .count) 32 r) (z : x .count ≡ 0) where
-    pub arguments-short : {k : ℕ} → r ≡ nodesStep.Refused k → ArgumentsRelate s t run first succ chain last params a x b y left v ws grew ws grew Stopped
-    arguments-short e = record { runs = λ j l ds o g h p q w. absurd (short g h p q w); ends = short; fewer = tt }
+    pub arguments-short : {k : ℕ} → r ≡ nodesStep.Refused k → ArgumentsRelate s t run params a x b y left v ls ls Stopped
+    arguments-short e = record { adds = λ j l ds o g h p q w. absurd (short g h p q w); ends = short; fewer = tt }
       where
         short : (g h : Args) (p q : List ℕ) → Arguments a x b y left g h p q → ⊥
         short g h p q w = clash (sym (ap (nodesSays b) e) ∙ args-passed n (w .b-stand) (w .b-few))
 
-    pub arguments-none : {l : ℕ} {d : Cursor} → r ≡ nodesStep.Ended l d → ArgumentsRelate s t run first succ chain last params a x b y left v ws grew ws grew (Ended left (x .from) d)
+    pub arguments-none : {l : ℕ} {d : Cursor} → r ≡ nodesStep.Ended l d → ArgumentsRelate s t run params a x b y left v ls ls (Ended left (x .from) d)
     unfolding argNodes
     arguments-none {l} {d} e = record {
-      runs = λ j l ds o g h p q w. runs-none (none-relates (run .at) (j .structs) v ds h (none-is z (w .a-stand) .same));
+      adds = λ j l ds o g h p q w. adds-none (none-relates (run .at) (j .structs) v ds h (none-is z (w .a-stand) .same));
       ends = λ g h p q w.
           let i = none-is z (w .a-stand) in
           let k = sym (ap (nodesSays b) e) ∙ args-passed n (w .b-stand) (w .b-few) in
@@ -349,35 +333,35 @@ module _ {s t : List ℕ} {run : Run} {first succ chain last : List ℕ} {params
       fewer = le-refl left;
     }
 
-  module _ {own : Parameter} (par : ParameterSays s params own) {vw : syntax.Variance} (ew : vw ≡ within v (varianceOf (own .variance))) {ws₁ grew₁ : List ℕ} {one : Both} (u : FirstRelates s t run first succ chain last a x b y left vw ws grew ws₁ grew₁ one) where
-    pub arguments-stopped : one ≡ Stopped → ArgumentsRelate s t run first succ chain last params a x b y left v ws grew ws₁ grew₁ Stopped
-    arguments-stopped e = record { runs = λ j l ds o g h p q w. absurd (on-first u e g h p q w); ends = on-first u e; fewer = tt }
+  module _ {own : Parameter} (par : ParameterSays s params own) {vw : syntax.Variance} (ew : vw ≡ within v (varianceOf (own .variance))) {ls₁ : List ℕ} {one : Both} (u : FirstRelates s t run a x b y left vw ls ls₁ one) where
+    pub arguments-stopped : one ≡ Stopped → ArgumentsRelate s t run params a x b y left v ls ls₁ Stopped
+    arguments-stopped e = record { adds = λ j l ds o g h p q w. absurd (on-first u e g h p q w); ends = on-first u e; fewer = tt }
 
     module _ {rem : ℕ} {c d : Cursor} (e : one ≡ Ended rem c d) {x′ y′ : Row} (ex : (x′ .from ≡ c) × (x′ .count ≡ x .count - 1)) (ey : (y′ .from ≡ d) × (y′ .count ≡ y .count - 1)) where
-      pub arguments-more : {ws₂ grew₂ : List ℕ} {res : Both} → ArgumentsRelate s t run first succ chain last (own .others) a x′ b y′ rem v ws₁ grew₁ ws₂ grew₂ res
-          → ArgumentsRelate s t run first succ chain last params a x b y left v ws grew ws₂ grew₂ res
-      arguments-more {ws₂} {grew₂} {res} more = record {
-        runs = λ j l ds o g h p q w.
+      pub arguments-more : {ls₂ : List ℕ} {res : Both} → ArgumentsRelate s t run (own .others) a x′ b y′ rem v ls₁ ls₂ res
+          → ArgumentsRelate s t run params a x b y left v ls ls₂ res
+      arguments-more {ls₂} {res} more = record {
+        adds = λ j l ds o g h p q w.
             let k = par .says ds o in
-            subst (λ (cs : List Outlives). Runs run first succ chain last cs ws grew ws₂ grew₂) (rows-relate (run .at) (j .structs) g v ds h (k .variance) ew)
-            (runs-append (u .runs j l g h p q w) (more .runs j l (tail ds) (k .others) (tailArgs g) (tailArgs h) p q (others-stand u e ex ey g h p q w)));
+            subst (λ (cs : List Outlives). Adds cs ls ls₂) (rows-relate (run .at) (j .structs) g v ds h (k .variance) ew)
+            (adds-append (u .adds j l g h p q w) (more .adds j l (tail ds) (k .others) (tailArgs g) (tailArgs h) p q (others-stand u e ex ey g h p q w)));
         ends = λ g h p q w. subst (λ (l : ℕ). Ends a b l p q res) (on-first u e g h p q w .nodes) (more .ends (tailArgs g) (tailArgs h) p q (others-stand u e ex ey g h p q w));
         fewer = fewer-still res (more .fewer) (rest-fewer one (u .fewer) e);
       }
 
 -- ---- Whole types
 
-module _ {s t : List ℕ} {run : Run} {first succ chain last : List ℕ} {a : List ℕ} {x : ℕ} {b : List ℕ} {y : ℕ} {v : syntax.Variance} {ws grew : List ℕ} where
-  pub whole-types : {ws′ grew′ : List ℕ} {r : Both} → TypesRelate s t run first succ chain last a x b y 32 v ws grew ws′ grew′ r → Relates s t run first succ chain last a x b y v ws grew ws′ grew′
+module _ {s t : List ℕ} {run : Run} {a : List ℕ} {x : ℕ} {b : List ℕ} {y : ℕ} {v : syntax.Variance} {ls : List ℕ} where
+  pub whole-types : {ls′ : List ℕ} {r : Both} → TypesRelate s t run a x b y 32 v ls ls′ r → Relates s t run a x b y v ls ls′
   whole-types w = record {
-    runs = λ j l m n p q h i k.
-        w .runs j l m n (p .over) (q .over) (record { a-stands = p .stands; b-stands = q .stands; a-few = h; b-few = i; alike = is-true _ k });
+    adds = λ j l m n p q h i k.
+        w .adds j l m n (p .over) (q .over) (record { a-stands = p .stands; b-stands = q .stands; a-few = h; b-few = i; alike = is-true _ k });
   }
 
   module _ {d : NodeStep} (m : NodeSays node a x d) {o : RegionName} where
-    pub ref-other : OneOf (0 ∷ 2 ∷ 3 ∷ 4 ∷ []) (tagOf the-type d) → RelatesRef (o .0) s t run first succ chain last a x b y v ws grew ws grew
+    pub ref-other : OneOf (0 ∷ 2 ∷ 3 ∷ 4 ∷ []) (tagOf the-type d) → RelatesRef (o .0) s t run a x b y v ls ls
     unfolding sameShape
-    ref-other f = record { runs = λ j l t u k p q h i e. absurd (go t u k (p .over) d f (node-is m (p .stands)) (is-true _ e)) }
+    ref-other f = record { adds = λ j l t u k p q h i e. absurd (go t u k (p .over) d f (node-is m (p .stands)) (is-true _ e)) }
       where
         go : (t u : Ty) (k : syntax.BorrowKind) (over : List ℕ) (n : NodeStep) → OneOf (0 ∷ 2 ∷ 3 ∷ 4 ∷ []) (tagOf the-type n) → NodeIs a t over n → sameShape t (RefTy k (Free (o .0)) u) ≡ true → ⊥
         go t u k over (nodeStep.Unit c) e w i = true≢false (sym i ∙ rw (w .same))
@@ -386,17 +370,17 @@ module _ {s t : List ℕ} {run : Run} {first succ chain last : List ℕ} {a : Li
         go t u k over (nodeStep.Bound j c) e w i = true≢false (sym i ∙ rw (w .same))
         go t u k over (nodeStep.Refused j) e w i = w
 
-    pub ref-runs : {k′ : BorrowKind} {r : Region} {c : Cursor} {vi vr vw : syntax.Variance} {ws₁ grew₁ ws₂ grew₂ : List ℕ} → d ≡ nodeStep.Ref k′ r c
+    pub ref-runs : {k′ : BorrowKind} {r : Region} {c : Cursor} {vi vr vw : syntax.Variance} {ls₁ ls₂ : List ℕ} → d ≡ nodeStep.Ref k′ r c
         → vi ≡ invert v → vr ≡ referentVariance (borrowKindOf k′) → vw ≡ within v vr
-        → Runs run first succ chain last (relateRegions (run .at) vi (regionOf r) (Free (o .0))) ws grew ws₁ grew₁
-        → Relates s t run first succ chain last a (c .at) b y vw ws₁ grew₁ ws₂ grew₂
-        → RelatesRef (o .0) s t run first succ chain last a x b y v ws grew ws₂ grew₂
-    ref-runs {ws₂ = ws₂} {grew₂ = grew₂} f ei er ew one more = record {
-      runs = λ j l t u k p q h i e.
+        → Adds (relateRegions (run .at) vi (regionOf r) (Free (o .0))) ls ls₁
+        → Relates s t run a (c .at) b y vw ls₁ ls₂
+        → RelatesRef (o .0) s t run a x b y v ls ls₂
+    ref-runs {ls₂ = ls₂} f ei er ew one more = record {
+      adds = λ j l t u k p q h i e.
           let w = on-node m f (p .stands) in
           let n = ref-nodes (w .same) in
-          subst (λ (cs : List Outlives). Runs run first succ chain last cs ws grew ws₂ grew₂) (ref-relates (run .at) (j .structs) v (w .same) refl ei er ew)
-          (runs-append one (more .runs j l (w .referent) u (record { over = p .over; stands = w .stands }) q (omega arith) i (true-T _ (refs-alike {u = RefTy k (Free (o .0)) u} (w .same) refl (is-true _ e)))));
+          subst (λ (cs : List Outlives). Adds cs ls ls₂) (ref-relates (run .at) (j .structs) v (w .same) refl ei er ew)
+          (adds-append one (more .adds j l (w .referent) u (record { over = p .over; stands = w .stands }) q (omega arith) i (passes _ (refs-alike {u = RefTy k (Free (o .0)) u} (w .same) refl (is-true _ e)))));
     }
 
 -- ---- The measure of the recursion

@@ -1,4 +1,4 @@
--- What relating two types does: it runs the constraints of `Constraints.relate`, and tells where the types end.
+-- What relating two types does: it adds the constraints of `Constraints.relate` to a list, and tells where the types end.
 use mathlib.Core.Path.{_≡_}
 use mathlib.Core.Bool.{true}
 use mathlib.Core.List.{List, []}
@@ -14,15 +14,11 @@ use Rattle.repr.specs.Reading.{rest}
 use Rattle.repr.specs.Stands.{Stands, TypeTo, ArgsTo, TypeAt}
 use Rattle.record.specs.Layout.{Layout}
 use Rattle.record.specs.declared.Head.{Head}
-use Rattle.infer.specs.Ran.{Setting, Given, AllNamed, Ran}
+use Rattle.constraint_list.specs.Listed.{Adds}
 use Rattle.relate.specs.declared.Run.{Run}
 use Rattle.beside.specs.declared.Row.{Row}
 use Rattle.relate.specs.declared.Both.{Both}
 use Rattle.relate.specs.declared.Both.the-variants as both
-
--- The constraints cs are run, in every setting that is given and has their names.
-pub record Runs (run : Run) (first succ chain last : List ℕ) (cs : List Outlives) (ws grew ws′ grew′ : List ℕ) : Type 0 where
-  pub ran : (e : Setting) → Given e (run .shape) (run .rule) first succ chain ws grew → AllNamed e cs → Ran e last cs ws grew ws′ grew′
 
 -- ---- Two types, or two rows of arguments, of one shape
 
@@ -56,7 +52,7 @@ abbrev pub Fewer : ℕ → Both → Type 0
 Fewer left (both.Ended l c d) = l ≤ left
 Fewer left both.Stopped = Unit {0}
 
--- ---- What is run, and where both end
+-- ---- What is added, and where both end
 
 -- The struct's parameters stand there.
 pub record ParametersSay (s t : List ℕ) (h : Head) (name : StructName) (r : Row) : Type 0 where
@@ -77,36 +73,36 @@ abbrev pub Others : List ℕ → ℕ → List ℕ → ℕ → ℕ → Args → A
 Others a m b n left g h p q (both.Ended l c d) = OthersAt a (record { from = c; count = m - 1 }) b (record { from = d; count = n - 1 }) left l g h p q
 Others a m b n left g h p q both.Stopped = ⊥
 
-module _ (s t : List ℕ) (run : Run) (first succ chain last : List ℕ) where
-  pub record TypesRelate (a : List ℕ) (x : ℕ) (b : List ℕ) (y left : ℕ) (v : Variance) (ws grew ws′ grew′ : List ℕ) (r : Both) : Type 0 where
-    pub runs : (j : Job) → Layout s t (run .head) j → (m n : Ty) (p q : List ℕ) → Types a x b y left m n p q
-        → Runs run first succ chain last (relate (run .at) (j .structs) m v n) ws grew ws′ grew′
+module _ (s t : List ℕ) (run : Run) where
+  pub record TypesRelate (a : List ℕ) (x : ℕ) (b : List ℕ) (y left : ℕ) (v : Variance) (ls ls′ : List ℕ) (r : Both) : Type 0 where
+    pub adds : (j : Job) → Layout s t (run .head) j → (m n : Ty) (p q : List ℕ) → Types a x b y left m n p q
+        → Adds (relate (run .at) (j .structs) m v n) ls ls′
     pub ends : (m n : Ty) (p q : List ℕ) → Types a x b y left m n p q → Ends a b (left - typeNodes m) p q r
     pub fewer : Fewer left r
 
   -- The first arguments, under their own variance.
-  pub record FirstRelates (a : List ℕ) (x : Row) (b : List ℕ) (y : Row) (left : ℕ) (v : Variance) (ws grew ws′ grew′ : List ℕ) (r : Both) : Type 0 where
-    pub runs : (j : Job) → Layout s t (run .head) j → (g h : Args) (p q : List ℕ) → Arguments a x b y left g h p q
-        → Runs run first succ chain last (relateFirst (run .at) (j .structs) g v h) ws grew ws′ grew′
+  pub record FirstRelates (a : List ℕ) (x : Row) (b : List ℕ) (y : Row) (left : ℕ) (v : Variance) (ls ls′ : List ℕ) (r : Both) : Type 0 where
+    pub adds : (j : Job) → Layout s t (run .head) j → (g h : Args) (p q : List ℕ) → Arguments a x b y left g h p q
+        → Adds (relateFirst (run .at) (j .structs) g v h) ls ls′
     pub ends : (g h : Args) (p q : List ℕ) → Arguments a x b y left g h p q → Others a (x .count) b (y .count) left g h p q r
     pub fewer : Fewer left r
 
-  pub record ArgumentsRelate (params : Row) (a : List ℕ) (x : Row) (b : List ℕ) (y : Row) (left : ℕ) (v : Variance) (ws grew ws′ grew′ : List ℕ) (r : Both) : Type 0 where
-    pub runs : (j : Job) → Layout s t (run .head) j → (ds : List Param) → Stands (items (params .count) param) ds (rest s (params .from))
+  pub record ArgumentsRelate (params : Row) (a : List ℕ) (x : Row) (b : List ℕ) (y : Row) (left : ℕ) (v : Variance) (ls ls′ : List ℕ) (r : Both) : Type 0 where
+    pub adds : (j : Job) → Layout s t (run .head) j → (ds : List Param) → Stands (items (params .count) param) ds (rest s (params .from))
         → (g h : Args) (p q : List ℕ) → Arguments a x b y left g h p q
-        → Runs run first succ chain last (relateArgs (run .at) (j .structs) g v ds h) ws grew ws′ grew′
+        → Adds (relateArgs (run .at) (j .structs) g v ds h) ls ls′
     pub ends : (g h : Args) (p q : List ℕ) → Arguments a x b y left g h p q → Ends a b (left - argNodes g) p q r
     pub fewer : Fewer left r
 
   -- ---- Whole types
 
-  -- The constraints of the two types that stand there are run, if the types have one shape.
-  pub record Relates (a : List ℕ) (x : ℕ) (b : List ℕ) (y : ℕ) (v : Variance) (ws grew ws′ grew′ : List ℕ) : Type 0 where
-    pub runs : (j : Job) → Layout s t (run .head) j → (m n : Ty) → TypeAt a x m → TypeAt b y n → typeNodes m ≤ maxNodes → typeNodes n ≤ maxNodes → T (sameShape m n)
-        → Runs run first succ chain last (relate (run .at) (j .structs) m v n) ws grew ws′ grew′
+  -- The constraints of the two types that stand there are added, if the types have one shape.
+  pub record Relates (a : List ℕ) (x : ℕ) (b : List ℕ) (y : ℕ) (v : Variance) (ls ls′ : List ℕ) : Type 0 where
+    pub adds : (j : Job) → Layout s t (run .head) j → (m n : Ty) → TypeAt a x m → TypeAt b y n → typeNodes m ≤ maxNodes → typeNodes n ≤ maxNodes → T (sameShape m n)
+        → Adds (relate (run .at) (j .structs) m v n) ls ls′
 
 -- The same for a Ref of a region to the second.
-pub record RelatesRef (o : RegionName) (s t : List ℕ) (run : Run) (first succ chain last a : List ℕ) (x : ℕ) (b : List ℕ) (y : ℕ) (v : Variance) (ws grew ws′ grew′ : List ℕ) : Type 0 where
-  pub runs : (j : Job) → Layout s t (run .head) j → (m n : Ty) (k : BorrowKind) → TypeAt a x m → TypeAt b y n → typeNodes m ≤ maxNodes → typeNodes n ≤ maxNodes
+pub record RelatesRef (o : RegionName) (s t : List ℕ) (run : Run) (a : List ℕ) (x : ℕ) (b : List ℕ) (y : ℕ) (v : Variance) (ls ls′ : List ℕ) : Type 0 where
+  pub adds : (j : Job) → Layout s t (run .head) j → (m n : Ty) (k : BorrowKind) → TypeAt a x m → TypeAt b y n → typeNodes m ≤ maxNodes → typeNodes n ≤ maxNodes
       → T (sameShape m (RefTy k (Free o) n))
-      → Runs run first succ chain last (relate (run .at) (j .structs) m v (RefTy k (Free o) n)) ws grew ws′ grew′
+      → Adds (relate (run .at) (j .structs) m v (RefTy k (Free o) n)) ls ls′

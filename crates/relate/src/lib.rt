@@ -1,4 +1,4 @@
-// Two types related under a variance at a point: the constraints of their regions are run one by one.
+// Two types related under a variance at a point: the constraints of their regions are added to a list.
 mod variance;
 
 use beside::Heads;
@@ -8,9 +8,7 @@ use beside::after;
 use beside::beside;
 use beside::first_pair;
 use beside::first_parameter;
-use infer::EndRule;
-use infer::RegionVariable;
-use infer::Shape;
+use constraint_list::Constraint;
 use record::Head;
 use repr::Cursor;
 use repr::NodeStep;
@@ -26,14 +24,13 @@ ghost use mathlib.Core.Path.{_≡_};
 ghost use lib.ListN.{length};
 ghost use Rattle.nll_spec.specs.Constraints.{requireOutlives, relateRegions};
 ghost use Rattle.repr.specs.Reading.{varianceOf, regionOf};
-ghost use Rattle.relate.specs.Relates.{Runs, ParametersSay, TypesRelate, FirstRelates, ArgumentsRelate, Relates, RelatesRef};
+ghost use Rattle.constraint_list.specs.Listed.{Adds};
+ghost use Rattle.relate.specs.Relates.{ParametersSay, TypesRelate, FirstRelates, ArgumentsRelate, Relates, RelatesRef};
 
-// What constraints are made and run with: the record's head, their point, the sizes of the region sets, and the end rule.
+// What constraints are made with: the record's head, and their point.
 pub struct Run {
     pub head: Head,
-    pub at: usize,
-    pub shape: Shape,
-    pub rule: EndRule,
+    pub at: u16,
 }
 
 // Where two types begin. The first has at most `left` nodes.
@@ -58,19 +55,9 @@ enum Both {
 }
 
 // The first outlives the second. A bound gives no constraint.
-pub fn require_outlives(
-    sup: Region,
-    sub: Region,
-    run: Run,
-    words: &mut [u32],
-    first: &[u16; 1025],
-    succ: &[u16; 1536],
-    chain: &[u32; 32],
-    last: &[u8; 128],
-    grew: &mut [u8; 128],
-)
-    ensures { λ _. ⌜ Runs run (now (first .entry)) (now (succ .entry)) (now (chain .entry)) (now (last .entry)) (requireOutlives (run .at) (regionOf sup) (regionOf sub))
-        (now (words .entry)) (now (grew .entry)) (now (words .exit)) (now (grew .exit)) ⌝ }
+pub fn require_outlives(sup: Region, sub: Region, run: Run, list: &mut [u32])
+    ensures { λ _. ⌜ Adds (requireOutlives (run .at) (regionOf sup) (regionOf sub))
+        (now (list .entry)) (now (list .exit)) ⌝ }
 {
     let Region::Free(m) = sup else {
         return;
@@ -78,45 +65,25 @@ pub fn require_outlives(
     let Region::Free(n) = sub else {
         return;
     };
-    let shape = run.shape;
-    let rule = run.rule;
-    infer::outlives(
-        words,
-        first,
-        succ,
-        chain,
-        shape,
-        rule,
-        last,
-        grew,
-        RegionVariable(m.0),
-        RegionVariable(n.0),
-        run.at,
-    );
+    let c = Constraint {
+        sup: m.0,
+        sub: n.0,
+        point: run.at,
+    };
+    constraint_list::add(list, c);
 }
 
 // Co: the second outlives the first. Contra: the first outlives the second. In: both.
-fn relate_regions(
-    variance: Variance,
-    a: Region,
-    b: Region,
-    run: Run,
-    words: &mut [u32],
-    first: &[u16; 1025],
-    succ: &[u16; 1536],
-    chain: &[u32; 32],
-    last: &[u8; 128],
-    grew: &mut [u8; 128],
-)
-    ensures { λ _. ⌜ Runs run (now (first .entry)) (now (succ .entry)) (now (chain .entry)) (now (last .entry)) (relateRegions (run .at) (varianceOf variance) (regionOf a) (regionOf b))
-        (now (words .entry)) (now (grew .entry)) (now (words .exit)) (now (grew .exit)) ⌝ }
+fn relate_regions(variance: Variance, a: Region, b: Region, run: Run, list: &mut [u32])
+    ensures { λ _. ⌜ Adds (relateRegions (run .at) (varianceOf variance) (regionOf a) (regionOf b))
+        (now (list .entry)) (now (list .exit)) ⌝ }
 {
     match variance {
-        Variance::Co => require_outlives(b, a, run, words, first, succ, chain, last, grew),
-        Variance::Contra => require_outlives(a, b, run, words, first, succ, chain, last, grew),
+        Variance::Co => require_outlives(b, a, run, list),
+        Variance::Contra => require_outlives(a, b, run, list),
         Variance::In => {
-            require_outlives(a, b, run, words, first, succ, chain, last, grew);
-            require_outlives(b, a, run, words, first, succ, chain, last, grew)
+            require_outlives(a, b, run, list);
+            require_outlives(b, a, run, list)
         }
     }
 }
@@ -143,17 +110,12 @@ fn relate_types(
     two: Types,
     v: Variance,
     run: Run,
-    words: &mut [u32],
-    first: &[u16; 1025],
-    succ: &[u16; 1536],
-    chain: &[u32; 32],
-    last: &[u8; 128],
-    grew: &mut [u8; 128],
+    list: &mut [u32],
 ) -> Both
     requires { ⌜ length (now layout) ≡ 1280 ⌝ }
-    ensures { λ r. ⌜ TypesRelate (now (s .entry)) (now (layout .entry)) run (now (first .entry)) (now (succ .entry)) (now (chain .entry)) (now (last .entry))
+    ensures { λ r. ⌜ TypesRelate (now (s .entry)) (now (layout .entry)) run
         (now (a .entry)) (two .a .at) (now (b .entry)) (two .b .at) (two .left) (varianceOf v)
-        (now (words .entry)) (now (grew .entry)) (now (words .exit)) (now (grew .exit)) r ⌝ }
+        (now (list .entry)) (now (list .exit)) r ⌝ }
 {
     if two.left == 0 {
         return Both::Stopped;
@@ -171,24 +133,10 @@ fn relate_types(
             o,
             b: q,
         } => {
-            relate_regions(invert(v), r, o, run, words, first, succ, chain, last, grew);
+            relate_regions(invert(v), r, o, run, list);
             let w = within(v, referent_variance(kind));
             let to = Types { a: p, b: q, left };
-            relate_types(
-                s,
-                layout,
-                a,
-                b,
-                to,
-                w,
-                run,
-                words,
-                first,
-                succ,
-                chain,
-                last,
-                grew,
-            )
+            relate_types(s, layout, a, b, to, w, run, list)
         }
         Heads::Structs { name, a: g, b: h } => {
             let head = run.head;
@@ -199,21 +147,7 @@ fn relate_types(
                 b: h,
                 left,
             };
-            relate_arguments(
-                s,
-                layout,
-                a,
-                b,
-                of,
-                v,
-                run,
-                words,
-                first,
-                succ,
-                chain,
-                last,
-                grew,
-            )
+            relate_arguments(s, layout, a, b, of, v, run, list)
         }
     }
 }
@@ -227,17 +161,12 @@ fn relate_first(
     two: Rows,
     v: Variance,
     run: Run,
-    words: &mut [u32],
-    first: &[u16; 1025],
-    succ: &[u16; 1536],
-    chain: &[u32; 32],
-    last: &[u8; 128],
-    grew: &mut [u8; 128],
+    list: &mut [u32],
 ) -> Both
     requires { ⌜ (length (now layout) ≡ 1280) × (two .a .count ≡ 0 → ⊥) ⌝ }
-    ensures { λ r. ⌜ FirstRelates (now (s .entry)) (now (layout .entry)) run (now (first .entry)) (now (succ .entry)) (now (chain .entry)) (now (last .entry))
+    ensures { λ r. ⌜ FirstRelates (now (s .entry)) (now (layout .entry)) run
         (now (a .entry)) (two .a) (now (b .entry)) (two .b) (two .left) (varianceOf v)
-        (now (words .entry)) (now (grew .entry)) (now (words .exit)) (now (grew .exit)) r ⌝ }
+        (now (list .entry)) (now (list .exit)) r ⌝ }
 {
     let g = two.a;
     let x = g.from;
@@ -246,7 +175,7 @@ fn relate_first(
     match first_pair(a, x, b, h) {
         Pair::Differ => Both::Stopped,
         Pair::Regions { r, a: p, o, b: q } => {
-            relate_regions(v, r, o, run, words, first, succ, chain, last, grew);
+            relate_regions(v, r, o, run, list);
             Both::Ended { left, a: p, b: q }
         }
         Pair::Units(p, q) => {
@@ -261,21 +190,7 @@ fn relate_first(
         }
         Pair::Types(p, q) => {
             let to = Types { a: p, b: q, left };
-            relate_types(
-                s,
-                layout,
-                a,
-                b,
-                to,
-                v,
-                run,
-                words,
-                first,
-                succ,
-                chain,
-                last,
-                grew,
-            )
+            relate_types(s, layout, a, b, to, v, run, list)
         }
     }
 }
@@ -289,17 +204,12 @@ fn relate_arguments(
     two: Rows,
     v: Variance,
     run: Run,
-    words: &mut [u32],
-    first: &[u16; 1025],
-    succ: &[u16; 1536],
-    chain: &[u32; 32],
-    last: &[u8; 128],
-    grew: &mut [u8; 128],
+    list: &mut [u32],
 ) -> Both
     requires { ⌜ length (now layout) ≡ 1280 ⌝ }
-    ensures { λ r. ⌜ ArgumentsRelate (now (s .entry)) (now (layout .entry)) run (now (first .entry)) (now (succ .entry)) (now (chain .entry)) (now (last .entry))
+    ensures { λ r. ⌜ ArgumentsRelate (now (s .entry)) (now (layout .entry)) run
         (two .params) (now (a .entry)) (two .a) (now (b .entry)) (two .b) (two .left) (varianceOf v)
-        (now (words .entry)) (now (grew .entry)) (now (words .exit)) (now (grew .exit)) r ⌝ }
+        (now (list .entry)) (now (list .exit)) r ⌝ }
 {
     let g = two.a;
     let h = two.b;
@@ -319,21 +229,7 @@ fn relate_arguments(
     let own = first_parameter(s, params);
     let declared = own.variance;
     let w = within(v, declared);
-    match relate_first(
-        s,
-        layout,
-        a,
-        b,
-        two,
-        w,
-        run,
-        words,
-        first,
-        succ,
-        chain,
-        last,
-        grew,
-    ) {
+    match relate_first(s, layout, a, b, two, w, run, list) {
         Both::Stopped => Both::Stopped,
         Both::Ended { left, a: p, b: q } => {
             let others = own.others;
@@ -343,21 +239,7 @@ fn relate_arguments(
                 b: after(h, q),
                 left,
             };
-            relate_arguments(
-                s,
-                layout,
-                a,
-                b,
-                to,
-                v,
-                run,
-                words,
-                first,
-                succ,
-                chain,
-                last,
-                grew,
-            )
+            relate_arguments(s, layout, a, b, to, v, run, list)
         }
     }
 }
@@ -372,38 +254,19 @@ pub fn relate(
     y: Cursor,
     variance: Variance,
     run: Run,
-    words: &mut [u32],
-    first: &[u16; 1025],
-    succ: &[u16; 1536],
-    chain: &[u32; 32],
-    last: &[u8; 128],
-    grew: &mut [u8; 128],
+    list: &mut [u32],
 )
     requires { ⌜ length (now layout) ≡ 1280 ⌝ }
-    ensures { λ _. ⌜ Relates (now (s .entry)) (now (layout .entry)) run (now (first .entry)) (now (succ .entry)) (now (chain .entry)) (now (last .entry))
+    ensures { λ _. ⌜ Relates (now (s .entry)) (now (layout .entry)) run
         (now (a .entry)) (x .at) (now (b .entry)) (y .at) (varianceOf variance)
-        (now (words .entry)) (now (grew .entry)) (now (words .exit)) (now (grew .exit)) ⌝ }
+        (now (list .entry)) (now (list .exit)) ⌝ }
 {
     let two = Types {
         a: x,
         b: y,
         left: 32,
     };
-    relate_types(
-        s,
-        layout,
-        a,
-        b,
-        two,
-        variance,
-        run,
-        words,
-        first,
-        succ,
-        chain,
-        last,
-        grew,
-    );
+    relate_types(s, layout, a, b, two, variance, run, list);
 }
 
 // Relates the type at x of a with a Ref of a region to the type at y of b, which has its shape.
@@ -417,17 +280,12 @@ pub fn relate_ref(
     y: Cursor,
     variance: Variance,
     run: Run,
-    words: &mut [u32],
-    first: &[u16; 1025],
-    succ: &[u16; 1536],
-    chain: &[u32; 32],
-    last: &[u8; 128],
-    grew: &mut [u8; 128],
+    list: &mut [u32],
 )
     requires { ⌜ length (now layout) ≡ 1280 ⌝ }
-    ensures { λ _. ⌜ RelatesRef (region .0) (now (s .entry)) (now (layout .entry)) run (now (first .entry)) (now (succ .entry)) (now (chain .entry)) (now (last .entry))
+    ensures { λ _. ⌜ RelatesRef (region .0) (now (s .entry)) (now (layout .entry)) run
         (now (a .entry)) (x .at) (now (b .entry)) (y .at) (varianceOf variance)
-        (now (words .entry)) (now (grew .entry)) (now (words .exit)) (now (grew .exit)) ⌝ }
+        (now (list .entry)) (now (list .exit)) ⌝ }
 {
     let NodeStep::Ref {
         kind,
@@ -437,33 +295,7 @@ pub fn relate_ref(
     else {
         return;
     };
-    relate_regions(
-        invert(variance),
-        r,
-        Region::Free(region),
-        run,
-        words,
-        first,
-        succ,
-        chain,
-        last,
-        grew,
-    );
+    relate_regions(invert(variance), r, Region::Free(region), run, list);
     let v = within(variance, referent_variance(kind));
-    relate(
-        s,
-        layout,
-        a,
-        referent,
-        b,
-        y,
-        v,
-        run,
-        words,
-        first,
-        succ,
-        chain,
-        last,
-        grew,
-    );
+    relate(s, layout, a, referent, b, y, v, run, list);
 }

@@ -28,53 +28,53 @@ use Rattle.repr.proofs.Cursor.type_node.Reads as type-node-reads
 use Rattle.relate.proofs.+relate_arguments+relate_first+relate_types.{statement}
 use Rattle.relate.proofs.+relate_arguments+relate_first+relate_types.Tie.{close}
 
-abbrev μ-relate-arguments : Measures 10 relate-arguments-kinds.ps ℕ
+abbrev μ-relate-arguments : Measures 5 relate-arguments-kinds.ps ℕ
 μ-relate-arguments κs a = 300 * a .1 .1 .1 .1 .0 .left + a .1 .1 .1 .1 .0 .a .count + 1
 
-abbrev μ-relate-first : Measures 10 relate-first-kinds.ps ℕ
+abbrev μ-relate-first : Measures 5 relate-first-kinds.ps ℕ
 μ-relate-first κs a = 300 * a .1 .1 .1 .1 .0 .left + 1
 
-abbrev μ-relate-types : Measures 10 relate-types-kinds.ps ℕ
+abbrev μ-relate-types : Measures 5 relate-types-kinds.ps ℕ
 μ-relate-types κs a = 300 * a .1 .1 .1 .1 .0 .left
 
-abbrev relate-arguments-at : ℕ → In 10 relate-arguments-kinds.ps
+abbrev relate-arguments-at : ℕ → In 5 relate-arguments-kinds.ps
 relate-arguments-at t =
     and
-    10
+    5
     relate-arguments-kinds.ps
-    (is 10 relate-arguments-kinds.ps μ-relate-arguments t)
+    (is 5 relate-arguments-kinds.ps μ-relate-arguments t)
     relate-arguments.Pre
 
-abbrev relate-arguments-below : ℕ → In 10 relate-arguments-kinds.ps
+abbrev relate-arguments-below : ℕ → In 5 relate-arguments-kinds.ps
 relate-arguments-below t =
     and
-    10
+    5
     relate-arguments-kinds.ps
-    (falls 10 relate-arguments-kinds.ps _<_ μ-relate-arguments t)
+    (falls 5 relate-arguments-kinds.ps _<_ μ-relate-arguments t)
     relate-arguments.Pre
 
-abbrev relate-first-at : ℕ → In 10 relate-first-kinds.ps
+abbrev relate-first-at : ℕ → In 5 relate-first-kinds.ps
 relate-first-at t =
-    and 10 relate-first-kinds.ps (is 10 relate-first-kinds.ps μ-relate-first t) relate-first.Pre
+    and 5 relate-first-kinds.ps (is 5 relate-first-kinds.ps μ-relate-first t) relate-first.Pre
 
-abbrev relate-first-below : ℕ → In 10 relate-first-kinds.ps
+abbrev relate-first-below : ℕ → In 5 relate-first-kinds.ps
 relate-first-below t =
     and
-    10
+    5
     relate-first-kinds.ps
-    (falls 10 relate-first-kinds.ps _<_ μ-relate-first t)
+    (falls 5 relate-first-kinds.ps _<_ μ-relate-first t)
     relate-first.Pre
 
-abbrev relate-types-at : ℕ → In 10 relate-types-kinds.ps
+abbrev relate-types-at : ℕ → In 5 relate-types-kinds.ps
 relate-types-at t =
-    and 10 relate-types-kinds.ps (is 10 relate-types-kinds.ps μ-relate-types t) relate-types.Pre
+    and 5 relate-types-kinds.ps (is 5 relate-types-kinds.ps μ-relate-types t) relate-types.Pre
 
-abbrev relate-types-below : ℕ → In 10 relate-types-kinds.ps
+abbrev relate-types-below : ℕ → In 5 relate-types-kinds.ps
 relate-types-below t =
     and
-    10
+    5
     relate-types-kinds.ps
-    (falls 10 relate-types-kinds.ps _<_ μ-relate-types t)
+    (falls 5 relate-types-kinds.ps _<_ μ-relate-types t)
     relate-types.Pre
 
 abbrev relate-arguments-calls : ℕ → relate-arguments-lts.Claims
@@ -109,7 +109,7 @@ relate-arguments-within-requires : (t : ℕ) → relate-arguments-lts.Need-withi
 relate-arguments-within-requires t c κs = search needs
 
 relate-arguments-relate-first-requires : (t : ℕ) → relate-arguments-lts.Need-relate-first-requires (relate-arguments-calls t) (relate-arguments-at t) relate-arguments.Post
-relate-arguments-relate-first-requires t c κs = (laws.first-falls (c .before .before .before .before .before .before .before .before .before .before .before .before .before .args .two .left) (c .before .before .before .before .before .before .before .before .before .before .before .before .before .args .two .a .count) (c .before .before .before .before .before .before .before .before .before .before .before .before .before .pre .0) (c .before .before .before .before .before .if1 .left), (c .before .before .before .before .before .before .before .before .before .before .before .before .before .pre .1, c .before .before .before .before .before .if1 .left))
+relate-arguments-relate-first-requires t c κs = (laws.first-falls (c .before .before .before .before .before .before .before .before .before .before .before .before .args .two .left) (c .before .before .before .before .before .before .before .before .before .before .before .before .args .two .a .count) (c .before .before .before .before .before .before .before .before .before .before .before .before .pre .0) (c .before .before .before .before .if1 .left), (c .before .before .before .before .before .before .before .before .before .before .before .before .pre .1, c .before .before .before .before .if1 .left))
 
 relate-arguments-enum-told-2 : (t : ℕ) → relate-arguments-lts.Need-enum-told-2 (relate-arguments-calls t) (relate-arguments-at t) relate-arguments.Post
 relate-arguments-enum-told-2 t c = search needs
@@ -125,19 +125,19 @@ relate-arguments-after-requires-2 t c κs = search needs
 
 relate-arguments-relate-arguments-requires :
     (t : ℕ) → relate-arguments-lts.Need-relate-arguments-requires (relate-arguments-calls t) (relate-arguments-at t) relate-arguments.Post
-relate-arguments-relate-arguments-requires t c κs = (laws.arguments-fall (c .before .before .before .before .before .before .before .before .before .before .before .before .before .before .before .before .before .before .before .before .before .before .before .before .pre .0) (c .before .before .before .after .ensures .1) (c .before .before .before .before .before .before .before .before .before .before .before .before .before .before .before .before .if1 .left) (laws.rest-fewer _ (c .before .before .before .before .before .before .before .before .before .before .relate-first .ensures .fewer) (c .before .before .before .before .before .before .left .given .1)), c .before .before .before .before .before .before .before .before .before .before .before .before .before .before .before .before .before .before .before .before .before .before .before .before .pre .1)
+relate-arguments-relate-arguments-requires t c κs = (laws.arguments-fall (c .before .before .before .before .before .before .before .before .before .before .before .before .before .before .before .before .before .before .before .before .before .before .pre .0) (c .before .before .after .ensures .1) (c .before .before .before .before .before .before .before .before .before .before .before .before .before .before .if1 .left) (laws.rest-fewer _ (c .before .before .before .before .before .before .before .before .before .relate-first .ensures .fewer) (c .before .before .before .before .before .left .given .1)), c .before .before .before .before .before .before .before .before .before .before .before .before .before .before .before .before .before .before .before .before .before .before .pre .1)
 
 relate-arguments-same-length : (t : ℕ) → relate-arguments-lts.Need-same-length (relate-arguments-calls t) (relate-arguments-at t) relate-arguments.Post
 relate-arguments-same-length t c = search needs
 
 relate-arguments-returns-3 : (t : ℕ) → relate-arguments-lts.Need-returns-3 (relate-arguments-calls t) (relate-arguments-at t) relate-arguments.Post
-relate-arguments-returns-3 t c = laws.arguments-stopped (c .before .before .before .before .before .before .before .before .first-parameter .ensures) (c .before .before .before .before .before .before .before .within .ensures) (c .before .before .before .before .relate-first .ensures) (c .enum-told2 .given .1)
+relate-arguments-returns-3 t c = laws.arguments-stopped (c .before .before .before .before .before .before .before .first-parameter .ensures) (c .before .before .before .before .before .before .within .ensures) (c .before .before .before .before .relate-first .ensures) (c .enum-told2 .given .1)
 
 relate-arguments-same-length-2 : (t : ℕ) → relate-arguments-lts.Need-same-length-2 (relate-arguments-calls t) (relate-arguments-at t) relate-arguments.Post
 relate-arguments-same-length-2 t c = search needs
 
 relate-arguments-returns-4 : (t : ℕ) → relate-arguments-lts.Need-returns-4 (relate-arguments-calls t) (relate-arguments-at t) relate-arguments.Post
-relate-arguments-returns-4 t c = laws.arguments-more (c .before .before .before .before .before .before .before .before .before .before .before .before .before .before .before .before .before .first-parameter .ensures) (c .before .before .before .before .before .before .before .before .before .before .before .before .before .before .before .before .within .ensures) (c .before .before .before .before .before .before .before .before .before .before .before .before .before .relate-first .ensures) (c .before .before .before .before .before .before .before .before .before .left .given .1) (c .before .before .before .before .before .before .after .ensures) (c .before .before .before .before .before .after2 .ensures) (c .before .before .relate-arguments .ensures)
+relate-arguments-returns-4 t c = laws.arguments-more (c .before .before .before .before .before .before .before .before .before .before .before .before .before .before .before .first-parameter .ensures) (c .before .before .before .before .before .before .before .before .before .before .before .before .before .before .within .ensures) (c .before .before .before .before .before .before .before .before .before .before .before .before .relate-first .ensures) (c .before .before .before .before .before .before .before .before .left .given .1) (c .before .before .before .before .before .after .ensures) (c .before .before .before .before .after2 .ensures) (c .before .before .relate-arguments .ensures)
 
 relate-first-first-pair-requires : (t : ℕ) → relate-first-lts.Need-first-pair-requires (relate-first-calls t) (relate-first-at t) relate-first.Post
 relate-first-first-pair-requires t c κs = search needs
@@ -157,14 +157,14 @@ relate-first-enum-known-p t c = search needs
 relate-first-returns : (t : ℕ) → relate-first-lts.Need-returns (relate-first-calls t) (relate-first-at t) relate-first.Post
 relate-first-returns t c = laws.first-spent (c .before .before .before .before .before .before .before .before .before .before .before .before .pre .1 .1) (c .before .before .before .before .first-pair .ensures) (c .before .before .p .given .1) (c .if1 .taken)
 
-relate-first-sub-t34 : (t : ℕ) → relate-first-lts.Need-sub-t34 (relate-first-calls t) (relate-first-at t) relate-first.Post
-relate-first-sub-t34 t c = search needs
+relate-first-sub-t28 : (t : ℕ) → relate-first-lts.Need-sub-t28 (relate-first-calls t) (relate-first-at t) relate-first.Post
+relate-first-sub-t28 t c = search needs
 
 relate-first-enum-known-p-2 : (t : ℕ) → relate-first-lts.Need-enum-known-p-2 (relate-first-calls t) (relate-first-at t) relate-first.Post
 relate-first-enum-known-p-2 t c = search needs
 
 relate-first-relate-types-requires : (t : ℕ) → relate-first-lts.Need-relate-types-requires (relate-first-calls t) (relate-first-at t) relate-first.Post
-relate-first-relate-types-requires t c κs = (omega arith, c .before .before .before .before .before .before .before .before .before .before .before .before .before .pre .1 .0)
+relate-first-relate-types-requires t c κs = (omega arith, c .before .before .before .before .before .before .before .before .before .before .before .before .pre .1 .0)
 
 relate-first-returns-2 : (t : ℕ) → relate-first-lts.Need-returns-2 (relate-first-calls t) (relate-first-at t) relate-first.Post
 relate-first-returns-2 t c = laws.first-differ (c .before .before .before .before .before .before .before .before .before .before .pre .1 .1) (c .before .before .first-pair .ensures) (c .enum-told .given .1)
@@ -173,7 +173,7 @@ relate-first-same-length : (t : ℕ) → relate-first-lts.Need-same-length (rela
 relate-first-same-length t c = search needs
 
 relate-first-returns-3 : (t : ℕ) → relate-first-lts.Need-returns-3 (relate-first-calls t) (relate-first-at t) relate-first.Post
-relate-first-returns-3 t c = laws.first-regions (c .before .before .before .before .before .before .before .before .before .before .before .before .before .before .before .before .pre .1 .1) (c .before .before .before .before .before .before .before .before .first-pair .ensures) (c .before .before .before .before .before .before .r .given .1) (c .before .before .relate-regions .ensures)
+relate-first-returns-3 t c = laws.first-regions (c .before .before .before .before .before .before .before .before .before .before .before .before .before .before .before .pre .1 .1) (c .before .before .before .before .before .before .before .first-pair .ensures) (c .before .before .before .before .before .r .given .1) (c .before .before .relate-regions .ensures)
 
 relate-first-returns-4 : (t : ℕ) → relate-first-lts.Need-returns-4 (relate-first-calls t) (relate-first-at t) relate-first.Post
 relate-first-returns-4 t c = laws.first-units (c .before .before .before .before .before .before .before .before .before .before .before .before .pre .1 .1) (c .before .before .before .before .first-pair .ensures) (c .before .before .p .given .1)
@@ -182,7 +182,7 @@ relate-first-same-length-2 : (t : ℕ) → relate-first-lts.Need-same-length-2 (
 relate-first-same-length-2 t c = search needs
 
 relate-first-returns-5 : (t : ℕ) → relate-first-lts.Need-returns-5 (relate-first-calls t) (relate-first-at t) relate-first.Post
-relate-first-returns-5 t c = laws.first-types (c .before .before .before .before .before .before .before .before .before .before .before .before .before .before .before .before .pre .1 .1) (c .before .before .before .before .before .before .before .before .first-pair .ensures) (c .before .before .before .before .before .before .p2 .given .1) (c .before .before .relate-types .ensures)
+relate-first-returns-5 t c = laws.first-types (c .before .before .before .before .before .before .before .before .before .before .before .before .before .before .before .pre .1 .1) (c .before .before .before .before .before .before .before .first-pair .ensures) (c .before .before .before .before .before .p2 .given .1) (c .before .before .relate-types .ensures)
 
 relate-types-returns : (t : ℕ) → relate-types-lts.Need-returns (relate-types-calls t) (relate-types-at t) relate-types.Post
 relate-types-returns t c = laws.types-none (c .if1 .taken)
@@ -222,7 +222,7 @@ relate-types-within-requires : (t : ℕ) → relate-types-lts.Need-within-requir
 relate-types-within-requires t c κs = search needs
 
 relate-types-relate-types-requires : (t : ℕ) → relate-types-lts.Need-relate-types-requires (relate-types-calls t) (relate-types-at t) relate-types.Post
-relate-types-relate-types-requires t c κs = (laws.types-fall (c .before .before .before .before .before .before .before .before .before .before .before .before .before .before .before .before .before .before .before .before .before .before .before .before .before .pre .0) (c .before .before .before .before .before .before .before .before .before .before .before .before .before .before .before .before .before .before .before .if1 .left), c .before .before .before .before .before .before .before .before .before .before .before .before .before .before .before .before .before .before .before .before .before .before .before .before .before .pre .1)
+relate-types-relate-types-requires t c κs = (laws.types-fall (c .before .before .before .before .before .before .before .before .before .before .before .before .before .before .before .before .before .before .before .before .before .before .before .pre .0) (c .before .before .before .before .before .before .before .before .before .before .before .before .before .before .before .before .before .if1 .left), c .before .before .before .before .before .before .before .before .before .before .before .before .before .before .before .before .before .before .before .before .before .before .before .pre .1)
 
 relate-types-enum-known-name : (t : ℕ) → relate-types-lts.Need-enum-known-name (relate-types-calls t) (relate-types-at t) relate-types.Post
 relate-types-enum-known-name t c = search needs
@@ -231,7 +231,7 @@ relate-types-parameters-of-requires : (t : ℕ) → relate-types-lts.Need-parame
 relate-types-parameters-of-requires t c κs = search needs
 
 relate-types-relate-arguments-requires : (t : ℕ) → relate-types-lts.Need-relate-arguments-requires (relate-types-calls t) (relate-types-at t) relate-types.Post
-relate-types-relate-arguments-requires t c κs = (laws.parts-fall (c .before .before .before .before .before .before .before .before .before .before .before .before .before .before .before .before .before .before .before .pre .0) (c .before .before .before .before .before .before .before .before .before .before .before .before .before .if1 .left) (omega arith), c .before .before .before .before .before .before .before .before .before .before .before .before .before .before .before .before .before .before .before .pre .1)
+relate-types-relate-arguments-requires t c κs = (laws.parts-fall (c .before .before .before .before .before .before .before .before .before .before .before .before .before .before .before .before .before .before .pre .0) (c .before .before .before .before .before .before .before .before .before .before .before .before .if1 .left) (omega arith), c .before .before .before .before .before .before .before .before .before .before .before .before .before .before .before .before .before .before .pre .1)
 
 relate-types-returns-2 : (t : ℕ) → relate-types-lts.Need-returns-2 (relate-types-calls t) (relate-types-at t) relate-types.Post
 relate-types-returns-2 t c = laws.types-differ (c .before .before .before .before .type-node .ensures) (c .before .before .before .type-node2 .ensures) (c .before .before .beside .ensures) (c .enum-told .given .1)
@@ -243,13 +243,13 @@ relate-types-same-length : (t : ℕ) → relate-types-lts.Need-same-length (rela
 relate-types-same-length t c = search needs
 
 relate-types-returns-4 : (t : ℕ) → relate-types-lts.Need-returns-4 (relate-types-calls t) (relate-types-at t) relate-types.Post
-relate-types-returns-4 t c = laws.types-refs (c .before .before .before .before .before .before .before .before .before .before .before .before .before .before .before .before .before .before .type-node .ensures) (c .before .before .before .before .before .before .before .before .before .before .before .before .before .before .before .before .before .type-node2 .ensures) (c .before .before .before .before .before .before .before .before .before .before .before .before .before .before .before .before .beside .ensures) (c .before .before .before .before .before .before .before .before .before .before .before .before .before .before .kind .given .1) (c .before .before .before .before .before .before .before .before .before .before .before .before .before .before .before .before .before .before .before .before .before .before .if1 .left) (c .before .before .before .before .before .before .before .before .before .before .before .before .invert .ensures) (c .before .before .before .before .before .before .referent-variance .ensures) (c .before .before .before .before .before .within .ensures) (c .before .before .before .before .before .before .before .before .before .relate-regions .ensures) (c .before .before .relate-types .ensures)
+relate-types-returns-4 t c = laws.types-refs (c .before .before .before .before .before .before .before .before .before .before .before .before .before .before .before .before .type-node .ensures) (c .before .before .before .before .before .before .before .before .before .before .before .before .before .before .before .type-node2 .ensures) (c .before .before .before .before .before .before .before .before .before .before .before .before .before .before .beside .ensures) (c .before .before .before .before .before .before .before .before .before .before .before .before .kind .given .1) (c .before .before .before .before .before .before .before .before .before .before .before .before .before .before .before .before .before .before .before .before .if1 .left) (c .before .before .before .before .before .before .before .before .before .before .invert .ensures) (c .before .before .before .before .before .referent-variance .ensures) (c .before .before .before .before .within .ensures) (c .before .before .before .before .before .before .before .before .relate-regions .ensures) (c .before .before .relate-types .ensures)
 
 relate-types-same-length-2 : (t : ℕ) → relate-types-lts.Need-same-length-2 (relate-types-calls t) (relate-types-at t) relate-types.Post
 relate-types-same-length-2 t c = search needs
 
 relate-types-returns-5 : (t : ℕ) → relate-types-lts.Need-returns-5 (relate-types-calls t) (relate-types-at t) relate-types.Post
-relate-types-returns-5 t c = laws.types-structs (c .before .before .before .before .before .before .before .before .before .before .before .before .type-node .ensures) (c .before .before .before .before .before .before .before .before .before .before .before .type-node2 .ensures) (c .before .before .before .before .before .before .before .before .before .before .beside .ensures) (c .before .before .before .before .before .before .before .before .name .given .1) (c .before .before .before .before .before .before .before .before .before .before .before .before .before .before .before .before .if1 .left) (c .before .before .before .before .before .parameters-of .ensures) (c .before .before .relate-arguments .ensures)
+relate-types-returns-5 t c = laws.types-structs (c .before .before .before .before .before .before .before .before .before .before .before .type-node .ensures) (c .before .before .before .before .before .before .before .before .before .before .type-node2 .ensures) (c .before .before .before .before .before .before .before .before .before .beside .ensures) (c .before .before .before .before .before .before .before .name .given .1) (c .before .before .before .before .before .before .before .before .before .before .before .before .before .before .before .if1 .left) (c .before .before .before .before .parameters-of .ensures) (c .before .before .relate-arguments .ensures)
 
 pub +relate-arguments+relate-first+relate-types-spec : {M : Type 1} → statement M
 +relate-arguments+relate-first+relate-types-spec =
@@ -282,7 +282,7 @@ pub +relate-arguments+relate-first+relate-types-spec : {M : Type 1} → statemen
     (relate-first-relate-regions-requires t)
     (relate-first-enum-known-p t)
     (relate-first-returns t)
-    (relate-first-sub-t34 t)
+    (relate-first-sub-t28 t)
     (relate-first-enum-known-p-2 t)
     (relate-first-relate-types-requires t)
     (relate-first-returns-2 t)

@@ -1,4 +1,4 @@
-use Rattle.relate.proofs.RelateLaws as laws
+use Rattle.constraint_list.proofs.ListLaws.{adds-append}
 use borrow.Author.Needs.{needs}
 use Rattle.relate.proofs.relate_regions.Statement.{statement}
 use Rattle.relate.proofs.relate_regions.Tie as tie
@@ -28,19 +28,19 @@ same-length : tie.Need-same-length
 same-length c = search needs
 
 returns : tie.Need-returns
-returns c = rw (c .before .before .before .before .before .enum-told .given .1) (c .before .before .require-outlives .ensures)
+returns c = rw (c .before .before .before .before .enum-told .given .1) (c .before .before .require-outlives .ensures)
 
 same-length-2 : tie.Need-same-length-2
 same-length-2 c = search needs
 
 returns-2 : tie.Need-returns-2
-returns-2 c = rw (c .before .before .before .before .before .enum-told2 .given .1) (c .before .before .require-outlives2 .ensures)
+returns-2 c = rw (c .before .before .before .before .enum-told2 .given .1) (c .before .before .require-outlives2 .ensures)
 
 same-length-3 : tie.Need-same-length-3
 same-length-3 c = search needs
 
 returns-3 : tie.Need-returns-3
-returns-3 c = rw (c .before .before .before .before .before .before .before .before .before .before .enum-told3 .given .1) (laws.runs-append (c .before .before .before .before .before .before .before .require-outlives3 .ensures) (c .before .before .require-outlives4 .ensures))
+returns-3 c = rw (c .before .before .before .before .before .before .before .before .enum-told3 .given .1) (adds-append (c .before .before .before .before .before .before .require-outlives3 .ensures) (c .before .before .require-outlives4 .ensures))
 
 pub relate-regions-spec : {M : Type 1} → statement M
 relate-regions-spec =

@@ -10,7 +10,7 @@ enum-told : tie.Need-enum-told
 enum-told c = search needs
 
 returns : tie.Need-returns
-returns c = laws.sup-bound (c .before .before .before .args .sub) (c .enum-told .given .1)
+returns c = laws.sup-bound _ (c .before .before .before .args .sub) (c .enum-told .given .1)
 
 enum-known-sub : tie.Need-enum-known-sub
 enum-known-sub c = search needs
@@ -19,16 +19,16 @@ enum-told-2 : tie.Need-enum-told-2
 enum-told-2 c = search needs
 
 returns-2 : tie.Need-returns-2
-returns-2 c = laws.sub-bound (c .before .before .before .sup .given .1) (c .enum-told2 .given .1)
+returns-2 c = laws.sub-bound _ (c .before .before .before .sup .given .1) (c .enum-told2 .given .1)
 
-outlives-requires : tie.Need-outlives-requires
-outlives-requires c κs = search needs
+add-requires : tie.Need-add-requires
+add-requires c κs = search needs
 
 same-length : tie.Need-same-length
 same-length c = search needs
 
 returns-3 : tie.Need-returns-3
-returns-3 c = laws.both-free (c .before .before .before .before .before .before .before .before .before .before .sup .given .1) (c .before .before .before .before .before .before .before .sub .given .1) (c .before .before .outlives .ensures)
+returns-3 c = laws.both-free _ (c .before .before .before .before .before .before .before .before .sup .given .1) (c .before .before .before .before .before .sub .given .1) (c .before .before .add .ensures)
 
 pub require-outlives-spec : {M : Type 1} → statement M
 require-outlives-spec =
@@ -40,6 +40,6 @@ require-outlives-spec =
     enum-known-sub
     enum-told-2
     returns-2
-    outlives-requires
+    add-requires
     same-length
     returns-3)

@@ -1,11 +1,14 @@
 -- `regionck::constraints::constrain`: by the action that is read. Assumes nothing.
-use Rattle.regionck.proofs.ConstrainLaws.{point-far, action-refused, action-other, action-borrow, action-assign, action-constraint}
+use Rattle.regionck.proofs.ConstrainLaws.{read-at, point-far, action-refused, action-other, action-borrow, action-assign, action-constraint}
 use borrow.Author.Needs.{needs}
 use Rattle.regionck.proofs.constraints.constrain.Statement.{statement}
 use Rattle.regionck.proofs.constraints.constrain.Tie as tie
 
 returns : tie.Need-returns
 returns c = point-far (c .if1 .taken)
+
+wide16-requires : tie.Need-wide16-requires
+wide16-requires c κs = search needs
 
 action-at-requires : tie.Need-action-at-requires
 action-at-requires c κs = search needs
@@ -17,7 +20,7 @@ enum-told : tie.Need-enum-told
 enum-told c = search needs
 
 returns-2 : tie.Need-returns-2
-returns-2 c = action-refused (record { acts = c .before .before .action-at .ensures }) (c .enum-told .given .1)
+returns-2 c = action-refused (read-at (c .before .before .before .wide16 .ensures) (record { acts = c .before .before .action-at .ensures })) (c .enum-told .given .1)
 
 after-requires : tie.Need-after-requires
 after-requires c κs = search needs
@@ -44,28 +47,29 @@ same-length : tie.Need-same-length
 same-length c = search needs
 
 returns-3 : tie.Need-returns-3
-returns-3 c = action-borrow (record { acts = c .before .before .before .before .before .before .before .before .before .before .before .before .action-at .ensures }) (c .before .before .before .before .before .before .before .before .before .before .a .given .1) (c .before .before .before .before .before .before .a2 .given .1) (c .before .before .before .before .before .before .before .before .after .ensures) (c .before .before .relate-paths .ensures)
+returns-3 c = action-borrow (read-at (c .before .before .before .before .before .before .before .before .before .before .before .before .wide16 .ensures) (record { acts = c .before .before .before .before .before .before .before .before .before .before .before .action-at .ensures })) (c .before .before .before .before .before .before .before .before .before .a .given .1) (c .before .before .before .before .before .a2 .given .1) (c .before .before .before .before .before .before .before .after .ensures) (c .before .before .relate-paths .ensures)
 
 same-length-2 : tie.Need-same-length-2
 same-length-2 c = search needs
 
 returns-4 : tie.Need-returns-4
-returns-4 c = action-assign (record { acts = c .before .before .before .before .before .before .before .before .before .before .before .before .action-at .ensures }) (c .before .before .before .before .before .before .before .before .before .before .a .given .1) (c .before .before .before .before .before .before .a3 .given .1) (c .before .before .before .before .before .before .before .before .after .ensures) (c .before .before .relate-paths2 .ensures)
+returns-4 c = action-assign (read-at (c .before .before .before .before .before .before .before .before .before .before .before .before .wide16 .ensures) (record { acts = c .before .before .before .before .before .before .before .before .before .before .before .action-at .ensures })) (c .before .before .before .before .before .before .before .before .before .a .given .1) (c .before .before .before .before .before .a3 .given .1) (c .before .before .before .before .before .before .before .after .ensures) (c .before .before .relate-paths2 .ensures)
 
 same-length-3 : tie.Need-same-length-3
 same-length-3 c = search needs
 
 returns-5 : tie.Need-returns-5
-returns-5 c = action-constraint (record { acts = c .before .before .before .before .before .before .before .before .before .before .before .before .action-at .ensures }) (c .before .before .before .before .before .before .before .before .before .before .a .given .1) (c .before .before .before .before .before .before .a4 .given .1) (c .before .before .require-outlives .ensures)
+returns-5 c = action-constraint (read-at (c .before .before .before .before .before .before .before .before .before .before .before .before .wide16 .ensures) (record { acts = c .before .before .before .before .before .before .before .before .before .before .before .action-at .ensures })) (c .before .before .before .before .before .before .before .before .before .a .given .1) (c .before .before .before .before .before .a4 .given .1) (c .before .before .require-outlives .ensures)
 
 returns-6 : tie.Need-returns-6
-returns-6 c = action-other (record { acts = c .before .before .before .before .before .action-at .ensures }) (c .before .before .before .a .given .1) (c .match2 .keys4)
+returns-6 c = action-other (read-at (c .before .before .before .before .before .before .wide16 .ensures) (record { acts = c .before .before .before .before .before .action-at .ensures })) (c .before .before .before .a .given .1) (c .match2 .keys4)
 
 pub constrain-spec : {M : Type 1} → statement M
 constrain-spec =
     tie.close
     (tie.spec
     returns
+    wide16-requires
     action-at-requires
     enum-known-a
     enum-told

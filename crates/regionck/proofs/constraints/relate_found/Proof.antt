@@ -26,13 +26,13 @@ same-length : tie.Need-same-length
 same-length c = search needs
 
 returns-2 : tie.Need-returns-2
-returns-2 c = λ p q kinds names v. paths-inside (v .first) (c .before .before .before .before .before .before .first-type .given .1) (c .before .before .relate-second .ensures q kinds names (v .second))
+returns-2 c = λ p q kinds names v. paths-inside (v .first) (c .before .before .before .before .before .first-type .given .1) (c .before .before .relate-second .ensures q kinds names (v .second))
 
 same-length-2 : tie.Need-same-length-2
 same-length-2 c = search needs
 
 returns-3 : tie.Need-returns-3
-returns-3 c = λ p q kinds names v. paths-written (v .first) (c .before .before .before .before .before .before .before .first-type2 .given .1) (c .before .before .relate-second2 .ensures q kinds names (v .second))
+returns-3 c = λ p q kinds names v. paths-written (v .first) (c .before .before .before .before .before .before .first-type2 .given .1) (c .before .before .relate-second2 .ensures q kinds names (v .second))
 
 pub relate-found-spec : {M : Type 1} → statement M
 relate-found-spec =

@@ -26,7 +26,7 @@ same-length-2 : tie.Need-same-length-2
 same-length-2 c = search needs
 
 returns-2 : tie.Need-returns-2
-returns-2 c = pair-stepless (c .before .before .before .before .before .before .before .before .before .before .before .before .before .before .args .pair) _ _ (both-zero (c .before .before .before .before .before .before .before .before .before .before .before .before .before .before .args .pair .p .steps) (c .before .before .before .before .before .before .before .before .before .before .before .before .before .before .args .pair .q .steps) (c .before .before .before .before .before .before .before .if1 .left)) (c .before .before .before .before .before .before .variable-at .ensures) (c .before .before .before .before .before .variable-at2 .ensures) (c .before .before .relate-types .ensures)
+returns-2 c = pair-stepless (c .before .before .before .before .before .before .before .before .before .before .before .before .before .args .pair) _ _ (both-zero (c .before .before .before .before .before .before .before .before .before .before .before .before .before .args .pair .p .steps) (c .before .before .before .before .before .before .before .before .before .before .before .before .before .args .pair .q .steps) (c .before .before .before .before .before .before .if1 .left)) (c .before .before .before .before .before .variable-at .ensures) (c .before .before .before .before .variable-at2 .ensures) (c .before .before .relate-types .ensures)
 
 pub relate-paths-spec : {M : Type 1} → statement M
 relate-paths-spec =

@@ -26,13 +26,13 @@ same-length : tie.Need-same-length
 same-length c = search needs
 
 returns-2 : tie.Need-returns-2
-returns-2 c = λ q kinds names v. second-inside v (c .before .before .before .before .before .before .found .given .1) (c .before .before .relate-types .ensures)
+returns-2 c = λ q kinds names v. second-inside v (c .before .before .before .before .before .found .given .1) (c .before .before .relate-types .ensures)
 
 same-length-2 : tie.Need-same-length-2
 same-length-2 c = search needs
 
 returns-3 : tie.Need-returns-3
-returns-3 c = λ q kinds names v. second-written v (c .before .before .before .before .before .before .before .found2 .given .1) (c .before .before .relate-types2 .ensures)
+returns-3 c = λ q kinds names v. second-written v (c .before .before .before .before .before .before .found2 .given .1) (c .before .before .relate-types2 .ensures)
 
 pub relate-second-spec : {M : Type 1} → statement M
 relate-second-spec =

@@ -3,7 +3,7 @@ use Prim.Native.Nat.{_-_, _≤_}
 use mathlib.Core.Path.{_≡_}
 use native.Mathlib.Omega.{arith}
 use lib.ListN.{length}
-use Rattle.relate.specs.Relates.{Runs}
+use Rattle.constraint_list.specs.Listed.{Adds}
 use Rattle.regionck.specs.Constraining.{sourceConstraints}
 use Rattle.regionck.proofs.ConstrainLaws.{source-none, source-more}
 use borrow.Author.Needs.{needs}
@@ -11,14 +11,14 @@ use Rattle.regionck.proofs.constraints.relate_source.Statement.{stateme
 use Rattle.regionck.proofs.constraints.relate_source.Tie as tie
 
 abbrev Inv-loop : tie.InvT-loop
-Inv-loop of kinds names run words₀ first succ chain last grew₀ i₀ words grew i =
-    (i ≤ of .steps) × (length words ≡ length words₀) × Runs run first succ chain last (sourceConstraints (run .at) kinds names (of .supporting) (of .region .0) i) words₀ grew₀ words grew
+Inv-loop of kinds names run list₀ i₀ list i =
+    (i ≤ of .steps) × Adds (sourceConstraints (run .at) kinds names (of .supporting) (of .region .0) i) list₀ list
 
 abbrev μ-loop : tie.MeasureT-loop
-μ-loop of kinds names run words₀ first succ chain last grew₀ i₀ words grew i = of .steps - i
+μ-loop of kinds names run list₀ i₀ list i = of .steps - i
 
 loop-holds : tie.Need-loop-holds Inv-loop μ-loop
-loop-holds c = let a = c .before .args in (search needs, search needs, source-none (a .kinds .now) (a .names .now) (a .of .supporting) (a .of .region .0))
+loop-holds c = let a = c .before .args in (search needs, source-none (a .run .at) (a .kinds .now) (a .names .now) (a .of .supporting) (a .of .region .0))
 
 relate-step-requires : tie.Need-relate-step-requires Inv-loop μ-loop
 relate-step-requires c κs = search needs
@@ -30,9 +30,9 @@ loop-less : tie.Need-loop-less Inv-loop μ-loop
 loop-less c = search needs
 
 loop-again : tie.Need-loop-again Inv-loop μ-loop
-loop-again c = let a = c .before .before .before .before .before .before .before .before .before .args in
-    let l = c .before .before .before .before .before .before .before .loop in
-    (omega arith, search needs, source-more (a .kinds .now) (a .names .now) (a .of .supporting) (a .of .region .0) (l .i) (l .inv .2) (c .before .before .relate-step .ensures))
+loop-again c = let a = c .before .before .before .before .before .before .before .before .args in
+    let l = c .before .before .before .before .before .before .loop in
+    (omega arith, source-more (a .run .at) (a .kinds .now) (a .names .now) (a .of .supporting) (a .of .region .0) (l .i) (l .inv .1) (c .before .before .relate-step .ensures))
 
 same-length : tie.Need-same-length Inv-loop μ-loop
 same-length c = search needs
@@ -40,7 +40,7 @@ same-length c = search needs
 returns : tie.Need-returns Inv-loop μ-loop
 returns c = let l = c .before .before .loop in
     let e : l .i ≡ c .before .before .before .before .args .of .steps = omega arith in
-    rw (← e) (l .inv .2)
+    rw (← e) (l .inv .1)
 
 pub relate-source-spec : {M : Type 1} → statement M
 relate-source-spec =

@@ -20,7 +20,7 @@ same-length : tie.Need-same-length
 same-length c = search needs
 
 returns : tie.Need-returns
-returns c = pair-runs (c .before .before .before .before .before .before .before .before .before .before .before .before .before .before .before .before .before .before .before .before .before .before .before .before .before .before .args .pair) (c .before .before .before .before .before .before .before .before .before .before .before .before .before .before .before .before .path-types .ensures) (c .before .before .before .before .before .before .before .before .before .before .before .relate-found .ensures _ _ _ _ (c .before .before .before .before .before .before .before .before .before .before .before .before .before .before .before .before .path-types .ensures)) (c .before .before .before .before .before .before .before .source-of .ensures) (c .before .before .relate-source .ensures)
+returns c = pair-runs (c .before .before .before .before .before .before .before .before .before .before .before .before .before .before .before .before .before .before .before .before .before .before .before .before .args .pair) (c .before .before .before .before .before .before .before .before .before .before .before .before .before .before .path-types .ensures) (c .before .before .before .before .before .before .before .before .before .before .relate-found .ensures _ _ _ _ (c .before .before .before .before .before .before .before .before .before .before .before .before .before .before .path-types .ensures)) (c .before .before .before .before .before .before .source-of .ensures) (c .before .before .relate-source .ensures)
 
 pub relate-stepped-spec : {M : Type 1} → statement M
 relate-stepped-spec =

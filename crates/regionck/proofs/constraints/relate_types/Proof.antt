@@ -20,13 +20,13 @@ same-length : tie.Need-same-length
 same-length c = search needs
 
 returns : tie.Need-returns
-returns c = types-assigned (c .before .before .before .before .before .enum-told .given .1) (c .before .before .relate .ensures)
+returns c = types-assigned (c .before .before .before .before .enum-told .given .1) (c .before .before .relate .ensures)
 
 same-length-2 : tie.Need-same-length-2
 same-length-2 c = search needs
 
 returns-2 : tie.Need-returns-2
-returns-2 c = types-borrowed (c .before .before .before .before .before .before .how .given .1) (c .before .before .relate-ref .ensures)
+returns-2 c = types-borrowed (c .before .before .before .before .before .how .given .1) (c .before .before .relate-ref .ensures)
 
 pub relate-types-spec : {M : Type 1} → statement M
 relate-types-spec =

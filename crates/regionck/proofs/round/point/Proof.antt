@@ -1,16 +1,22 @@
--- `regionck::round::point`: the test, and the constraints of the point. Assumes nothing.
+-- `regionck::round::point` meets its contract. Assumes nothing.
+use mathlib.Core.Path.{refl}
 use borrow.Author.Tests.{not-true, not-false}
-use Rattle.regionck.proofs.RoundLaws.{point-passed, point-run}
+use Rattle.regionck.proofs.RoundLaws.{point-far, point-passed, point-added}
 use borrow.Author.Needs.{needs}
 use Rattle.regionck.proofs.round.point.Statement.{statement}
 use Rattle.regionck.proofs.round.point.Tie as tie
 
+returns : tie.Need-returns
+returns c = point-far (c .if1 .taken)
+
 test-requires : tie.Need-test-requires
 test-requires c κs = search needs
 
-returns : tie.Need-returns
-returns c = let a = c .before .before .before .before .before .args in
-    point-passed (a .s .now) (a .layout .now) (a .run) (a .walked .now) (a .first .now) (a .succ .now) (a .chain .now) (a .last .now) (a .words .now) (a .grew .now) _ (c .before .test .ensures) (not-true _ (c .if1 .taken))
+returns-2 : tie.Need-returns-2
+returns-2 c = point-passed (c .before .test .ensures) (not-true _ (c .if2 .taken))
+
+cast-t12 : tie.Need-cast-t12
+cast-t12 c = search needs
 
 constrain-requires : tie.Need-constrain-requires
 constrain-requires c κs = search needs
@@ -18,9 +24,10 @@ constrain-requires c κs = search needs
 same-length : tie.Need-same-length
 same-length c = search needs
 
-returns-2 : tie.Need-returns-2
-returns-2 c = let a = c .before .before .before .before .before .before .before .before .before .before .args in
-    point-run (a .s .now) (a .layout .now) (a .run) (a .walked .now) (a .first .now) (a .succ .now) (a .chain .now) (a .last .now) (a .words .now) (a .grew .now) _ (c .before .before .before .before .before .before .test .ensures) (not-false _ (c .before .before .before .before .before .if1 .left)) (c .before .before .constrain .ensures)
+returns-3 : tie.Need-returns-3
+returns-3 c = point-added (c .before .before .before .before .before .test .ensures) (not-false _ (c .before .before .before .before .if2 .left)) refl (c .before .before .constrain .ensures)
 
 pub point-spec : {M : Type 1} → statement M
-point-spec = tie.close (tie.spec test-requires returns constrain-requires same-length returns-2)
+point-spec =
+    tie.close
+    (tie.spec returns test-requires returns-2 cast-t12 constrain-requires same-length returns-3)

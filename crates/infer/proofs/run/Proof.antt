@@ -1,0 +1,65 @@
+-- `infer::run`. The loop's invariant: the first i constraints are run. Assumes nothing.
+use Prim.Native.Nat.{_-_, _≤_}
+use mathlib.Core.Path.{_≡_}
+use native.Mathlib.Omega.{arith}
+use lib.ListN.{length}
+use Rattle.constraint_list.specs.Listed.{firstIn}
+use Rattle.infer.specs.Ran.{Runs}
+use Rattle.infer.proofs.RunLaws.{first-runs, next-runs, all-run}
+use borrow.Author.Needs.{needs}
+use Rattle.infer.proofs.run.Statement.{statement}
+use Rattle.infer.proofs.run.Tie as tie
+
+abbrev Inv-loop : tie.InvT-loop
+Inv-loop words₀ first succ chain shape rule last grew₀ list count i₀ words grew i =
+    (i ≤ count) × (length words ≡ length words₀) × Runs shape rule first succ chain last (firstIn list i) words₀ grew₀ words grew
+
+abbrev μ-loop : tie.MeasureT-loop
+μ-loop words₀ first succ chain shape rule last grew₀ list count i₀ words grew i = count - i
+
+count-requires : tie.Need-count-requires Inv-loop μ-loop
+count-requires c κs = search needs
+
+loop-holds : tie.Need-loop-holds Inv-loop μ-loop
+loop-holds c = (search needs, search needs, first-runs (c .before .before .before .args .list .now))
+
+get-requires : tie.Need-get-requires Inv-loop μ-loop
+get-requires c κs = search needs
+
+wide16-requires : tie.Need-wide16-requires Inv-loop μ-loop
+wide16-requires c κs = search needs
+
+outlives-requires : tie.Need-outlives-requires Inv-loop μ-loop
+outlives-requires c κs = search needs
+
+add-i : tie.Need-add-i Inv-loop μ-loop
+add-i c = search needs
+
+loop-less : tie.Need-loop-less Inv-loop μ-loop
+loop-less c = search needs
+
+loop-again : tie.Need-loop-again Inv-loop μ-loop
+loop-again c = (omega arith, search needs, next-runs (c .before .before .before .before .before .before .before .before .before .before .before .before .args .list .now) (c .before .before .before .before .before .before .before .before .loop .i) (c .before .before .before .before .before .before .get .result) (c .before .before .before .before .before .before .before .before .loop .inv .2) (c .before .before .before .before .before .before .get .ensures) (c .before .before .before .before .before .wide16 .ensures) (c .before .before .outlives .ensures))
+
+same-length : tie.Need-same-length Inv-loop μ-loop
+same-length c = search needs
+
+returns : tie.Need-returns Inv-loop μ-loop
+returns c = all-run (c .before .before .before .before .before .args .list .now) (c .before .loop .i) (omega arith) (c .before .loop .inv .2)
+
+pub run-spec : {M : Type 1} → statement M
+run-spec =
+    tie.close
+    (tie.spec
+    Inv-loop
+    μ-loop
+    count-requires
+    loop-holds
+    get-requires
+    wide16-requires
+    outlives-requires
+    add-i
+    loop-less
+    loop-again
+    same-length
+    returns)
