@@ -244,7 +244,8 @@ fn search(
     Reached { points, exit }
 }
 
-// The same. A walk that goes along the chain to its end needs no search.
+// The same. A walk that goes along the chain to its end needs no search. A walk from a point that is not of a block, or not in the set, reaches nothing;
+// nothing is promised where there are more than 1,024 points.
 pub fn reach(
     chain: &[u32; 32],
     first: &[u16; 1025],
@@ -254,11 +255,16 @@ pub fn reach(
     code: usize,
     p: usize,
 ) -> Reached
-    requires { ⌜ (code ≤ 1024) × (inCode (now words) from code p ≡ true) ⌝ }
-    ensures { λ r. ⌜ (Chained (now (chain .entry)) (now (first .entry)) (now (succ .entry))
+    ensures { λ r. ⌜ (code ≤ 1024 → Chained (now (chain .entry)) (now (first .entry)) (now (succ .entry))
         → Reaches (Reach (Edge (now (first .entry)) (now (succ .entry))) (inCode (now (words .entry)) from code) p) (now (first .entry)) (r .points) (r .exit)) ⌝ }
 {
     let mut points = [0; 32];
+    if (1024 < code) | (code <= p) | !bit_set::test(words, from, p) {
+        return Reached {
+            points,
+            exit: false,
+        };
+    }
     let end = follow(chain, words, from, code, &mut points, p);
     if bit_set::test(chain, 0, end) {
         return Reached {
