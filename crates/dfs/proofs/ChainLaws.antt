@@ -67,7 +67,7 @@ below-all : (f : ℕ → Bool) (n : ℕ) → allBelow f n ≡ true → (i : ℕ)
 below-all f zero e i l = absurd (omega arith)
 below-all f (suc n) e i l = elim (ℕ-discrete i n) [ yes q ↦ ap f q ∙ both (f n) (allBelow f n) e .0 | no q ↦ below-all f n (both (f n) (allBelow f n) e .1) i (omega (arith, q)) ]
 
-full-digit : (i : ℕ) → i < 32 → eqb (digit full i) 1 ≡ true
+pub full-digit : (i : ℕ) → i < 32 → eqb (digit full i) 1 ≡ true
 full-digit i l = below-all (λ i. eqb (digit full i) 1) 32 refl i l
 
 -- each number of such a word is held
