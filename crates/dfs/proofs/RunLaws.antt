@@ -1,7 +1,7 @@
 -- The laws of `Run` and `Mask`: the steps that a walk may take within a word, and the points that they put. Assumes nothing.
-use mathlib.Core.Path.{_≡_, refl, sym, ap, _∙_, subst}
+use mathlib.Core.Path.{_≡_, refl, sym, ap, _∙_}
 use mathlib.Core.Logic.{_⊎_, inl, inr}
-use mathlib.Core.Bool.{Bool, true, false, true≢false}
+use mathlib.Core.Bool.{Bool, true}
 use mathlib.Core.List.{List}
 use Prim.Native.Nat.{ℕ, zero, suc, _+_, _-_, _*_, _/_, _%_, _^_, _≤_, _<_, min, max}
 use native.Mathlib.Nat.{pow-suc, mul-assoc, div-eq-of-lt}
@@ -12,13 +12,13 @@ use lib.Seq.{getD-set-same, getD-set-other}
 use lib.Dec.{eqb}
 use lib.Pow.{pow-mono, shl-exact, shl-shr, shr-shr, shr-le, shr-lt}
 use lib.Bits.{bitAnd, bitOr, and-le-l, and-shr, and-step}
-use lib.Count.{trailingZeros, under}
+use lib.Count.{trailingZeros, under, trailing-of-zero}
 use borrow.Author.Tests.{eqb-true, eq-eqb, lt-ltb}
 use Rattle.nll_spec.specs.Output.{wordBits}
 use Rattle.bit_set.specs.Bits.{has}
 use Rattle.bit_set.proofs.BitLaws.{digit, digit-lt, digit-or, digit-suc, place}
 use Rattle.dfs.specs.Walk.{inCode, Along, Stopped, Run, Mask}
-use Rattle.dfs.proofs.ChainLaws.{at-zero, full-digit}
+use Rattle.dfs.proofs.ChainLaws.{at-zero}
 
 -- ---- Digits
 
@@ -50,6 +50,9 @@ ones-below (suc k) y n i e l = go i (n % 2) refl l (λ j t. ones-below k (y / 2)
     go zero zero z t h = omega (arith, twice, z)
     go (suc i) zero z t h = digit-suc y i ∙ h i (omega arith)
     go i (suc r) z t h = absurd (omega arith)
+
+full-below : (i : ℕ) → i < 32 → digit full i ≡ 1
+full-below i l = ones-below 32 full 0 i refl (rw (trailing-of-zero 32) l)
 
 full-above : (i : ℕ) → 32 ≤ i → digit full i ≡ 0
 full-above i l =
@@ -105,7 +108,7 @@ mask-bits b n l = rw exact record { inside = inside′; only = only′ }
     inside′ : (i : ℕ) → b ≤ i → i ≤ b + n → digit (a * 2 ^ b) i ≡ 1
     inside′ i u v =
         let e : i ≡ b + (i - b) = omega arith in
-        rw e (shl-high a b (i - b) ∙ digit-shr full (31 - n) (i - b) ∙ eqb-true _ _ (full-digit (31 - n + (i - b)) (omega arith)))
+        rw e (shl-high a b (i - b) ∙ digit-shr full (31 - n) (i - b) ∙ full-below (31 - n + (i - b)) (omega arith))
 
     only′ : (i : ℕ) → digit (a * 2 ^ b) i ≡ 1 → (b ≤ i) × (i ≤ b + n)
     only′ i e = go (decLt i b) (decLt (b + n) i)

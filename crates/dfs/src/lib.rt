@@ -3,7 +3,7 @@
 use graph::tables::up_to;
 ghost use mathlib.Core.Path.{_≡_};
 ghost use mathlib.Core.Bool.{true};
-ghost use Prim.Native.Nat.{_+_, _<_, _≤_};
+ghost use Prim.Native.Nat.{_+_, _<_, _≤_, min};
 ghost use lib.ListN.{length};
 ghost use Rattle.graph.specs.Search.{state};
 ghost use Rattle.bit_set.specs.Bits.{withBit};
@@ -115,8 +115,8 @@ fn visit_next(
     d
 }
 
-fn least(x: usize, y: usize) -> usize
-    ensures { λ r. ⌜ (r ≤ x) × (r ≤ y) ⌝ }
+fn lesser(x: usize, y: usize) -> usize
+    ensures { λ r. ⌜ r ≡ min x y ⌝ }
 {
     if x < y {
         return x;
@@ -170,8 +170,8 @@ fn advance(
     }
     let k = next / 32;
     let b = next % 32;
-    let limit = least(31 - b, code - 1 - next);
-    let n = least(wide32(run_length(chain[k], words[from + k], b)), limit);
+    let limit = lesser(31 - b, code - 1 - next);
+    let n = lesser(wide32(run_length(chain[k], words[from + k], b)), limit);
     points[k] = points[k] | mask(b, n);
     next + n
 }

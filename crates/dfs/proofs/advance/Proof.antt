@@ -37,17 +37,17 @@ returns-4 : tie.Need-returns-4
 returns-4 c = let a = c .before .before .before .before .before .before .before .before .before .before .before .args in
     there-yet (a .chain .now) (a .words .now) (a .from) (a .code) (a .points .now) (a .q) (c .before .before .before .before .before .before .before .before .before .before .before .pre .2) (c .before .before .before .before .before .before .before .before .before .before .before .pre .0) (c .before .before .before .before .before .before .before .before .before .before .before .pre .1) (c .before .test3 .result) (c .before .test3 .ensures) (c .if4 .taken)
 
-sub-least : tie.Need-sub-least
-sub-least c = search needs
+sub-lesser : tie.Need-sub-lesser
+sub-lesser c = search needs
 
-sub-least-2 : tie.Need-sub-least-2
-sub-least-2 c = search needs
+sub-lesser-2 : tie.Need-sub-lesser-2
+sub-lesser-2 c = search needs
 
-sub-least-3 : tie.Need-sub-least-3
-sub-least-3 c = search needs
+sub-lesser-3 : tie.Need-sub-lesser-3
+sub-lesser-3 c = search needs
 
-least-requires : tie.Need-least-requires
-least-requires c κs = search needs
+lesser-requires : tie.Need-lesser-requires
+lesser-requires c κs = search needs
 
 mul-run-length : tie.Need-mul-run-length
 mul-run-length c = search needs
@@ -73,8 +73,8 @@ run-length-requires c κs = search needs
 wide32-requires : tie.Need-wide32-requires
 wide32-requires c κs = search needs
 
-least-requires-2 : tie.Need-least-requires-2
-least-requires-2 c κs = search needs
+lesser-requires-2 : tie.Need-lesser-requires-2
+lesser-requires-2 c κs = search needs
 
 mul-points : tie.Need-mul-points
 mul-points c = search needs
@@ -96,10 +96,10 @@ add-result c = search needs
 
 returns-5 : tie.Need-returns-5
 returns-5 c = let a = c .before .before .before .before .before .before .before .before .before .before .before .before .before .before .before .before .before .before .before .args in
-    let n = c .before .before .least2 in
-    let limit = c .before .before .before .before .before .before .before .least .ensures in
+    let n = c .before .before .lesser2 in
+    let limit = c .before .before .before .before .before .before .before .lesser .ensures in
     let run = c .before .before .before .before .run-length in
-    one-run (a .chain .now) (a .words .now) (a .from) (a .code) (a .points .now) (a .q) (c .before .before .before .before .before .before .before .before .before .before .before .before .before .before .before .before .before .before .before .pre .2) (c .before .before .before .before .before .before .before .before .before .before .before .before .before .before .before .before .before .before .before .pre .0) (c .before .before .before .before .before .before .before .before .before .before .before .before .before .before .before .before .before .if1 .left) (c .before .before .before .before .before .before .before .before .before .before .before .before .before .before .before .test .result) (c .before .before .before .before .before .before .before .before .before .before .before .before .before .test2 .result) (c .before .before .before .before .before .before .before .before .before .before .before .before .before .before .before .test .ensures) (not-false _ (c .before .before .before .before .before .before .before .before .before .before .before .before .before .before .if2 .left)) (c .before .before .before .before .before .before .before .before .before .before .before .before .before .test2 .ensures) (not-false _ (c .before .before .before .before .before .before .before .before .before .before .before .before .if3 .left)) (run .result) (n .result) (c .mask .result) (run .ensures) (omega (arith, n .ensures .0, c .before .before .before .wide32 .ensures)) (omega (arith, n .ensures .1, limit .0)) (omega (arith, n .ensures .1, limit .1)) (c .mask .ensures)
+    one-run (a .chain .now) (a .words .now) (a .from) (a .code) (a .points .now) (a .q) (c .before .before .before .before .before .before .before .before .before .before .before .before .before .before .before .before .before .before .before .pre .2) (c .before .before .before .before .before .before .before .before .before .before .before .before .before .before .before .before .before .before .before .pre .0) (c .before .before .before .before .before .before .before .before .before .before .before .before .before .before .before .before .before .if1 .left) (c .before .before .before .before .before .before .before .before .before .before .before .before .before .before .before .test .result) (c .before .before .before .before .before .before .before .before .before .before .before .before .before .test2 .result) (c .before .before .before .before .before .before .before .before .before .before .before .before .before .before .before .test .ensures) (not-false _ (c .before .before .before .before .before .before .before .before .before .before .before .before .before .before .if2 .left)) (c .before .before .before .before .before .before .before .before .before .before .before .before .before .test2 .ensures) (not-false _ (c .before .before .before .before .before .before .before .before .before .before .before .before .if3 .left)) (run .result) (n .result) (c .mask .result) (run .ensures) (omega (arith, n .ensures, c .before .before .before .wide32 .ensures)) (omega (arith, n .ensures, limit)) (omega (arith, n .ensures, limit)) (c .mask .ensures)
 
 pub advance-spec : {M : Type 1} → statement M
 advance-spec =
@@ -113,10 +113,10 @@ advance-spec =
     returns-3
     test-requires-3
     returns-4
-    sub-least
-    sub-least-2
-    sub-least-3
-    least-requires
+    sub-lesser
+    sub-lesser-2
+    sub-lesser-3
+    lesser-requires
     mul-run-length
     element-copy-out-run-length
     add-run-length
@@ -124,7 +124,7 @@ advance-spec =
     shared-slice-read-run-length
     run-length-requires
     wide32-requires
-    least-requires-2
+    lesser-requires-2
     mul-points
     element-copy-out-points
     mask-requires
