@@ -1,18 +1,17 @@
 -- The laws of `Along`, `Stopped` and `Chained`. Assumes nothing.
 use mathlib.Core.Path.{_≡_, refl, sym, ap, _∙_, subst}
-use mathlib.Core.Logic.{_⊎_, inl, inr, ⊎-elim}
+use mathlib.Core.Logic.{inl, inr, ⊎-elim}
 use mathlib.Core.Bool.{Bool, true, false, _&&_, true≢false}
 use mathlib.Core.List.{List}
-use Prim.Native.Nat.{ℕ, zero, suc, _+_, _-_, _*_, _/_, _%_, _≤_, _<_}
+use Prim.Native.Nat.{ℕ, _+_, _-_, _*_, _/_, _%_, _≤_, _<_}
 use native.Mathlib.Decide.{ℕ-discrete, decLt}
 use native.Mathlib.Omega.{arith}
-use lib.ListN.{length, getD, set, replicate, length-set}
-use lib.Seq.{getD-set-same, getD-set-other}
-use lib.Dec.{eqb, leb, ltb}
-use borrow.Author.Tests.{eqb-true, lt-ltb, le-ltb, leb-true, ltb-false}
+use lib.ListN.{length, getD, replicate}
+use lib.Dec.{eqb, ltb}
+use borrow.Author.Tests.{eqb-true, lt-ltb, le-ltb, ltb-false}
 use Rattle.nll_spec.specs.Output.{wordBits}
 use Rattle.bit_set.specs.Bits.{has, withBit}
-use Rattle.bit_set.proofs.BitLaws.{digit, place, has-out, length-with, has-with, has-with-other, with-out}
+use Rattle.bit_set.proofs.BitLaws.{digit, has-out, length-with, has-with, has-with-other, with-out}
 use Rattle.graph.specs.Tables.{rowStart, rowEnd, upTo}
 use Rattle.graph.proofs.SearchLaws.{no-mark}
 use Rattle.dfs.specs.Walk.{inCode, Follows, Chained, Along, Stopped}
@@ -50,44 +49,6 @@ with-kept ws j i h = go (ℕ-discrete i j) (decLt (j / wordBits) (length ws))
     go (yes q) (yes l) = rw q (has-with ws j l)
     go (yes q) (no l) = ap (λ (u : List ℕ). has u i) (with-out ws j (omega (arith, l))) ∙ h
 
--- ---- A word with all bits
-
-abbrev full : ℕ
-full = 4294967295
-
-abbrev allBelow : (ℕ → Bool) → ℕ → Bool
-allBelow f zero = true
-allBelow f (suc n) = f n && allBelow f n
-
-both : (a b : Bool) → (a && b) ≡ true → (a ≡ true) × (b ≡ true)
-both true b e = (refl, e)
-both false b e = absurd (true≢false (sym e))
-
-below-all : (f : ℕ → Bool) (n : ℕ) → allBelow f n ≡ true → (i : ℕ) → i < n → f i ≡ true
-below-all f zero e i l = absurd (omega arith)
-below-all f (suc n) e i l = elim (ℕ-discrete i n) [ yes q ↦ ap f q ∙ both (f n) (allBelow f n) e .0 | no q ↦ below-all f n (both (f n) (allBelow f n) e .1) i (omega (arith, q)) ]
-
-full-digit : (i : ℕ) → i < 32 → eqb (digit full i) 1 ≡ true
-full-digit i l = below-all (λ i. eqb (digit full i) 1) 32 refl i l
-
--- each number of such a word is held
-full-has : (ws : List ℕ) (s k x : ℕ) → getD ws (s + k) 0 ≡ full → x / 32 ≡ k → has ws (wordBits * s + x) ≡ true
-full-has ws s k x e q =
-    let l : x % 32 < 32 = omega arith in
-    ap (λ (b : ℕ). eqb b 1) (place ws s x) ∙ ap (λ (i : ℕ). eqb (digit (getD ws (s + i) 0) (x % 32)) 1) q ∙ ap (λ (w : ℕ). eqb (digit w (x % 32)) 1) e ∙ full-digit (x % 32) l
-
-full-has-0 : (ws : List ℕ) (k x : ℕ) → getD ws k 0 ≡ full → x / 32 ≡ k → has ws x ≡ true
-full-has-0 ws k x e q =
-    let l : x % 32 < 32 = omega arith in
-    ap (λ (i : ℕ). eqb (digit (getD ws i 0) (x % 32)) 1) q ∙ ap (λ (w : ℕ). eqb (digit w (x % 32)) 1) e ∙ full-digit (x % 32) l
-
-module _ (ps : List ℕ) (k : ℕ) (l : k < length ps) where
-  fill-in : (x : ℕ) → x / 32 ≡ k → has (set ps k full) x ≡ true
-  fill-in x q = full-has-0 (set ps k full) k x (getD-set-same ps k full 0 l) q
-
-  fill-other : (x : ℕ) → (x / 32 ≡ k → ⊥) → has (set ps k full) x ≡ has ps x
-  fill-other x n = ap (λ (w : ℕ). eqb (digit w (x % 32)) 1) (getD-set-other ps k (x / 32) full 0 n)
-
 -- ---- Along the chain
 
 module _ (chain : List ℕ) (h : ℕ → Bool) where
@@ -108,48 +69,6 @@ module _ (chain : List ℕ) (h : ℕ → Bool) where
   pub stay : (a : List ℕ) (q : ℕ) → length a ≡ 32 → q < 1024 → (has chain q ≡ true → h (q + 1) ≡ true → has a (q + 1) ≡ true)
       → Along chain h a a q q × (q ≡ q → Stopped chain h a q)
   stay a q e l c = (along-none a q e l, λ z. record { closed = c })
-
-  -- one point is put
-  along-one : (a : List ℕ) (q : ℕ) → length a ≡ 32 → q + 1 < 1024 → has chain q ≡ true → h (q + 1) ≡ true → Along chain h a (withBit a (q + 1)) q (q + 1)
-  along-one a q e l c k =
-      record {
-        sized = length-with a (q + 1) ∙ e;
-        up = omega arith;
-        below = l;
-        linked = λ x u v. let i : x ≡ q = omega (arith, u, v) in rw i c;
-        held = λ x u v. let i : x ≡ q + 1 = omega (arith, u, v) in rw i k;
-        kept = λ x m. with-kept a (q + 1) x m;
-        put = λ x u v. let i : x ≡ q + 1 = omega (arith, u, v) in rw i (has-with a (q + 1) (omega (arith, e)));
-        only = λ x m. elim (ℕ-discrete x (q + 1)) [ yes i ↦ inr (omega arith, omega arith) | no i ↦ inl (sym (has-with-other a (q + 1) x i) ∙ m) ];
-      }
-
-  pub one-more : (a : List ℕ) (q : ℕ) → length a ≡ 32 → q + 1 < 1024 → has chain q ≡ true → h (q + 1) ≡ true
-      → Along chain h a (withBit a (q + 1)) q (q + 1) × (q + 1 ≡ q → Stopped chain h (withBit a (q + 1)) q)
-  one-more a q e l c k = (along-one a q e l c k, λ z. absurd (omega arith))
-
-  -- a word is put
-  along-word : (a : List ℕ) (q k : ℕ) → length a ≡ 32 → q + 32 < 1024 → k ≡ (q + 1) / 32 → (q + 1) % 32 ≡ 0 → has chain q ≡ true
-      → ((x : ℕ) → x / 32 ≡ k → has chain x ≡ true) → ((x : ℕ) → x / 32 ≡ k → h x ≡ true) → Along chain h a (set a k full) q (q + 32)
-  along-word a q k e l ek r c cs hs =
-      record {
-        sized = length-set a k full ∙ e;
-        up = omega arith;
-        below = l;
-        linked = λ x u v. elim (ℕ-discrete x q) [ yes i ↦ rw i c | no i ↦ cs x (omega (arith, ek, r, u, v, i)) ];
-        held = λ x u v. hs x (omega (arith, ek, r, u, v));
-        kept = kept′;
-        put = λ x u v. fill-in a k lk x (omega (arith, ek, r, u, v));
-        only = only′;
-      }
-    where
-      lk : k < length a
-      lk = omega (arith, e, ek, l)
-
-      kept′ : (x : ℕ) → has a x ≡ true → has (set a k full) x ≡ true
-      kept′ x m = elim (ℕ-discrete (x / 32) k) [ yes i ↦ fill-in a k lk x i | no i ↦ fill-other a k lk x i ∙ m ]
-
-      only′ : (x : ℕ) → has (set a k full) x ≡ true → (has a x ≡ true) ⊎ ((q < x) × (x ≤ q + 32))
-      only′ x m = elim (ℕ-discrete (x / 32) k) [ yes i ↦ inr (omega (arith, i, ek, r), omega (arith, i, ek, r)) | no i ↦ inl (sym (fill-other a k lk x i) ∙ m) ]
 
   pub along-trans : {a b d : List ℕ} {p q e : ℕ} → Along chain h a b p q → Along chain h b d q e → Along chain h a d p e
   along-trans {a} {b} {d} {p} {q} {e} u v =
@@ -190,29 +109,6 @@ module _ (chain ws : List ℕ) (from code : ℕ) (a : List ℕ) (q : ℕ) (sized
   pub there-yet : (t : Bool) → t ≡ has a (wordBits * 0 + (q + 1)) → t ≡ true → Advanced a q
   there-yet t e f = stay chain (inCode ws from code) a q sized lq (λ c k. sym (at-zero a (q + 1)) ∙ sym e ∙ f)
 
-  module _ (t u : Bool) (et : t ≡ has chain (wordBits * 0 + q)) (yt : t ≡ true) (eu : u ≡ has ws (wordBits * from + (q + 1))) (yu : u ≡ true) (l : q + 1 < code) where
-    linked : has chain q ≡ true
-    linked = sym (at-zero chain q) ∙ sym et ∙ yt
-
-    pub one-point : (b : List ℕ) → b ≡ withBit a (wordBits * 0 + (q + 1)) → Advanced b (q + 1)
-    one-point b e =
-        let z : wordBits * 0 + (q + 1) ≡ q + 1 = omega arith in
-        subst (λ (d : List ℕ). Advanced d (q + 1)) (sym (e ∙ ap (withBit a) z))
-        (one-more chain (inCode ws from code) a q sized (omega arith) linked (rw (lt-ltb (q + 1) code l) (sym eu ∙ yu)))
-
-    pub one-word : (eqb ((q + 1) % 32) 0 && leb (q + 1 + 32) code) ≡ true → (eqb (getD chain ((q + 1) / 32) 0) full && eqb (getD ws (from + (q + 1) / 32) 0) full) ≡ true
-        → Advanced (set a ((q + 1) / 32) full) (q + 32)
-    one-word e f =
-        let k : ℕ = (q + 1) / 32 in
-        let r : (q + 1) % 32 ≡ 0 = eqb-true _ _ (both (eqb ((q + 1) % 32) 0) (leb (q + 1 + 32) code) e .0) in
-        let lc : q + 1 + 32 ≤ code = leb-true _ _ (both (eqb ((q + 1) % 32) 0) (leb (q + 1 + 32) code) e .1) in
-        let fs = both (eqb (getD chain ((q + 1) / 32) 0) full) (eqb (getD ws (from + (q + 1) / 32) 0) full) f in (
-          along-word chain (inCode ws from code) a q ((q + 1) / 32) sized (omega arith) refl r linked
-              (λ x i. full-has-0 chain ((q + 1) / 32) x (eqb-true _ _ (fs .0)) i)
-              (λ x i. let lx : x < code = omega (arith, i, r, lc) in rw (lt-ltb x code lx) (full-has ws from ((q + 1) / 32) x (eqb-true _ _ (fs .1)) i)),
-          λ z. absurd (omega arith),
-        )
-
 -- ---- Which points are of the chain
 
 pub up-to-le : (e : ℕ) → upTo e ≤ e
@@ -236,6 +132,10 @@ follows-row first succ q e l n =
       next = (rowStart first q, omega arith, rw u (omega arith), n);
       alone = λ s w. let i : w .0 ≡ rowStart first q = omega (arith, w .1, w .2, u) in sym (w .3) ∙ ap (λ (k : ℕ). getD succ k 0) i ∙ n;
     }
+
+both : (a b : Bool) → (a && b) ≡ true → (a ≡ true) × (b ≡ true)
+both true b e = (refl, e)
+both false b e = absurd (true≢false (sym e))
 
 -- as the code of `follows` goes
 pub follows-tests : (first succ : List ℕ) (q start end next : ℕ) → start ≡ rowStart first q → end ≡ rowEnd first q → next ≡ getD succ start 0 → end ≤ 1536 → start < end

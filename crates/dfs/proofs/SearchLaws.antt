@@ -6,12 +6,12 @@ use mathlib.Core.Bool.{Bool, true, false, not, _&&_, _||_, cond, true≢false}
 use mathlib.Core.List.{List}
 use Prim.Native.Nat.{ℕ, zero, suc, _+_, _-_, _*_, _≤_, _<_}
 use native.Mathlib.Nat.{not-suc-le-zero}
-use native.Mathlib.Decide.{ℕ-discrete}
+use native.Mathlib.Decide.{ℕ-discrete, decLt}
 use native.Mathlib.Omega.{arith}
 use lib.ListN.{length, getD, set, replicate, length-set, length-replicate}
 use lib.Seq.{getD-set-same, getD-set-other}
-use lib.Dec.{eqb, ltb}
-use borrow.Author.Tests.{eqb-true, eqb-false, eq-eqb, ne-eqb, ltb-true, lt-ltb, le-ltb, leb-true, le-leb}
+use lib.Dec.{eqb, leb, ltb}
+use borrow.Author.Tests.{eqb-true, eqb-false, eq-eqb, ne-eqb, ltb-true, ltb-false, lt-ltb, le-ltb, leb-true, leb-false, le-leb, not-true, not-false}
 use Rattle.nll_spec.specs.Output.{wordBits}
 use Rattle.bit_set.specs.Bits.{has, withBit}
 use Rattle.bit_set.proofs.BitLaws.{has-with, has-with-other}
@@ -496,3 +496,41 @@ module _ (chain first succ : List ℕ) (h : ℕ → Bool) (p : ℕ) (small : (s 
       let ex : false ≡ isLeaf chain first e = rw c in
       let turn = turn-code (replicate 32 0) ps false st (state (st .seen) (st .stack) 0) p e false (going-start hp) (omega arith) eq w ex es in
       finish ps false (state (st .seen) (st .stack) 0) (turn .going) refl ch
+
+-- ---- As the code of `reach` begins
+
+or-neither : (a b : Bool) → (a || b) ≡ false → (a ≡ false) × (b ≡ false)
+or-neither true b e = absurd (true≢false e)
+or-neither false b e = (refl, e)
+
+reach-start : {E : ℕ → ℕ → Type 0} {h : ℕ → Bool} {p x : ℕ} → Reach E h p x → h p ≡ true
+reach-start (here e) = e
+reach-start (step r e k) = reach-start r
+
+-- nothing is reached from a point that h does not hold
+reaches-none : (E : ℕ → ℕ → Type 0) (h : ℕ → Bool) (p : ℕ) (first : List ℕ) → h p ≡ false → Reaches (Reach E h p) first (replicate 32 0) false
+reaches-none E h p first f =
+    record {
+      sized = length-replicate {A = ℕ} 32 0;
+      sound = λ x m. absurd (true≢false (sym m ∙ has-none 32 x));
+      complete = λ x r. absurd (true≢false (sym (reach-start r) ∙ f));
+      leaf = λ e. absurd (true≢false (sym e));
+      exits = λ x r l. absurd (true≢false (sym (reach-start r) ∙ f));
+    }
+
+-- t says whether the set has p
+module _ (ws : List ℕ) (from code p : ℕ) (t : Bool) (et : t ≡ has ws (wordBits * from + p)) where
+  pub walk-starts : ((ltb 1024 code || leb code p) || not t) ≡ false → (code ≤ 1024) × (inCode ws from code p ≡ true)
+  walk-starts e =
+      let u = or-neither (ltb 1024 code || leb code p) (not t) e in
+      let v = or-neither (ltb 1024 code) (leb code p) (u .0) in
+      (ltb-false 1024 code (v .0), rw (lt-ltb p code (leb-false code p (v .1))) (sym et ∙ not-false t (u .1)))
+
+  pub walk-none : (first succ : List ℕ) → ((ltb 1024 code || leb code p) || not t) ≡ true → code ≤ 1024 → Reaches (Reach (Edge first succ) (inCode ws from code) p) first (replicate 32 0) false
+  walk-none first succ e l =
+      reaches-none (Edge first succ) (inCode ws from code) p first
+      (⊎-elim (λ k. ⊎-elim (λ i. absurd (omega (arith, ltb-true 1024 code i))) (λ i. code-out ws from code p (leb-true code p i)) (or-either (ltb 1024 code) (leb code p) k)) (λ k. unheld (not-true t k) (decLt p code)) (or-either (ltb 1024 code || leb code p) (not t) e))
+    where
+      unheld : t ≡ false → Dec (p < code) → inCode ws from code p ≡ false
+      unheld f (yes i) = rw (lt-ltb p code i) (sym et ∙ f)
+      unheld f (no i) = code-out ws from code p (omega (arith, i))

@@ -3,7 +3,7 @@ use mathlib.Core.Path.{_≡_}
 use mathlib.Core.Logic.{_⊎_}
 use mathlib.Core.Bool.{Bool, true, not, _&&_, cond}
 use mathlib.Core.List.{List}
-use Prim.Native.Nat.{ℕ, zero, suc, _+_, _-_, _*_, _≤_, _<_}
+use Prim.Native.Nat.{ℕ, zero, suc, _+_, _-_, _*_, _/_, _%_, _^_, _≤_, _<_}
 use lib.ListN.{length, getD, set}
 use lib.Dec.{eqb, leb, ltb}
 use Rattle.nll_spec.specs.Output.{wordBits}
@@ -45,6 +45,16 @@ pub record Along (chain : List ℕ) (h : ℕ → Bool) (a b : List ℕ) (q e : �
 -- if q is of the chain and h holds the next point, that is in the set b
 pub record Stopped (chain : List ℕ) (h : ℕ → Bool) (b : List ℕ) (q : ℕ) : Type 0 where
   pub closed : has chain q ≡ true → h (q + 1) ≡ true → has b (q + 1) ≡ true
+
+-- of the n bits of `links` from bit b on, and of the n bits of `inner` after bit b, each is 1
+pub record Run (links inner b n : ℕ) : Type 0 where
+  pub linked : (i : ℕ) → i < n → links / 2 ^ (b + i) % 2 ≡ 1
+  pub held : (i : ℕ) → i < n → inner / 2 ^ (b + i + 1) % 2 ≡ 1
+
+-- the bits of m that are 1 are b to b + n
+pub record Mask (b n m : ℕ) : Type 0 where
+  pub inside : (i : ℕ) → b ≤ i → i ≤ b + n → m / 2 ^ i % 2 ≡ 1
+  pub only : (i : ℕ) → m / 2 ^ i % 2 ≡ 1 → (b ≤ i) × (i ≤ b + n)
 
 -- s with a mark and on the stack
 abbrev pub pushed : ℕ → State → State

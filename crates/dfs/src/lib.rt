@@ -3,12 +3,12 @@
 use graph::tables::up_to;
 ghost use mathlib.Core.Path.{_≡_};
 ghost use mathlib.Core.Bool.{true};
-ghost use Prim.Native.Nat.{_<_, _≤_};
+ghost use Prim.Native.Nat.{_+_, _<_, _≤_, min};
 ghost use lib.ListN.{length};
 ghost use Rattle.graph.specs.Search.{state};
 ghost use Rattle.bit_set.specs.Bits.{withBit};
 ghost use Rattle.graph.specs.Tables.{Edge};
-ghost use Rattle.dfs.specs.Walk.{inCode, Follows, Chained, Along, Stopped, Reach, visited, row, left, isLeaf, Roomy, Reaches};
+ghost use Rattle.dfs.specs.Walk.{inCode, Follows, Chained, Along, Stopped, Run, Mask, Reach, visited, row, left, isLeaf, Roomy, Reaches};
 
 // The points that a walk reached, and whether one of them has no point after it.
 pub struct Reached {
@@ -17,6 +17,12 @@ pub struct Reached {
 }
 
 fn wide(x: u16) -> usize
+    ensures { λ r. ⌜ r ≡ x ⌝ }
+{
+    x as usize
+}
+
+fn wide32(x: u32) -> usize
     ensures { λ r. ⌜ r ≡ x ⌝ }
 {
     x as usize
@@ -109,8 +115,34 @@ fn visit_next(
     d
 }
 
-// Puts the next points of a walk along the chain into the points, and returns the last of them: those of a whole word, where q + 1 begins one that the
-// chain and the inner set have in full, or q + 1 alone. Returns q where q is not of the chain, the inner set lacks q + 1, or q + 1 is among the points.
+fn lesser(x: usize, y: usize) -> usize
+    ensures { λ r. ⌜ r ≡ min x y ⌝ }
+{
+    if x < y {
+        return x;
+    }
+    y
+}
+
+// How many steps a walk may take from bit b on within a word: from a bit of links to the next bit, if that is of inner.
+fn run_length(links: u32, inner: u32, b: usize) -> u32
+    requires { ⌜ b < 32 ⌝ }
+    ensures { λ r. ⌜ Run links inner b r ⌝ }
+{
+    let steps = links & (inner >> 1);
+    u32::trailing_zeros(!(steps >> b))
+}
+
+// The word with the bits b to b + n.
+fn mask(b: usize, n: usize) -> u32
+    requires { ⌜ b + n < 32 ⌝ }
+    ensures { λ r. ⌜ Mask b n r ⌝ }
+{
+    (4294967295 >> (31 - n)) << b
+}
+
+// Puts the next points of a walk along the chain into the points, as far as they are in one word, and returns the last of them. Returns q where q is
+// not of the chain, the inner set lacks q + 1, or q + 1 is among the points.
 fn advance(
     chain: &[u32; 32],
     words: &[u32],
@@ -137,14 +169,11 @@ fn advance(
         return q;
     }
     let k = next / 32;
-    if (next % 32 == 0) & (next + 32 <= code) {
-        if (chain[k] == 4294967295) & (words[from + k] == 4294967295) {
-            points[k] = 4294967295;
-            return q + 32;
-        }
-    }
-    bit_set::add(points, 0, next);
-    next
+    let b = next % 32;
+    let limit = lesser(31 - b, code - 1 - next);
+    let n = lesser(wide32(run_length(chain[k], words[from + k], b)), limit);
+    points[k] = points[k] | mask(b, n);
+    next + n
 }
 
 // Puts q and the points that a walk takes after it along the chain into the points, and returns the last of them.
@@ -244,7 +273,8 @@ fn search(
     Reached { points, exit }
 }
 
-// The same. A walk that goes along the chain to its end needs no search.
+// The same. A walk that goes along the chain to its end needs no search. A walk from a point that is not of a block, or not in the set, reaches nothing;
+// nothing is promised where there are more than 1,024 points.
 pub fn reach(
     chain: &[u32; 32],
     first: &[u16; 1025],
@@ -254,11 +284,16 @@ pub fn reach(
     code: usize,
     p: usize,
 ) -> Reached
-    requires { ⌜ (code ≤ 1024) × (inCode (now words) from code p ≡ true) ⌝ }
-    ensures { λ r. ⌜ (Chained (now (chain .entry)) (now (first .entry)) (now (succ .entry))
+    ensures { λ r. ⌜ (code ≤ 1024 → Chained (now (chain .entry)) (now (first .entry)) (now (succ .entry))
         → Reaches (Reach (Edge (now (first .entry)) (now (succ .entry))) (inCode (now (words .entry)) from code) p) (now (first .entry)) (r .points) (r .exit)) ⌝ }
 {
     let mut points = [0; 32];
+    if (1024 < code) | (code <= p) | !bit_set::test(words, from, p) {
+        return Reached {
+            points,
+            exit: false,
+        };
+    }
     let end = follow(chain, words, from, code, &mut points, p);
     if bit_set::test(chain, 0, end) {
         return Reached {

@@ -3,6 +3,7 @@ use Prim.Native.Nat.{_-_}
 use mathlib.Core.Path.{_≡_, _∙_}
 use mathlib.Core.Bool.{cond}
 use mathlib.Core.Logic.{⊎-elim}
+use native.Mathlib.Omega.{arith}
 use Rattle.infer.specs.Search.{ruleOf, passes, Gets, withRun}
 use Rattle.infer.proofs.EndLaws.{Holds, ends-hold, gets-below}
 use Rattle.infer.proofs.PutLaws.{spread-holds}
@@ -36,7 +37,7 @@ returns c = let st = c .before .before .before .before .before .before .before .
     λ chained.
     let e : points ≡ cond (got .result .exit) (withRun (passes rule ws (a .from)) (got .result .points) code (end - code)) (got .result .points) =
     ⊎-elim (λ w. rw (w .0 .taken) (w .4 ∙ w .3 .ensures)) (λ w. rw (w .0 .left) (w .1)) (c .before .before .before .before .before .if1 .came) in
-    let m : Holds (Gets rule first succ ws (a .from) code end (a .p)) points = rw e (ends-hold rule first succ ws (a .from) code end (a .p) (got .result .points) (got .result .exit) (st .pre .0) (st .pre .1) (got .ensures chained)) in
+    let m : Holds (Gets rule first succ ws (a .from) code end (a .p)) points = rw e (ends-hold rule first succ ws (a .from) code end (a .p) (got .result .points) (got .result .exit) (st .pre .0) (st .pre .1) (got .ensures (omega (arith, st .pre .0, st .pre .1)) chained)) in
     spread-holds (Gets rule first succ ws (a .from) code end (a .p)) ws (c .before .before .put .last .0) points (a .to) end (c .before .before .put .result) m (gets-below rule first succ ws (a .from) code end (a .p) (st .pre .0)) (c .before .before .put .ensures)
 
 pub spread-spec : {M : Type 1} → statement M
