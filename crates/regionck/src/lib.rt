@@ -100,6 +100,59 @@ fn solve(
     }
 }
 
+// The same for at most 256 points, with a list of a size for so many.
+fn solve_small(
+    s: &[u8],
+    layout: &[u16; 1280],
+    head: Head,
+    first: &[u16; 1025],
+    succ: &[u16; 1536],
+    chain: &[u32; 32],
+    walked: &[u32; 32],
+    shape: Shape,
+    rule: EndRule,
+    words: &mut [u32],
+    grown: &mut [u8; 128],
+)
+    requires { ⌜ (length (now layout) ≡ 1280) × (length (now grown) ≡ 128) ⌝ }
+    ensures { λ _. ⌜ (length (now (grown .exit)) ≡ 128) × ((j : Job) → Seeded (now (s .entry)) (now (layout .entry)) head (now (first .entry)) (now (succ .entry)) (now (walked .entry)) shape (now (words .entry)) j
+        → Chained (now (chain .entry)) (now (first .entry)) (now (succ .entry)) → Solved (ruleOf rule) j (now (words .entry)) (now (words .exit)) (now (grown .exit))) ⌝ }
+{
+    if shape.code <= 64 {
+        let mut list = [0; 513];
+        solve(
+            s,
+            layout,
+            head,
+            first,
+            succ,
+            chain,
+            walked,
+            shape,
+            rule,
+            words,
+            grown,
+            &mut list,
+        );
+    } else {
+        let mut list = [0; 4097];
+        solve(
+            s,
+            layout,
+            head,
+            first,
+            succ,
+            chain,
+            walked,
+            shape,
+            rule,
+            words,
+            grown,
+            &mut list,
+        );
+    }
+}
+
 // The words hold the regions' seeds before, and their least sets after. `grown` marks, by 1, the declared regions whose sets exceed their seeds.
 pub fn regionck(
     s: &[u8],
@@ -118,9 +171,8 @@ pub fn regionck(
         → Solved (ruleOf rule) j (now (words .entry)) (now (words .exit)) (now (grown .exit))) ⌝ }
 {
     let chain = dfs::chains(first, succ, shape.code);
-    if shape.code <= 64 {
-        let mut list = [0; 513];
-        solve(
+    if shape.code <= 256 {
+        solve_small(
             s,
             layout,
             head,
@@ -132,10 +184,9 @@ pub fn regionck(
             rule,
             words,
             grown,
-            &mut list,
         );
     } else {
-        let mut list = [0; 8193];
+        let mut list = [0; 24577];
         solve(
             s,
             layout,
