@@ -25,12 +25,12 @@ use Rattle.infer.specs.Ran.{Given, AllNamed, Ran, Runs}
 use Rattle.infer.specs.declared.EndRule as declared
 use Rattle.infer.specs.declared.Shape.{Shape}
 use Rattle.infer.proofs.RanLaws.{ran-none, ran-append, given-kept}
-use Rattle.regionck.specs.Constraining.{Constrains}
+use Rattle.constraints.specs.Constraining.{Constrains}
 use Rattle.regionck.specs.Rounds.{settingOf, noMarks, walkedAt, WalkedIn, constraintsBelow, Known, PointAdds, Holding, Collects, Holds, RoundRuns}
 use Rattle.regionck.specs.declared.round.Held.{Held}
-use Rattle.regionck.proofs.ListLaws.{select-below}
+use Rattle.constraints.proofs.ListLaws.{select-below}
 use Rattle.regionck.proofs.NamedLaws.{named-below}
-use Rattle.regionck.proofs.FewLaws.{few-constraints}
+use Rattle.constraints.proofs.FewLaws.{few-constraints}
 
 -- ---- A point
 

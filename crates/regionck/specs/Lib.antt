@@ -1,2 +1,1 @@
-pub mod Constraining
 pub mod Rounds

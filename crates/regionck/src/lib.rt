@@ -1,5 +1,4 @@
 // The regions' least sets: rounds of the constraints of all actions, until no set grows.
-mod constraints;
 mod round;
 
 use infer::EndRule;

@@ -1,5 +1,5 @@
 // One round of the constraints.
-use super::constraints::constrain;
+use constraints::constrain;
 use infer::EndRule;
 use infer::Shape;
 use record::Head;

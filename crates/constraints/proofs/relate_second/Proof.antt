@@ -1,8 +1,8 @@
--- `regionck::constraints::relate_second`: by where the second type stands. Assumes nothing.
-use Rattle.regionck.proofs.ConstrainLaws.{second-refused, second-inside, second-written}
+-- `constraints::relate_second`: by where the second type stands. Assumes nothing.
+use Rattle.constraints.proofs.ConstrainLaws.{second-refused, second-inside, second-written}
 use borrow.Author.Needs.{needs}
-use Rattle.regionck.proofs.constraints.relate_second.Statement.{statement}
-use Rattle.regionck.proofs.constraints.relate_second.Tie as tie
+use Rattle.constraints.proofs.relate_second.Statement.{statement}
+use Rattle.constraints.proofs.relate_second.Tie as tie
 
 enum-told : tie.Need-enum-told
 enum-told c = search needs

@@ -24,11 +24,11 @@ use Rattle.env.specs.Prefixes.{ShortestIn}
 use Rattle.env.specs.declared.Shortest.{Shortest}
 use Rattle.constraint_list.specs.Listed.{Adds}
 use Rattle.relate.specs.declared.Run.{Run}
-use Rattle.regionck.specs.declared.constraints.Source.{Source}
-use Rattle.regionck.specs.declared.constraints.PathTypes.{PathTypes}
-use Rattle.regionck.specs.declared.constraints.Pair.{Pair}
-use Rattle.regionck.specs.declared.constraints.Related.{Related}
-use Rattle.regionck.specs.declared.constraints.Related.the-variants.{Assigned, Borrowed}
+use Rattle.constraints.specs.declared.Source.{Source}
+use Rattle.constraints.specs.declared.PathTypes.{PathTypes}
+use Rattle.constraints.specs.declared.Pair.{Pair}
+use Rattle.constraints.specs.declared.Related.{Related}
+use Rattle.constraints.specs.declared.Related.the-variants.{Assigned, Borrowed}
 
 -- the run, at the next point
 abbrev pub after : Run → Run

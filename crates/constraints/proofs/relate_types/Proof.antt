@@ -1,8 +1,8 @@
--- `regionck::constraints::relate_types`: an assignment or a borrow. Assumes nothing.
-use Rattle.regionck.proofs.ConstrainLaws.{types-assigned, types-borrowed}
+-- `constraints::relate_types`: an assignment or a borrow. Assumes nothing.
+use Rattle.constraints.proofs.ConstrainLaws.{types-assigned, types-borrowed}
 use borrow.Author.Needs.{needs}
-use Rattle.regionck.proofs.constraints.relate_types.Statement.{statement}
-use Rattle.regionck.proofs.constraints.relate_types.Tie as tie
+use Rattle.constraints.proofs.relate_types.Statement.{statement}
+use Rattle.constraints.proofs.relate_types.Tie as tie
 
 enum-told : tie.Need-enum-told
 enum-told c = search needs

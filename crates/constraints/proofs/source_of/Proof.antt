@@ -1,9 +1,9 @@
--- `regionck::constraints::source_of`. Assumes nothing.
+-- `constraints::source_of`. Assumes nothing.
 use mathlib.Core.Path.{refl}
-use Rattle.regionck.proofs.ConstrainLaws.{source-unread, source-says}
+use Rattle.constraints.proofs.ConstrainLaws.{source-unread, source-says}
 use borrow.Author.Needs.{needs}
-use Rattle.regionck.proofs.constraints.source_of.Statement.{statement}
-use Rattle.regionck.proofs.constraints.source_of.Tie as tie
+use Rattle.constraints.proofs.source_of.Statement.{statement}
+use Rattle.constraints.proofs.source_of.Tie as tie
 
 enum-known-how : tie.Need-enum-known-how
 enum-known-how c = search needs

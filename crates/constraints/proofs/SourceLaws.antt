@@ -19,7 +19,7 @@ use Rattle.nll_spec.proofs.TypeLaws.{path-good}
 use Rattle.env.specs.Prefixes.{kindCode, Leaves, ShortestOf}
 use Rattle.env.specs.declared.Shortest.{Shortest}
 use Rattle.env.proofs.PrefixLaws.{later-never-stops, ref-kind}
-use Rattle.regionck.specs.Constraining.{stepConstraints, sourceConstraints}
+use Rattle.constraints.specs.Constraining.{stepConstraints, sourceConstraints}
 
 -- ---- Step by step
 

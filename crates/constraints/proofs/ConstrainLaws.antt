@@ -46,15 +46,15 @@ use Rattle.relate.specs.Relates.{Relates, RelatesRef}
 use Rattle.relate.specs.declared.Run.{Run}
 use Rattle.constraint_list.specs.Listed.{Adds}
 use Rattle.constraint_list.proofs.ListLaws.{adds-none, adds-append}
-use Rattle.regionck.specs.Constraining.{after, stepConstraints, sourceConstraints, Takes, SourceIs, SourceSays, PathTypesSay, alongSource, TypesAdd, SecondAdds, PathsAdd, PairAdds, Constrains}
-use Rattle.regionck.specs.declared.constraints.Source.{Source}
-use Rattle.regionck.specs.declared.constraints.PathTypes.{PathTypes}
-use Rattle.regionck.specs.declared.constraints.Pair.{Pair}
-use Rattle.regionck.specs.declared.constraints.Related.{Related}
-use Rattle.regionck.specs.declared.constraints.Related.the-variants.{Assigned, Borrowed}
-use Rattle.regionck.proofs.ListLaws.{gather-below}
-use Rattle.regionck.proofs.ActionLaws.{assign-takes, borrow-takes}
-use Rattle.regionck.proofs.SourceLaws.{source-same}
+use Rattle.constraints.specs.Constraining.{after, stepConstraints, sourceConstraints, Takes, SourceIs, SourceSays, PathTypesSay, alongSource, TypesAdd, SecondAdds, PathsAdd, PairAdds, Constrains}
+use Rattle.constraints.specs.declared.Source.{Source}
+use Rattle.constraints.specs.declared.PathTypes.{PathTypes}
+use Rattle.constraints.specs.declared.Pair.{Pair}
+use Rattle.constraints.specs.declared.Related.{Related}
+use Rattle.constraints.specs.declared.Related.the-variants.{Assigned, Borrowed}
+use Rattle.constraints.proofs.ListLaws.{gather-below}
+use Rattle.constraints.proofs.ActionLaws.{assign-takes, borrow-takes}
+use Rattle.constraints.proofs.SourceLaws.{source-same}
 
 -- ---- A step of a borrow's source
 

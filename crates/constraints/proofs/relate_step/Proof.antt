@@ -1,8 +1,8 @@
--- `regionck::constraints::relate_step`. Assumes nothing.
-use Rattle.regionck.proofs.ConstrainLaws.{step-out, step-other, step-short, step-made}
+-- `constraints::relate_step`. Assumes nothing.
+use Rattle.constraints.proofs.ConstrainLaws.{step-out, step-other, step-short, step-made}
 use borrow.Author.Needs.{needs}
-use Rattle.regionck.proofs.constraints.relate_step.Statement.{statement}
-use Rattle.regionck.proofs.constraints.relate_step.Tie as tie
+use Rattle.constraints.proofs.relate_step.Statement.{statement}
+use Rattle.constraints.proofs.relate_step.Tie as tie
 
 returns : tie.Need-returns
 returns c = let a = c .before .before .args in step-out (a .run .at) (a .kinds .now) (a .names .now) (a .of .supporting) (a .of .region .0) (a .i) (c .before .before .pre .0) (c .if1 .taken)

@@ -1,8 +1,8 @@
--- `regionck::constraints::constrain`: by the action that is read. Assumes nothing.
-use Rattle.regionck.proofs.ConstrainLaws.{read-at, point-far, action-refused, action-other, action-borrow, action-assign, action-constraint}
+-- `constraints::constrain`: by the action that is read. Assumes nothing.
+use Rattle.constraints.proofs.ConstrainLaws.{read-at, point-far, action-refused, action-other, action-borrow, action-assign, action-constraint}
 use borrow.Author.Needs.{needs}
-use Rattle.regionck.proofs.constraints.constrain.Statement.{statement}
-use Rattle.regionck.proofs.constraints.constrain.Tie as tie
+use Rattle.constraints.proofs.constrain.Statement.{statement}
+use Rattle.constraints.proofs.constrain.Tie as tie
 
 returns : tie.Need-returns
 returns c = point-far (c .if1 .taken)

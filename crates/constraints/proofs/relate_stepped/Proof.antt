@@ -1,8 +1,8 @@
--- `regionck::constraints::relate_stepped`: the types of both paths, related, and the supporting prefixes of a borrow's source. Assumes nothing.
-use Rattle.regionck.proofs.ConstrainLaws.{pair-runs}
+-- `constraints::relate_stepped`: the types of both paths, related, and the supporting prefixes of a borrow's source. Assumes nothing.
+use Rattle.constraints.proofs.ConstrainLaws.{pair-runs}
 use borrow.Author.Needs.{needs}
-use Rattle.regionck.proofs.constraints.relate_stepped.Statement.{statement}
-use Rattle.regionck.proofs.constraints.relate_stepped.Tie as tie
+use Rattle.constraints.proofs.relate_stepped.Statement.{statement}
+use Rattle.constraints.proofs.relate_stepped.Tie as tie
 
 path-types-requires : tie.Need-path-types-requires
 path-types-requires c κs = search needs

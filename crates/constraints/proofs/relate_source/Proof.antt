@@ -1,14 +1,14 @@
--- `regionck::constraints::relate_source`. The loop's invariant: the constraints of the first i steps are run. Assumes nothing.
+-- `constraints::relate_source`. The loop's invariant: the constraints of the first i steps are run. Assumes nothing.
 use Prim.Native.Nat.{_-_, _≤_}
 use mathlib.Core.Path.{_≡_}
 use native.Mathlib.Omega.{arith}
 use lib.ListN.{length}
 use Rattle.constraint_list.specs.Listed.{Adds}
-use Rattle.regionck.specs.Constraining.{sourceConstraints}
-use Rattle.regionck.proofs.ConstrainLaws.{source-none, source-more}
+use Rattle.constraints.specs.Constraining.{sourceConstraints}
+use Rattle.constraints.proofs.ConstrainLaws.{source-none, source-more}
 use borrow.Author.Needs.{needs}
-use Rattle.regionck.proofs.constraints.relate_source.Statement.{statement}
-use Rattle.regionck.proofs.constraints.relate_source.Tie as tie
+use Rattle.constraints.proofs.relate_source.Statement.{statement}
+use Rattle.constraints.proofs.relate_source.Tie as tie
 
 abbrev Inv-loop : tie.InvT-loop
 Inv-loop of kinds names run list₀ i₀ list i =

@@ -21,7 +21,7 @@ ghost use lib.ListN.{length};
 ghost use Rattle.repr.specs.declared.Path.{Path};
 ghost use Rattle.env.specs.Paths.{PathSays};
 ghost use Rattle.constraint_list.specs.Listed.{Adds};
-ghost use Rattle.regionck.specs.Constraining.{after, stepConstraints, sourceConstraints, SourceSays, PathTypesSay, TypesAdd, SecondAdds, PathsAdd, PairAdds, Constrains};
+ghost use Rattle.constraints.specs.Constraining.{after, stepConstraints, sourceConstraints, SourceSays, PathTypesSay, TypesAdd, SecondAdds, PathsAdd, PairAdds, Constrains};
 
 fn wide(x: u8) -> usize
     ensures { λ r. ⌜ (r ≡ x) × (r ≤ 255) ⌝ }

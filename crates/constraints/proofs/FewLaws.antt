@@ -28,7 +28,7 @@ use Rattle.record.specs.declared.Head.{Head}
 use Rattle.record.proofs.LayoutLaws.{count-most}
 use Rattle.env.proofs.FieldLaws.{type-few}
 use Rattle.env.proofs.ShortLaws.{short, allShort}
-use Rattle.regionck.proofs.ActionLaws.{fits, shorts}
+use Rattle.constraints.proofs.ActionLaws.{fits, shorts}
 
 -- ---- Two types: at most 8 constraints a node
 

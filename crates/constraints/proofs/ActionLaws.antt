@@ -19,7 +19,7 @@ use Rattle.repr.specs.declared.Path as repr
 use Rattle.record.specs.Layout.{Layout}
 use Rattle.record.specs.declared.Head.{Head}
 use Rattle.env.proofs.ShortLaws.{short, allShort, coded-short}
-use Rattle.regionck.specs.Constraining.{Takes}
+use Rattle.constraints.specs.Constraining.{Takes}
 
 -- ---- Paths of a job that is not refused
 

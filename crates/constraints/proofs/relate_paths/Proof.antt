@@ -1,8 +1,8 @@
--- `regionck::constraints::relate_paths`: two variables, or paths with steps. Assumes nothing.
-use Rattle.regionck.proofs.ConstrainLaws.{both-zero, pair-stepless}
+-- `constraints::relate_paths`: two variables, or paths with steps. Assumes nothing.
+use Rattle.constraints.proofs.ConstrainLaws.{both-zero, pair-stepless}
 use borrow.Author.Needs.{needs}
-use Rattle.regionck.proofs.constraints.relate_paths.Statement.{statement}
-use Rattle.regionck.proofs.constraints.relate_paths.Tie as tie
+use Rattle.constraints.proofs.relate_paths.Statement.{statement}
+use Rattle.constraints.proofs.relate_paths.Tie as tie
 
 relate-stepped-requires : tie.Need-relate-stepped-requires
 relate-stepped-requires c κs = search needs

@@ -1,8 +1,8 @@
--- `regionck::constraints::relate_found`: by where the first type stands. Assumes nothing.
-use Rattle.regionck.proofs.ConstrainLaws.{paths-refused, paths-inside, paths-written}
+-- `constraints::relate_found`: by where the first type stands. Assumes nothing.
+use Rattle.constraints.proofs.ConstrainLaws.{paths-refused, paths-inside, paths-written}
 use borrow.Author.Needs.{needs}
-use Rattle.regionck.proofs.constraints.relate_found.Statement.{statement}
-use Rattle.regionck.proofs.constraints.relate_found.Tie as tie
+use Rattle.constraints.proofs.relate_found.Statement.{statement}
+use Rattle.constraints.proofs.relate_found.Tie as tie
 
 enum-told : tie.Need-enum-told
 enum-told c = search needs

@@ -1,0 +1,5 @@
+pub mod ListLaws
+pub mod ActionLaws
+pub mod SourceLaws
+pub mod ConstrainLaws
+pub mod FewLaws
