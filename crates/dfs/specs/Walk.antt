@@ -84,7 +84,7 @@ pub record Roomy (seen : List ℕ) (depth : ℕ) : Type 0 where
 
 -- ---- Points that nothing follows
 
--- the tables say that no point follows q
+-- q's row of the table is empty
 abbrev pub Leaf : List ℕ → ℕ → Type 0
 Leaf first q = rowEnd first q ≤ rowStart first q
 

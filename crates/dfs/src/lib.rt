@@ -44,7 +44,7 @@ fn follows(first: &[u16; 1025], succ: &[u16; 1536], q: usize) -> bool
     (end - start == 1) & (wide(succ[start]) == q + 1)
 }
 
-// The points below code that are followed by the next one alone. None where there are more than 1,024.
+// Points below code, each followed by the next one alone. Not all of them need be there: a smaller chain is as right, and slower.
 pub fn chains(first: &[u16; 1025], succ: &[u16; 1536], code: usize) -> [u32; 32]
     ensures { λ r. ⌜ Chained r (now (first .entry)) (now (succ .entry)) ⌝ }
 {

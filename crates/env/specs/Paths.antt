@@ -49,7 +49,7 @@ abbrev pub kindNumber : BorrowKind → ℕ
 kindNumber Mut = 1
 kindNumber Shared = 2
 
--- It is the region's name, if the region has one.
+-- n is the region's name, if the region has one.
 pub record Named (region : Region) (n : ℕ) : Type 0 where
   pub same : (r : ℕ) → region ≡ Free r → n ≡ r
 

@@ -38,7 +38,7 @@ notShared k = not (eqb k 2)
 abbrev pub notRef : ℕ → Bool
 notRef k = eqb k 0
 
--- At least a of the first n are needed, so that all after them pass the test.
+-- Exactly the numbers from a on leave, of the first n kinds, only ones that pass the test.
 pub record Least (test : ℕ → Bool) (kinds : List ℕ) (n a : ℕ) : Type 0 where
   pub says : (m : ℕ) → leb a m ≡ every test (drop m (take n kinds))
 
@@ -46,11 +46,12 @@ pub record Least (test : ℕ → Bool) (kinds : List ℕ) (n a : ℕ) : Type 0 w
 abbrev pub laterOf : Shortest → ℕ → ℕ → Shortest
 laterOf r k i = record { supporting = cond (notShared k) (r .supporting) i; frozen = cond (notRef k) (r .frozen) i }
 
+-- The shortest supporting and frozen prefixes, by the kinds that the n steps leave.
 pub record ShortestIn (kinds : List ℕ) (n : ℕ) (r : Shortest) : Type 0 where
   pub supporting : Least notShared kinds n (r .supporting)
   pub frozen : Least notRef kinds n (r .frozen)
 
--- A prefix of p is a supporting one, or a frozen one, if it has so many steps.
+-- A prefix of p is a supporting one, or a frozen one, exactly if it has at least so many steps.
 pub record ShortestOf (j : Job) (p : Path) (r : Shortest) : Type 0 where
   pub supporting : (q : Path) → isSupporting j q p ≡ isPrefix j q p && leb (r .supporting) (length (q .steps))
   pub frozen : (q : Path) → isFrozen j q p ≡ isPrefix j q p && leb (r .frozen) (length (q .steps))

@@ -51,7 +51,7 @@ module _ (s : Setting) where
   abbrev pub Within : Sets → Sets → Type 0
   Within a b = (r : RegionName) (q : Point) → r < s .regions → T (a r q) → T (b r q)
 
-  -- A constraint is met, or its inner set grew in the last round or in this one. `last` and `grew` have the marks.
+  -- A constraint is met, or its inner set has a mark: in `last`, the last round's (before the first, all), or in `grew`, this round's.
   abbrev pub Ready : List ℕ → List ℕ → List ℕ → Outlives → Type 0
   Ready last ws grew c = Met (setsOf ws) c ⊎ (Marked last (c .sub) ⊎ Marked grew (c .sub))
 
@@ -87,7 +87,7 @@ pub record Ran (s : Setting) (last : List ℕ) (cs : List Outlives) (ws grew ws�
   -- any sets that have what was there, and meet the constraints, have what is there
   pub within : (sets : Sets) → Within s (setsOf s ws) sets → ((c : Outlives) → Member c cs → Met s sets c) → Within s (setsOf s ws′) sets
 
--- Rounds of cs were run, from the words ws to ws′.
+-- What a run of some of cs keeps, from the words ws to ws′.
 pub record Rounds (s : Setting) (cs : List Outlives) (ws ws′ : List ℕ) : Type 0 where
   pub as-long : length ws′ ≡ length ws
   pub fits : Words ws → Words ws′

@@ -1,4 +1,4 @@
--- What running one constraint computes, from the tables, the words and the marks that it is handed.
+-- What running one constraint computes, from the tables and the words that it is handed.
 use mathlib.Core.Path.{_≡_}
 use mathlib.Core.Logic.{_⊎_}
 use mathlib.Core.Bool.{Bool, true, false, not, _&&_, _||_, cond}

@@ -36,7 +36,8 @@ module _ (input ws bs : List ℕ) (n : ℕ) (ws′ bs′ : List ℕ) where
     pub accepted : n ≡ 0
     pub quiet : (p : Point) → p < pointCount j → verdictIn bs′ p .kind ≡ 0
 
-  -- Demand 3, as `nll_spec` has it: on each path from a borrow of a walked block into a plain variable to a use of a holder, what is lent stays untouched.
+  -- Demand 3, as `nll_spec` has it: on each path from a borrow of a walked block into a plain variable to a use of a holder, what is lent stays
+  -- untouched, until its path or a prefix is overwritten.
   abbrev pub Guarantee : Type 0
   Guarantee =
       (j : Job) → WithoutErrors j

@@ -31,7 +31,7 @@ refusalOf taken fits = cond taken (cond fits 0 9) 8
 abbrev pub pathTaken : Job → syntax.Path → Bool
 pathTaken j p = pathNamed j p && pathFits j p
 
--- The type of a path, with what its steps leave.
+-- The type of a path, whatever its steps leave.
 pub record TypeSays (s t : List ℕ) (h : Head) (p : Path) (out : List ℕ) (r : PathType) : Type 0 where
   pub kinds : List ℕ
   pub names : List ℕ
