@@ -62,6 +62,7 @@ abbrev pub SourceIs : List ℕ → Path → Related → List ℕ → Source → 
 SourceIs s p Assigned kinds r = r .steps ≡ 0
 SourceIs s p (Borrowed region) kinds r = BorrowSource s p region kinds r
 
+-- What `source_of` says.
 pub record SourceSays (s : List ℕ) (p : Path) (how : Related) (kinds : List ℕ) (r : Source) : Type 0 where
   pub says : SourceIs s p how kinds r
 

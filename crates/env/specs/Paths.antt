@@ -39,6 +39,7 @@ PathResult j p s out kinds names (pathTypes.Inside c) = PathIs j p s (c .at) kin
 PathResult j p s out kinds names (pathTypes.Written c) = PathIs j p out (c .at) kinds names
 PathResult j p s out kinds names pathTypes.Refused = pathFits j p ≡ false
 
+-- What `path_type` says of a path whose base the job has.
 pub record PathSays (s t : List ℕ) (h : Head) (p : repr.Path) (out kinds names : List ℕ) (r : PathType) : Type 0 where
   pub says : (j : Job) → Layout s t h j → p .base .0 < length (j .variables) → PathResult j (pathOf s p) s out kinds names r
   pub sizes : (length kinds ≡ 8) × (length names ≡ 8)
@@ -71,6 +72,7 @@ Moves from to o (stepped.Inside c) = TypeThere from (c .at) o
 Moves from to o stepped.Written = TypeThere to 0 o
 Moves from to o stepped.Refused = small o ≡ false
 
+-- The same for a field of a struct with the arguments that stand there.
 pub record FieldStepSays (s t : List ℕ) (h : Head) (name f : ℕ) (from : List ℕ) (at count : ℕ) (to : List ℕ) (r : Stepped) : Type 0 where
   pub says : (j : Job) → Layout s t h j → (g : Args) → ArgsAt from at count g → argNodes g ≤ maxNodes → Moves from to (stepType (j .structs) (StructTy name g) f) r
 
@@ -97,6 +99,7 @@ pub record BackSays (s t : List ℕ) (h : Head) (from : List ℕ) (at f i : ℕ)
 
 -- ---- A copy
 
+-- the type u stands in the lent bytes
 abbrev pub CopyIs : List ℕ → Ty → Lent → Type 0
 CopyIs out u (lent.At c) = TypeAt out (c .at) u
 CopyIs out u lent.Refused = ⊥
@@ -128,6 +131,7 @@ OnwardIs ss t all s out kinds names (pathTypes.Inside c) = Reached ss t all s (c
 OnwardIs ss t all s out kinds names (pathTypes.Written c) = Reached ss t all out (c .at) kinds names
 OnwardIs ss t all s out kinds names pathTypes.Refused = stepsFit ss t all ≡ false
 
+-- The same for the steps that are left, from the type that stands there.
 pub record OnwardSays (s t : List ℕ) (h : Head) (bytes : List ℕ) (at : ℕ) (kinds names : List ℕ) (i from left : ℕ) (out kinds′ names′ : List ℕ) (r : PathType) : Type 0 where
   pub says : (j : Job) → Layout s t h j → (u : Ty) (all : List ℕ) → Stage (j .structs) u all bytes at kinds names i (take left (drop from s)) → OnwardIs (j .structs) u all s out kinds′ names′ r
   pub sizes : (length kinds′ ≡ 8) × (length names′ ≡ 8)

@@ -115,6 +115,7 @@ pub record Names (s : Setting) (c : Outlives) : Type 0 where
   pub sub : c .sub < s .regions
   pub point : c .point < s .graph .code
 
+-- the same of each constraint
 abbrev pub AllNamed : Setting → List Outlives → Type 0
 AllNamed s cs = (c : Outlives) → Member c cs → Names s c
 
