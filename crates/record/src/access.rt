@@ -139,7 +139,7 @@ pub fn action_at(s: &[u8], layout: &[u16; 1280], p: usize) -> ActionStep
     }
 }
 
-// The tag of the action of a point of the blocks: that of Noop at a block's end, and where there is no action to read.
+// The tag of the action of a point of the blocks; a block's end has that of Noop.
 pub fn tag_at(s: &[u8], layout: &[u16; 1280], p: usize) -> u8
     requires { ⌜ length (now layout) ≡ 1280 ⌝ }
     ensures { λ r. ⌜ ((h : heads.Head) (j : Job) → Layout (now (s .entry)) (now (layout .entry)) h j → p < codeCount (j .blocks) → r ≡ tagOf (actionAt (graphOf j) p)) ⌝ }
