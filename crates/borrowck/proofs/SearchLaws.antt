@@ -7,9 +7,9 @@ use native.Mathlib.Omega.{arith}
 use native.Mathlib.Decide.{decLt}
 use lib.ListN.{length}
 use lib.Dec.{T, eqb}
-use borrow.Author.Tests.{eq-eqb, ne-eqb}
-use Rattle.nll_spec.specs.Syntax.{Job}
-use Rattle.nll_spec.specs.Types.{isPrefix}
+use borrow.Author.Tests.{eq-eqb, ne-eqb, eqb-true, eqb-false}
+use Rattle.nll_spec.specs.Syntax.{Path, Job}
+use Rattle.nll_spec.specs.Types.{isPrefix, isSupporting, isFrozen}
 use Rattle.nll_spec.proofs.Tests.{is-true}
 use Rattle.repr.specs.Reading.{borrowKindOf, pathOf}
 use Rattle.env.specs.Prefixes.{ShortestOf}
@@ -17,6 +17,8 @@ use Rattle.loans.specs.Loans.{loanOf}
 use Rattle.loans.specs.declared.Loan.{Loan}
 use Rattle.borrowck.specs.Search.{counts, near, meets, lentAt, ownAt, Touches, Prefixes, nthLoan, FoundIn, nthAccess, isFound, FirstIn}
 use Rattle.borrowck.specs.declared.Access.{Access}
+use Rattle.borrowck.specs.declared.Depth.{Depth}
+use Rattle.borrowck.specs.declared.Depth.the-variants.{Shallow, Deep}
 use Rattle.borrowck.specs.declared.Found.{Found}
 use Rattle.borrowck.specs.declared.Found.the-variants.{At, Nothing}
 
@@ -43,20 +45,33 @@ fails false h = refl
 
 -- ---- How many prefixes
 
+pub prefixes-apart : (loan : Loan) (x : Access) → (loan .path .base .0 ≡ x .path .base .0 → ⊥) → Prefixes loan x 0
+prefixes-apart loan x h = record { none = λ i. refl; some = λ i. absurd (omega arith); lent = λ i o. absurd (h o); own = λ i o. absurd (h o); few = omega arith }
+
 module _ (loan : Loan) (x : Access) {b : Bool} (e : b ≡ counts (x .mode) (borrowKindOf (loan .kind))) where
   pub prefixes-none : b ≡ false → Prefixes loan x 0
-  prefixes-none h = record { none = λ i. refl; some = λ i. absurd (omega arith); lent = λ i. absurd (clash i); own = λ i. absurd (clash i); few = omega arith }
+  prefixes-none h = record { none = λ i. refl; some = λ i. absurd (omega arith); lent = λ i o. absurd (clash i); own = λ i o. absurd (clash i); few = omega arith }
     where
       clash : counts (x .mode) (borrowKindOf (loan .kind)) ≡ true → ⊥
       clash i = let z : T false = subst T (sym i ∙ sym e ∙ h) tt in z
 
   pub prefixes-some : {n : ℕ} → b ≡ true → loan .path .steps < n → x .path .steps < n → n ≤ 256 → Prefixes loan x n
-  prefixes-some h l o f = record { none = λ i. absurd (clash i); some = λ i. sym e ∙ h; lent = λ i. l; own = λ i. o; few = f }
+  prefixes-some h l o f = record { none = λ i. absurd (clash i); some = λ i. sym e ∙ h; lent = λ i b. l; own = λ i b. o; few = f }
     where
       clash : counts (x .mode) (borrowKindOf (loan .kind)) ≡ false → ⊥
       clash i = let z : T false = subst T (sym h ∙ e ∙ i) tt in z
 
 -- ---- The prefixes of one loan
+
+-- a path is a prefix of none with another base
+prefix-apart : (j : Job) (q p : Path) → eqb (q .base) (p .base) ≡ false → isPrefix j q p ≡ false
+unfolding isPrefix
+prefix-apart j q p e = rw e
+
+near-apart : (j : Job) (depth : Depth) (q p : Path) → eqb (q .base) (p .base) ≡ false → near j depth q p ≡ false
+unfolding isSupporting isFrozen
+near-apart j Deep q p e = rw e
+near-apart j Shallow q p e = rw e
 
 -- The prefixes of fewer than k steps do not conflict.
 pub record Looked (s : List ℕ) (loan : Loan) (x : Access) (k : ℕ) : Type 0 where
@@ -95,13 +110,21 @@ module _ (s : List ℕ) (loan : Loan) (x : Access) where
   untouched {n} {k} f w l j z = go (counts (x .mode) (borrowKindOf (loan .kind))) refl
     where
       go : (b : Bool) → counts (x .mode) (borrowKindOf (loan .kind)) ≡ b → meets j (x .depth) (x .mode) (pathOf s (x .path)) (loanOf s loan) ≡ false
-      go true e =
-          let a = w .before j z (loan .path .steps) (let o = f .lent e in omega arith) .0 in
-          let b = w .before j z (x .path .steps) (let o = f .own e in omega arith) .1 in
-          let u : isPrefix j (pathOf s (loan .path)) (pathOf s (x .path)) ≡ false = test-equal {k = loan .path .steps} refl refl refl ∙ a in
-          let v : near j (x .depth) (pathOf s (x .path)) (pathOf s (loan .path)) ≡ false = test-equal {k = x .path .steps} refl refl refl ∙ b in
-          rw (e, u, v)
       go false e = rw e
+      go true e = same (eqb (loan .path .base .0) (x .path .base .0)) refl
+        where
+          same : (b : Bool) → eqb (loan .path .base .0) (x .path .base .0) ≡ b → meets j (x .depth) (x .mode) (pathOf s (x .path)) (loanOf s loan) ≡ false
+          same true i =
+              let one = eqb-true (loan .path .base .0) (x .path .base .0) i in
+              let a = w .before j z (loan .path .steps) (let o = f .lent e one in omega arith) .0 in
+              let b = w .before j z (x .path .steps) (let o = f .own e one in omega arith) .1 in
+              let u : isPrefix j (pathOf s (loan .path)) (pathOf s (x .path)) ≡ false = test-equal {k = loan .path .steps} refl refl refl ∙ a in
+              let v : near j (x .depth) (pathOf s (x .path)) (pathOf s (loan .path)) ≡ false = test-equal {k = x .path .steps} refl refl refl ∙ b in
+              rw (e, u, v)
+          same false i =
+              let u = prefix-apart j (pathOf s (loan .path)) (pathOf s (x .path)) i in
+              let v = near-apart j (x .depth) (pathOf s (x .path)) (pathOf s (loan .path)) (ne-eqb (x .path .base .0) (loan .path .base .0) λ o. eqb-false (loan .path .base .0) (x .path .base .0) i (sym o)) in
+              rw (e, u, v)
 
 -- ---- All loans
 

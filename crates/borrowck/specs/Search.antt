@@ -52,12 +52,12 @@ ownAt j s depth loan q k = eqb k (q .steps) && near j depth (pathOf s q) (pathOf
 pub record Touches (s : List ℕ) (loan : Loan) (x : Access) (k : ℕ) (r : Bool) : Type 0 where
   pub says : (j : Job) → ShortestOf j (pathOf s (loan .path)) (loan .shortest) → r ≡ lentAt j s loan (x .path) k || ownAt j s (x .depth) loan (x .path) k
 
--- How many prefixes are to be looked at.
+-- How many prefixes are to be looked at: all of both paths where the access minds the loan and they have one base.
 pub record Prefixes (loan : Loan) (x : Access) (n : ℕ) : Type 0 where
   pub none : counts (x .mode) (borrowKindOf (loan .kind)) ≡ false → n ≡ 0
   pub some : 0 < n → counts (x .mode) (borrowKindOf (loan .kind)) ≡ true
-  pub lent : counts (x .mode) (borrowKindOf (loan .kind)) ≡ true → loan .path .steps < n
-  pub own : counts (x .mode) (borrowKindOf (loan .kind)) ≡ true → x .path .steps < n
+  pub lent : counts (x .mode) (borrowKindOf (loan .kind)) ≡ true → loan .path .base .0 ≡ x .path .base .0 → loan .path .steps < n
+  pub own : counts (x .mode) (borrowKindOf (loan .kind)) ≡ true → loan .path .base .0 ≡ x .path .base .0 → x .path .steps < n
   pub few : n ≤ 256
 
 -- ---- All loans

@@ -74,7 +74,7 @@ fn touches(s: &[u8], loan: Loan, access: Access, k: usize) -> bool
     is_lent(s, loan, path, k) | is_own(s, depth, loan, path, k)
 }
 
-// How many prefixes the longer of the two paths has; none where the access does not mind the loan.
+// How many prefixes the longer of the two paths has; none where the access does not mind the loan, or the paths have different bases.
 fn prefixes(loan: Loan, access: Access) -> usize
     ensures { λ r. ⌜ Prefixes loan access r ⌝ }
 {
@@ -85,6 +85,9 @@ fn prefixes(loan: Loan, access: Access) -> usize
     }
     let lent = loan.path;
     let path = access.path;
+    if lent.base.0 != path.base.0 {
+        return 0;
+    }
     let m = wide(lent.steps);
     let n = wide(path.steps);
     if m < n { n + 1 } else { m + 1 }

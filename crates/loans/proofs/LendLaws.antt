@@ -9,6 +9,7 @@ use lib.Dec.{T}
 use types.Run.{OneOf, miss}
 use denote.Enum.Declared.{tagOf}
 use Rattle.nll_spec.specs.Syntax.{Path, Point, Action, Borrow, Job}
+use Rattle.nll_spec.specs.Syntax as syntax
 use Rattle.nll_spec.specs.Decode.{read, done, items, path, codeCount}
 use Rattle.nll_spec.specs.WellFormed.{named, pathsFit, pathFits}
 use Rattle.nll_spec.specs.Graph.{graphOf, actionAt, isWalked}
@@ -29,6 +30,7 @@ use Rattle.repr.specs.declared.ActionStep.{ActionStep}
 use Rattle.repr.specs.declared.ActionStep.the-variants as actionStep
 use Rattle.record.specs.Layout.{Layout}
 use Rattle.record.specs.Access.{Acts}
+use Rattle.record.specs.Access as tags
 use Rattle.record.specs.declared.Head.{Head}
 use Rattle.bit_set.specs.Bits.{has}
 use Rattle.repr.proofs.SpellLaws.{clash, carry, then}
@@ -55,6 +57,18 @@ not-borrow s (action.Use q) c h e p = carry (λ y o. loanAt p y ≡ []) e refl
 not-borrow s (action.Drop q) c h e p = carry (λ y o. loanAt p y ≡ []) e refl
 not-borrow s (action.StorageDead v) c h e p = carry (λ y o. loanAt p y ≡ []) e refl
 
+-- nor does one whose tag is another
+other-tag : (x : syntax.Action) → (tags.tagOf x ≡ 2 → ⊥) → (p : Point) → loanAt p x ≡ []
+unfolding loanAt
+other-tag syntax.Noop h p = refl
+other-tag (syntax.Init d qs) h p = refl
+other-tag (syntax.Borrow d r k q) h p = absurd (h refl)
+other-tag (syntax.Assign d q) h p = refl
+other-tag (syntax.Constraint sup sub) h p = refl
+other-tag (syntax.Use q) h p = refl
+other-tag (syntax.Drop q) h p = refl
+other-tag (syntax.StorageDead v) h p = refl
+
 module _ {s t : List ℕ} {h : Head} {walked : List ℕ} {p n : ℕ} (table : List ℕ) (size : length table ≡ 1024) (few : n ≤ 128) (point : p < 1024) {b : Bool} (tests : b ≡ has walked (wordBits * 0 + p)) where
   walks : (j : Job) → Given s t h walked j → isWalked (graphOf j) p ≡ b
   walks j g = let e : wordBits * 0 + p ≡ p = omega arith in sym (tests ∙ ap (has walked) e ∙ g .walks p point)
@@ -65,6 +79,9 @@ module _ {s t : List ℕ} {h : Head} {walked : List ℕ} {p n : ℕ} (table : Li
 
   pub lends-unwalked : b ≡ false → Lends s t h walked p n table table n
   lends-unwalked e = lends-nothing λ j g l. below-unwalked (graphOf j) p (walks j g ∙ e)
+
+  pub lends-tagged : b ≡ true → {tag : ℕ} → ((k : Head) (j : Job) → Layout s t k j → p < codeCount (j .blocks) → tag ≡ tags.tagOf (actionAt (graphOf j) p)) → (tag ≡ 2 → ⊥) → Lends s t h walked p n table table n
+  lends-tagged e m o = lends-nothing λ j g l. below-walked (graphOf j) p (walks j g ∙ e) ∙ rw (other-tag (actionAt (graphOf j) p) (λ i. o (m h j (g .layout) l ∙ i)) p, append-nil (loansBelow (graphOf j) p))
 
   module _ (e : b ≡ true) {r : ActionStep} (m : (k : Head) (j : Job) → Layout s t k j → p < codeCount (j .blocks) → Acts s (actionAt (graphOf j) p) r) where
     pub lends-refused : {k : ℕ} → r ≡ actionStep.Refused k → Lends s t h walked p n table table n

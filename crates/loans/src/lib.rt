@@ -2,7 +2,9 @@
 use env::Shortest;
 use env::prefixes::shortest_of;
 use record::Head;
+use record::access::BORROW;
 use record::access::action_at;
+use record::access::tag_at;
 use repr::Action;
 use repr::ActionStep;
 use repr::BorrowKind;
@@ -159,6 +161,9 @@ fn lend(
     ensures { λ r. ⌜ Lends (now (s .entry)) (now (layout .entry)) head (now (walked .entry)) p n (now (table .entry)) (now (table .exit)) r ⌝ }
 {
     if !bit_set::test(walked, 0, p) {
+        return n;
+    }
+    if tag_at(s, layout, p) != BORROW {
         return n;
     }
     let ActionStep::Action(a, _) = action_at(s, layout, p) else {

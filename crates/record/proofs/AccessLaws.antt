@@ -15,10 +15,12 @@ use Rattle.nll_spec.specs.Syntax.{Ty, StructDecl, Action, Noop, Field, Block, J
 use Rattle.nll_spec.specs.Decode.{Reading, refused, read, Reader, done, byte, oneOf, items, counted, maxOutlived, param, field, structDecl, type, block, action, codeCount}
 use Rattle.nll_spec.specs.Types.{structOf}
 use Rattle.nll_spec.specs.Graph.{Statement, firstPoint, blockStatements, statementsFrom, statementsOf, statementAt, graphOf, actionAt}
-use Rattle.repr.specs.Reading.{rest}
+use Rattle.repr.specs.Reading.{rest, byteSays}
 use Rattle.repr.specs.Parts.{structSays, StructSays, actionSays}
 use Rattle.repr.specs.Parts as parts
 use Rattle.repr.specs.declared.Cursor.{Cursor}
+use Rattle.repr.specs.declared.ByteStep.{ByteStep}
+use Rattle.repr.specs.declared.ByteStep.the-variants as byteStep
 use Rattle.repr.specs.declared.StructDecl as declared
 use Rattle.repr.specs.declared.StructStep.{StructStep}
 use Rattle.repr.specs.declared.StructStep.the-variants as structStep
@@ -31,8 +33,9 @@ use Rattle.record.specs.Rows.{Standing, none, more}
 use Rattle.record.specs.Blocks.{blockEnd, firsts, Coded}
 use Rattle.record.specs.Blocks as blocks
 use Rattle.record.specs.Layout.{Layout}
-use Rattle.record.specs.Access.{entryIn, pointOf, Declared, Acts}
+use Rattle.record.specs.Access.{entryIn, pointOf, Declared, Acts, tagOf}
 use Rattle.record.specs.declared.Head.{Head}
+use Rattle.record.proofs.TagLaws.{byte-tag, byte-refused}
 use Rattle.record.specs.declared.PointStep.{PointStep}
 use Rattle.record.specs.declared.PointStep.the-variants as pointStep
 
@@ -226,15 +229,32 @@ module _ {s t : List ℕ} {h : Head} {j : Job} (w : Layout s t h j) where
         go (inl k) = record { over = rest s c; reads = ap (λ (a : Action). read a (rest s c)) (sym (k .1)) }
         go (inr k) = absurd (omega (arith, action-below s (entryIn t 256 1024 p) (w .short) k, last))
 
-    pub acts-there : {c : Cursor} {r : ActionStep} → d ≡ pointStep.Action c → actionSays s r ≡ action (drop (c .at) s) → Acts s (actionAt (graphOf j) p) r
-    acts-there {c} {r} e i = go (point-is p l)
+    pub tag-end : d ≡ pointStep.End → 0 ≡ tagOf (actionAt (graphOf j) p)
+    tag-end e = go (point-is p l)
       where
-        at : (entryIn t 256 1024 p ≡ blockEnd → ⊥) × (entryIn t 256 1024 p ≡ c .at)
-        at = action-is (entryIn t 256 1024 p) (sym same ∙ e)
+        go : AtPoint s (entryIn t 256 1024 p) (actionAt (graphOf j) p) → 0 ≡ tagOf (actionAt (graphOf j) p)
+        go (inl k) = ap tagOf (sym (k .1))
+        go (inr k) = absurd (omega (arith, action-below s (entryIn t 256 1024 p) (w .short) k, end-is (entryIn t 256 1024 p) (sym same ∙ e)))
 
-        go : AtPoint s (entryIn t 256 1024 p) (actionAt (graphOf j) p) → Acts s (actionAt (graphOf j) p) r
-        go (inl k) = absurd (at .0 (k .0))
-        go (inr k) = record { over = k .over; reads = i ∙ ap (λ (o : ℕ). action (drop o s)) (sym (at .1)) ∙ k .reads }
+    module _ {c : Cursor} (e : d ≡ pointStep.Action c) where
+      action-there : Stands action (actionAt (graphOf j) p) (drop (c .at) s)
+      action-there = go (point-is p l)
+        where
+          at : (entryIn t 256 1024 p ≡ blockEnd → ⊥) × (entryIn t 256 1024 p ≡ c .at)
+          at = action-is (entryIn t 256 1024 p) (sym same ∙ e)
+
+          go : AtPoint s (entryIn t 256 1024 p) (actionAt (graphOf j) p) → Stands action (actionAt (graphOf j) p) (drop (c .at) s)
+          go (inl k) = absurd (at .0 (k .0))
+          go (inr k) = subst (λ (o : ℕ). Stands action (actionAt (graphOf j) p) (drop o s)) (at .1) k
+
+      pub acts-there : {r : ActionStep} → actionSays s r ≡ action (drop (c .at) s) → Acts s (actionAt (graphOf j) p) r
+      acts-there i = record { over = action-there .over; reads = i ∙ action-there .reads }
+
+      pub tag-there : {r : ByteStep} → byteSays s r ≡ byte (drop (c .at) s) → {n : ℕ} {next : Cursor} → r ≡ byteStep.Byte n next → n ≡ tagOf (actionAt (graphOf j) p)
+      tag-there i = byte-tag s action-there i
+
+      pub tag-refused : {r : ByteStep} → byteSays s r ≡ byte (drop (c .at) s) → {n k : ℕ} → r ≡ byteStep.Refused k → n ≡ tagOf (actionAt (graphOf j) p)
+      tag-refused i o = absurd (byte-refused s action-there i o)
 
   -- the struct of a name
   module _ {name x : ℕ} (there : x ≡ entryIn t 0 16 name) where

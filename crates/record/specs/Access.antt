@@ -33,3 +33,14 @@ pub record Declared (s : List ℕ) (x : syntax.StructDecl) (d : StructDecl) : Ty
 pub record Acts (s : List ℕ) (a : syntax.Action) (r : ActionStep) : Type 0 where
   pub over : List ℕ
   pub reads : actionSays s r ≡ read a over
+
+-- the byte that an action begins with
+abbrev pub tagOf : syntax.Action → ℕ
+tagOf syntax.Noop = 0
+tagOf (syntax.Init d qs) = 1
+tagOf (syntax.Borrow d r k q) = 2
+tagOf (syntax.Assign d q) = 3
+tagOf (syntax.Constraint sup sub) = 4
+tagOf (syntax.Use q) = 5
+tagOf (syntax.Drop q) = 6
+tagOf (syntax.StorageDead v) = 7

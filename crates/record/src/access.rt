@@ -12,6 +12,7 @@ use super::wide;
 use repr::Action;
 use repr::ActionStep;
 use repr::BasicBlockIndex;
+use repr::ByteStep;
 use repr::Cursor;
 use repr::RegionName;
 use repr::StructDecl;
@@ -26,8 +27,11 @@ ghost use Rattle.nll_spec.specs.Decode.{codeCount};
 ghost use Rattle.nll_spec.specs.Types.{structOf};
 ghost use Rattle.nll_spec.specs.Graph.{graphOf, actionAt};
 ghost use Rattle.record.specs.Layout.{Layout};
-ghost use Rattle.record.specs.Access.{entryIn, pointOf, Declared, Acts};
+ghost use Rattle.record.specs.Access.{entryIn, pointOf, Declared, Acts, tagOf};
 ghost use Rattle.record.specs.declared.Head as heads;
+
+// The tag of a Borrow.
+pub const BORROW: u8 = 2;
 
 fn place(x: u16) -> usize
     ensures { λ r. ⌜ r ≡ x ⌝ }
@@ -132,5 +136,19 @@ pub fn action_at(s: &[u8], layout: &[u16; 1280], p: usize) -> ActionStep
     match point_at(layout, p) {
         PointStep::End => ActionStep::Action(Action::Noop, Cursor { at: 0 }),
         PointStep::Action(c) => c.action(s),
+    }
+}
+
+// The tag of the action of a point of the blocks; a block's end has that of Noop.
+pub fn tag_at(s: &[u8], layout: &[u16; 1280], p: usize) -> u8
+    requires { ⌜ length (now layout) ≡ 1280 ⌝ }
+    ensures { λ r. ⌜ ((h : heads.Head) (j : Job) → Layout (now (s .entry)) (now (layout .entry)) h j → p < codeCount (j .blocks) → r ≡ tagOf (actionAt (graphOf j) p)) ⌝ }
+{
+    match point_at(layout, p) {
+        PointStep::End => 0,
+        PointStep::Action(c) => match c.byte(s) {
+            ByteStep::Refused(_) => 0,
+            ByteStep::Byte(tag, _) => tag,
+        },
     }
 }
