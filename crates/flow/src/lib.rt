@@ -132,7 +132,7 @@ fn round(
     changed
 }
 
-// Puts into each point's set the numbers that come to it along edges, through points that let them pass.
+// Puts into each point's set the numbers that come to it along edges, through points that let them pass, if both tables have four words a point.
 pub fn flow(
     sets: &mut [u32],
     pass: &[u32],
@@ -141,11 +141,17 @@ pub fn flow(
     code: usize,
     direction: Direction,
 )
-    requires { ⌜ (4 * code ≤ length (now sets)) × (4 * code ≤ length (now pass)) ⌝ }
-    ensures { λ _. ⌜ (length (now (sets .exit)) ≡ length (now (sets .entry))) × ((g : Graph) → Edges g (now (first .entry)) (now (succ .entry)) → code ≡ g .code
+    ensures { λ _. ⌜ (length (now (sets .exit)) ≡ length (now (sets .entry))) × (4 * code ≤ length (now (sets .entry)) → 4 * code ≤ length (now (pass .entry))
+        → (g : Graph) → Edges g (now (first .entry)) (now (succ .entry)) → code ≡ g .code
         → FlowSays g direction (now (pass .entry)) (now (sets .entry)) (now (sets .exit))) ⌝ }
 {
     if 1024 < code {
+        return;
+    }
+    if sets.len() < 4 * code {
+        return;
+    }
+    if pass.len() < 4 * code {
         return;
     }
     loop {

@@ -356,8 +356,9 @@ pub fn loans_in_scope(
     count: usize,
     scope: &mut [u32],
 )
-    requires { ⌜ (length (now layout) ≡ 1280) × (length (now table) ≡ 1024) × (head .code ≤ 1024 → 4 * head .code ≤ length (now scope)) ⌝ }
-    ensures { λ _. ⌜ ScopeSays (now (s .entry)) (now (layout .entry)) head (now (first .entry)) (now (succ .entry)) (now (words .entry)) width (now (table .entry)) count (now (scope .exit)) ⌝ }
+    requires { ⌜ (length (now layout) ≡ 1280) × (length (now table) ≡ 1024) ⌝ }
+    ensures { λ _. ⌜ (4 * head .code ≤ length (now (scope .entry))
+        → ScopeSays (now (s .entry)) (now (layout .entry)) head (now (first .entry)) (now (succ .entry)) (now (words .entry)) width (now (table .entry)) count (now (scope .exit))) ⌝ }
 {
     let code = wide(head.code);
     if 1024 < code {
@@ -370,6 +371,9 @@ pub fn loans_in_scope(
         return;
     }
     if count == 0 {
+        return;
+    }
+    if scope.len() < 4 * code {
         return;
     }
     compute(
