@@ -77,9 +77,9 @@ fn compute(
         → Edges (graphOf j) (now (first .entry)) (now (succ .entry)) → ((p : Point) → p < 1024 → has (now (walked .entry)) p ≡ isWalked (graphOf j) p)
         → LiveRows j width (now (used .exit)) (now (dropped .exit))) ⌝ }
 {
-    if code <= 64 {
-        let mut sets = [0; 256];
-        let mut pass = [4294967295; 256];
+    if code <= 128 {
+        let mut sets = [0; 512];
+        let mut pass = [4294967295; 512];
         by_tables(
             s,
             layout,

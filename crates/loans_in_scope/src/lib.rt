@@ -302,10 +302,10 @@ fn compute(
     requires { ⌜ (length (now layout) ≡ 1280) × (length (now table) ≡ 1024) × (width ≤ 32) × (count ≤ 128) × (code ≤ 1024) × (4 * code ≤ length (now scope)) ⌝ }
     ensures { λ _. ⌜ ((h : heads.Head) → code ≡ h .code → ScopeSays (now (s .entry)) (now (layout .entry)) h (now (first .entry)) (now (succ .entry)) (now (words .entry)) width (now (table .entry)) count (now (scope .exit))) ⌝ }
 {
-    if code <= 64 {
-        let mut leaves = [0; 256];
-        let mut pass = [0; 256];
-        let mut region = [0; 256];
+    if code <= 128 {
+        let mut leaves = [0; 512];
+        let mut pass = [0; 512];
+        let mut region = [0; 512];
         by_tables(
             s,
             layout,

@@ -15,9 +15,9 @@ slice-aggregate-by-tables-2 c = search needs
 
 by-tables-requires : tie.Need-by-tables-requires
 by-tables-requires c κs = let r = c .before .before .before .before .before .before .before .before .pre in
-    let size : 4 * c .before .before .before .before .before .before .before .before .args .code ≤ 256 = omega (arith, c .before .before .before .before .if1 .taken) in
-    let long = length-replicate {A = ℕ} 256 in
-    (r .0, r .1, r .2, r .3, start-blank 256 _ size, omega (arith, size, long 0), omega (arith, size, long 4294967295), r .4, r .5)
+    let size : 4 * c .before .before .before .before .before .before .before .before .args .code ≤ 512 = omega (arith, c .before .before .before .before .if1 .taken) in
+    let long = length-replicate {A = ℕ} 512 in
+    (r .0, r .1, r .2, r .3, start-blank 512 _ size, omega (arith, size, long 0), omega (arith, size, long 4294967295), r .4, r .5)
 
 slice-aggregate-by-tables-3 : tie.Need-slice-aggregate-by-tables-3
 slice-aggregate-by-tables-3 c = search needs
