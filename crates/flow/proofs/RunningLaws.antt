@@ -1,12 +1,13 @@
 -- Edges are run one after the other: the laws of `Ran`. Assumes nothing.
 use mathlib.Core.Path.{_≡_, refl, sym, ap, ap₂, _∙_, subst}
 use mathlib.Core.Logic.{_⊎_, inl, inr}
-use mathlib.Core.Bool.{Bool, true, false, not, _&&_, _||_, or-true, true≢false}
+use mathlib.Core.Bool.{Bool, true, false, not, _&&_, _||_, or-true, or-false, true≢false}
 use mathlib.Core.List.{List, [], _∷_}
 use Prim.Native.Nat.{ℕ, zero, suc, _+_, _-_, _*_, _/_, _%_, _^_, _≤_, _<_}
 use native.Mathlib.Omega.{arith}
 use native.Mathlib.Decide.{ℕ-discrete, decLt}
 use lib.ListN.{length, getD, set}
+use lib.Seq.{getD-set-other}
 use lib.Dec.{eqb}
 use lib.Bits.{bitAnd, bitOr, and-zero-l, and-shr, and-mod, and-le-l}
 use Rattle.nll_spec.specs.Output.{wordBits}
@@ -116,7 +117,7 @@ module _ (pass ws : List ℕ) (v w : ℕ) where
       }
 
   -- as the code writes it
-  pub ran-one : {new : ℕ} → Mixed (getD ws w 0) (getD ws v 0) (getD pass w 0) new → w < length ws → Ran (One v w) pass ws (set ws w new) (not (eqb (getD ws w 0) new))
+  ran-one : {new : ℕ} → Mixed (getD ws w 0) (getD ws v 0) (getD pass w 0) new → w < length ws → Ran (One v w) pass ws (set ws w new) (not (eqb (getD ws w 0) new))
   ran-one {new} m h =
       let z : w + 0 ≡ w = omega arith in
       let y = joined-yes ws w (shared ∷ []) 0 1 (both-fit ws w (shared ∷ []) 0 1 (omega arith) (omega arith)) in
@@ -203,20 +204,47 @@ ran-as {E} {F} {pass} {ws} a e f =
 
 -- ---- The loops
 
-module _ (pass ws : List ℕ) (p q : ℕ) where
-  pub lanes-none : Ran (Lanes 0 p q) pass ws ws false
-  lanes-none = ran-none pass ws (λ v w k. absurd (omega (arith, k .1)))
+-- The first k of the four words are done, and the others, in every set, are as they were.
+record Done (pass ws : List ℕ) (p q k : ℕ) (u : List ℕ) (r : Bool) : Type 0 where
+  pub ran : Ran (Lanes k p q) pass ws u r
+  pub rest : (x : ℕ) → k ≤ x % 4 → getD u x 0 ≡ getD ws x 0
 
-  pub lanes-more : {u x : List ℕ} (k : ℕ) (r s : Bool) → Ran (Lanes k p q) pass ws u r → Ran (One (4 * p + k) (4 * q + k)) pass u x s → Ran (Lanes (k + 1) p q) pass ws x (s || r)
-  lanes-more k r s a c =
-      ran-then r s a c (λ v w e. (e .0, omega (arith, e .1), e .2, e .3)) (λ v w e. (k, omega arith, e .0, e .1)) (λ v w e. go v w e (ℕ-discrete (e .0) k))
+module _ (pass ws : List ℕ) (p q : ℕ) (size : 4 * q + 4 ≤ length ws) where
+  done-none : Done pass ws p q 0 ws false
+  done-none = record { ran = ran-none pass ws (λ v w k. absurd (omega (arith, k .1))); rest = λ x l. refl }
+
+  done-more : {u : List ℕ} {r : Bool} {c : ℕ} (k : ℕ) → k < 4 → Done pass ws p q k u r → Mixed (getD ws (4 * q + k) 0) (getD ws (4 * p + k) 0) (getD pass (4 * q + k) 0) c
+      → Done pass ws p q (k + 1) (set u (4 * q + k) c) (not (eqb (getD ws (4 * q + k) 0) c) || r)
+  done-more {u} {r} {c} k l a m =
+      record {
+        ran = ran-then r (not (eqb (getD ws (4 * q + k) 0) c)) (a .ran) one (λ v w e. (e .0, omega (arith, e .1), e .2, e .3)) (λ v w e. (k, omega arith, e .0, e .1)) (λ v w e. go v w e (ℕ-discrete (e .0) k));
+        rest = λ x h. getD-set-other u (4 * q + k) x c 0 (omega arith) ∙ a .rest x (omega arith);
+      }
     where
+      one : Ran (One (4 * p + k) (4 * q + k)) pass u (set u (4 * q + k) c) (not (eqb (getD ws (4 * q + k) 0) c))
+      one =
+          let w : getD u (4 * q + k) 0 ≡ getD ws (4 * q + k) 0 = a .rest (4 * q + k) (omega arith) in
+          let v : getD u (4 * p + k) 0 ≡ getD ws (4 * p + k) 0 = a .rest (4 * p + k) (omega arith) in
+          let x : Mixed (getD u (4 * q + k) 0) (getD u (4 * p + k) 0) (getD pass (4 * q + k) 0) c = rw (w, v) m in
+          subst (λ (y : ℕ). Ran (One (4 * p + k) (4 * q + k)) pass u (set u (4 * q + k) c) (not (eqb y c))) w (ran-one pass u (4 * p + k) (4 * q + k) x (omega (arith, a .ran .since .as-long)))
+
       go : (v w : ℕ) (e : Lanes (k + 1) p q v w) → Dec (e .0 ≡ k) → Lanes k p q v w ⊎ One (4 * p + k) (4 * q + k) v w
       go v w e (yes i) = inr (rw (← i) (e .2), rw (← i) (e .3))
       go v w e (no n) = inl (e .0, omega (arith, n, e .1), e .2, e .3)
 
-  pub lanes-all : {u : List ℕ} (k : ℕ) (r : Bool) → k ≤ 4 → 4 ≤ k → Ran (Lanes k p q) pass ws u r → Ran (Lanes 4 p q) pass ws u r
-  lanes-all k r a c x = let e : 4 ≡ k = omega arith in rw e x
+  -- as the code writes it
+  pub lanes-four : {c₀ c₁ c₂ c₃ : ℕ} → Mixed (getD ws (4 * q) 0) (getD ws (4 * p) 0) (getD pass (4 * q) 0) c₀ → Mixed (getD ws (4 * q + 1) 0) (getD ws (4 * p + 1) 0) (getD pass (4 * q + 1) 0) c₁
+      → Mixed (getD ws (4 * q + 2) 0) (getD ws (4 * p + 2) 0) (getD pass (4 * q + 2) 0) c₂ → Mixed (getD ws (4 * q + 3) 0) (getD ws (4 * p + 3) 0) (getD pass (4 * q + 3) 0) c₃
+      → Ran (Lanes 4 p q) pass ws (set (set (set (set ws (4 * q) c₀) (4 * q + 1) c₁) (4 * q + 2) c₂) (4 * q + 3) c₃)
+      (not (eqb (getD ws (4 * q + 3) 0) c₃) || (not (eqb (getD ws (4 * q + 2) 0) c₂) || (not (eqb (getD ws (4 * q + 1) 0) c₁) || not (eqb (getD ws (4 * q) 0) c₀))))
+  lanes-four {c₀} m₀ m₁ m₂ m₃ = done-more 3 (omega arith) (done-more 2 (omega arith) (done-more 1 (omega arith) first m₁) m₂) m₃ .ran
+    where
+      first : Done pass ws p q 1 (set ws (4 * q) c₀) (not (eqb (getD ws (4 * q) 0) c₀))
+      first =
+          let y : 4 * q + 0 ≡ 4 * q = omega arith in
+          let x : 4 * p + 0 ≡ 4 * p = omega arith in
+          let d : Done pass ws p q 1 (set ws (4 * q + 0) c₀) (not (eqb (getD ws (4 * q + 0) 0) c₀) || false) = done-more 0 (omega arith) done-none (rw (y, x) m₀) in
+          subst (λ (z : ℕ). Done pass ws p q 1 (set ws z c₀) (not (eqb (getD ws z 0) c₀))) y (subst (Done pass ws p q 1 (set ws (4 * q + 0) c₀)) (or-false (not (eqb (getD ws (4 * q + 0) 0) c₀))) d)
 
 module _ (d : Direction) (code p s q : ℕ) (e : q ≡ s) where
   pub turned-out : (pass ws : List ℕ) → code ≤ q → Ran (Turned d code p s) pass ws ws false

@@ -7,7 +7,7 @@ ghost use lib.ListN.{length};
 ghost use Rattle.nll_spec.specs.Graph.{Graph};
 ghost use Rattle.graph.specs.Tables.{Edges};
 ghost use Rattle.flow.specs.Flows.{FlowSays};
-ghost use Rattle.flow.specs.Running.{Mixed, Ran, One, Lanes, Turned, Row, nth, Rows};
+ghost use Rattle.flow.specs.Running.{Mixed, Ran, Lanes, Turned, Row, nth, Rows};
 
 // Whether numbers go from a point to those that follow it, or to those that it follows.
 pub enum Direction {
@@ -28,29 +28,30 @@ fn mixed(old: u32, from: u32, pass: u32) -> u32
     old | (from & pass)
 }
 
-// Puts what word v has and word w lets pass into word w, and says whether that changed it.
-fn word(sets: &mut [u32], pass: &[u32], v: usize, w: usize) -> bool
-    requires { ⌜ (v < length (now sets)) × (w < length (now sets)) × (w < length (now pass)) ⌝ }
-    ensures { λ r. ⌜ Ran (One v w) (now (pass .entry)) (now (sets .entry)) (now (sets .exit)) r ⌝ }
-{
-    let old = sets[w];
-    let new = mixed(old, sets[v], pass[w]);
-    sets[w] = new;
-    old != new
-}
-
-// The same for the sets of the points p and q.
+// Puts what the set of point p has and point q lets pass into the set of point q, and says whether that changed it.
 fn edge(sets: &mut [u32], pass: &[u32], p: usize, q: usize) -> bool
     requires { ⌜ (4 * p + 4 ≤ length (now sets)) × (4 * q + 4 ≤ length (now sets)) × (4 * q + 4 ≤ length (now pass)) ⌝ }
     ensures { λ r. ⌜ Ran (Lanes 4 p q) (now (pass .entry)) (now (sets .entry)) (now (sets .exit)) r ⌝ }
 {
-    let mut changed = false;
-    let mut k = 0;
-    while k < 4 {
-        changed = word(sets, pass, 4 * p + k, 4 * q + k) | changed;
-        k += 1;
-    }
-    changed
+    let v = 4 * p;
+    let w = 4 * q;
+    let a0 = sets[v];
+    let a1 = sets[v + 1];
+    let a2 = sets[v + 2];
+    let a3 = sets[v + 3];
+    let b0 = sets[w];
+    let b1 = sets[w + 1];
+    let b2 = sets[w + 2];
+    let b3 = sets[w + 3];
+    let c0 = mixed(b0, a0, pass[w]);
+    let c1 = mixed(b1, a1, pass[w + 1]);
+    let c2 = mixed(b2, a2, pass[w + 2]);
+    let c3 = mixed(b3, a3, pass[w + 3]);
+    sets[w] = c0;
+    sets[w + 1] = c1;
+    sets[w + 2] = c2;
+    sets[w + 3] = c3;
+    (b3 != c3) | ((b2 != c2) | ((b1 != c1) | (b0 != c0)))
 }
 
 // The same for p and the point s that follows it, in the direction. A number that is no point of a block is passed by.
@@ -132,7 +133,7 @@ fn round(
     changed
 }
 
-// Puts into each point's set the numbers that come to it along edges, through points that let them pass.
+// Puts into each point's set the numbers that come to it along edges, through points that let them pass, if both tables have four words a point.
 pub fn flow(
     sets: &mut [u32],
     pass: &[u32],
@@ -141,11 +142,17 @@ pub fn flow(
     code: usize,
     direction: Direction,
 )
-    requires { ⌜ (4 * code ≤ length (now sets)) × (4 * code ≤ length (now pass)) ⌝ }
-    ensures { λ _. ⌜ (length (now (sets .exit)) ≡ length (now (sets .entry))) × ((g : Graph) → Edges g (now (first .entry)) (now (succ .entry)) → code ≡ g .code
+    ensures { λ _. ⌜ (length (now (sets .exit)) ≡ length (now (sets .entry))) × (4 * code ≤ length (now (sets .entry)) → 4 * code ≤ length (now (pass .entry))
+        → (g : Graph) → Edges g (now (first .entry)) (now (succ .entry)) → code ≡ g .code
         → FlowSays g direction (now (pass .entry)) (now (sets .entry)) (now (sets .exit))) ⌝ }
 {
     if 1024 < code {
+        return;
+    }
+    if sets.len() < 4 * code {
+        return;
+    }
+    if pass.len() < 4 * code {
         return;
     }
     loop {

@@ -33,7 +33,7 @@ fn wide(x: u16) -> usize
 }
 
 // Fills the rows of so many variables, by two tables of the points' sets: nothing starts yet, and everything passes.
-fn compute(
+fn by_tables(
     s: &[u8],
     layout: &[u16; 1280],
     first: &[u16; 1025],
@@ -59,35 +59,28 @@ fn compute(
     rows(sets, walked, code, 64, many, width, dropped);
 }
 
-// Fills the rows of a job of the record, `width` words a variable, if that is enough for its points.
-pub fn liveness(
+// The same by tables of a size for so many points.
+fn compute(
     s: &[u8],
     layout: &[u16; 1280],
-    head: Head,
     first: &[u16; 1025],
     succ: &[u16; 1536],
     walked: &[u32; 32],
+    code: usize,
+    many: usize,
     width: usize,
     used: &mut [u32],
     dropped: &mut [u32],
 )
-    requires { ⌜ (length (now layout) ≡ 1280) × (width ≤ 32 → 64 * width ≤ length (now used)) × (width ≤ 32 → 64 * width ≤ length (now dropped)) ⌝ }
-    ensures { λ _. ⌜ ((j : Job) → Layout (now (s .entry)) (now (layout .entry)) head j → codeCount (j .blocks) ≤ wordBits * width → width ≤ 32
+    requires { ⌜ (length (now layout) ≡ 1280) × (code ≤ 32 * width) × (width ≤ 32) × (many ≤ 64) × (64 * width ≤ length (now used)) × (64 * width ≤ length (now dropped)) ⌝ }
+    ensures { λ _. ⌜ ((h : heads.Head) (j : Job) → code ≡ h .code → many ≡ h .variables → Layout (now (s .entry)) (now (layout .entry)) h j
         → Edges (graphOf j) (now (first .entry)) (now (succ .entry)) → ((p : Point) → p < 1024 → has (now (walked .entry)) p ≡ isWalked (graphOf j) p)
         → LiveRows j width (now (used .exit)) (now (dropped .exit))) ⌝ }
 {
-    let code = wide(head.code);
-    let many = wide8(head.variables);
-    if 32 < width {
-        return;
-    }
-    if (32 * width < code) | (64 < many) {
-        return;
-    }
-    if code <= 64 {
-        let mut sets = [0; 256];
-        let mut pass = [4294967295; 256];
-        compute(
+    if code <= 128 {
+        let mut sets = [0; 512];
+        let mut pass = [4294967295; 512];
+        by_tables(
             s,
             layout,
             first,
@@ -104,7 +97,7 @@ pub fn liveness(
     } else {
         let mut sets = [0; 4096];
         let mut pass = [4294967295; 4096];
-        compute(
+        by_tables(
             s,
             layout,
             first,
@@ -119,4 +112,50 @@ pub fn liveness(
             dropped,
         );
     }
+}
+
+// Fills the rows of a job of the record, `width` words a variable, if that is enough for its points and there is room for 64 rows.
+pub fn liveness(
+    s: &[u8],
+    layout: &[u16; 1280],
+    head: Head,
+    first: &[u16; 1025],
+    succ: &[u16; 1536],
+    walked: &[u32; 32],
+    width: usize,
+    used: &mut [u32],
+    dropped: &mut [u32],
+)
+    requires { ⌜ length (now layout) ≡ 1280 ⌝ }
+    ensures { λ _. ⌜ ((j : Job) → Layout (now (s .entry)) (now (layout .entry)) head j → codeCount (j .blocks) ≤ wordBits * width → width ≤ 32
+        → 64 * width ≤ length (now (used .entry)) → 64 * width ≤ length (now (dropped .entry))
+        → Edges (graphOf j) (now (first .entry)) (now (succ .entry)) → ((p : Point) → p < 1024 → has (now (walked .entry)) p ≡ isWalked (graphOf j) p)
+        → LiveRows j width (now (used .exit)) (now (dropped .exit))) ⌝ }
+{
+    let code = wide(head.code);
+    let many = wide8(head.variables);
+    if 32 < width {
+        return;
+    }
+    if (32 * width < code) | (64 < many) {
+        return;
+    }
+    if used.len() < 64 * width {
+        return;
+    }
+    if dropped.len() < 64 * width {
+        return;
+    }
+    compute(
+        s,
+        layout,
+        first,
+        succ,
+        walked,
+        code,
+        many,
+        width,
+        used,
+        dropped,
+    );
 }

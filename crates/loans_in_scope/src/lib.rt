@@ -302,10 +302,10 @@ fn compute(
     requires { ⌜ (length (now layout) ≡ 1280) × (length (now table) ≡ 1024) × (width ≤ 32) × (count ≤ 128) × (code ≤ 1024) × (4 * code ≤ length (now scope)) ⌝ }
     ensures { λ _. ⌜ ((h : heads.Head) → code ≡ h .code → ScopeSays (now (s .entry)) (now (layout .entry)) h (now (first .entry)) (now (succ .entry)) (now (words .entry)) width (now (table .entry)) count (now (scope .exit))) ⌝ }
 {
-    if code <= 64 {
-        let mut leaves = [0; 256];
-        let mut pass = [0; 256];
-        let mut region = [0; 256];
+    if code <= 128 {
+        let mut leaves = [0; 512];
+        let mut pass = [0; 512];
+        let mut region = [0; 512];
         by_tables(
             s,
             layout,
@@ -356,8 +356,9 @@ pub fn loans_in_scope(
     count: usize,
     scope: &mut [u32],
 )
-    requires { ⌜ (length (now layout) ≡ 1280) × (length (now table) ≡ 1024) × (head .code ≤ 1024 → 4 * head .code ≤ length (now scope)) ⌝ }
-    ensures { λ _. ⌜ ScopeSays (now (s .entry)) (now (layout .entry)) head (now (first .entry)) (now (succ .entry)) (now (words .entry)) width (now (table .entry)) count (now (scope .exit)) ⌝ }
+    requires { ⌜ (length (now layout) ≡ 1280) × (length (now table) ≡ 1024) ⌝ }
+    ensures { λ _. ⌜ (4 * head .code ≤ length (now (scope .entry))
+        → ScopeSays (now (s .entry)) (now (layout .entry)) head (now (first .entry)) (now (succ .entry)) (now (words .entry)) width (now (table .entry)) count (now (scope .exit))) ⌝ }
 {
     let code = wide(head.code);
     if 1024 < code {
@@ -370,6 +371,9 @@ pub fn loans_in_scope(
         return;
     }
     if count == 0 {
+        return;
+    }
+    if scope.len() < 4 * code {
         return;
     }
     compute(

@@ -25,7 +25,7 @@ use Rattle.loans.proofs.CountLaws.{loans-few}
 use Rattle.loans_in_scope.specs.Scope.{Given, ScopeSays}
 use Rattle.borrowck.specs.Faults.{bytesTo}
 use Rattle.nll.specs.Steps.{shapeOf, JobAt, Mapped, verdictsOf, Judges}
-use Rattle.nll.proofs.JobLaws.{names-and-paths, width-is}
+use Rattle.nll.proofs.JobLaws.{names-and-paths, points-are, width-is}
 
 -- the verdicts' bytes are the answer's
 same-bytes : (j : Job) → bytesTo (verdictAt j (graphOf j) (scopeTable j (graphOf j) (answer everyEnd j .sets) (loansOf (graphOf j))) (loansOf (graphOf j))) (pointCount j) ≡ verdictsOf (answer everyEnd j)
@@ -38,7 +38,7 @@ sets-rows j = sized-sets everyEnd j .rows
 
 module _ {s t : List ℕ} {h : Head} {first succ walked ws table : List ℕ} {count : ℕ} {scope : List ℕ} (bs bs′ : List ℕ) {shape : Shape} (e : shape ≡ shapeOf h)
     (lent : (j : Job) → Layout s t h j → T (named j) → T (pathsFit j) → ((p : Point) → p < 1024 → has walked p ≡ isWalked (graphOf j) p) → length (loansOf (graphOf j)) ≤ 128 → LoansAt s j table count)
-    (scoped : ScopeSays s t h first succ ws (shape .width) table count scope)
+    {room : ℕ} (enough : h .code ≤ 1024 → 4 * h .code ≤ room) (scoped : 4 * h .code ≤ room → ScopeSays s t h first succ ws (shape .width) table count scope)
     (checked : (length bs′ ≡ length bs)
     × ((j : Job) (u : Table) → Layout s t h j → LoansAt s j table count
     → ((p : Point) → p < codeCount (j .blocks) → (i : ℕ) → i < count → has scope (128 * p + i) ≡ holds u i p)
@@ -66,7 +66,10 @@ module _ {s t : List ℕ} {h : Head} {first succ walked ws table : List ℕ} {co
 
     in-scope : (p : Point) → p < codeCount (j .blocks) → (i : ℕ) → i < count → has scope (128 * p + i) ≡ holds scope-table i p
     unfolding scope-table
-    in-scope p hp i hi = let e : 128 * p + i ≡ wordBits * (4 * p) + i = omega arith in ap (has scope) e ∙ scoped .bits j (answer everyEnd j .sets) given (m .edges) p i hp hi
+    in-scope p hp i hi =
+        let e : 128 * p + i ≡ wordBits * (4 * p) + i = omega arith in
+        let k : h .code ≤ 1024 = omega (arith, points-are (a .layout), a .points) in
+        ap (has scope) e ∙ scoped (enough k) .bits j (answer everyEnd j .sets) given (m .edges) p i hp hi
 
     judged : verdictBytes * pointCount j ≤ length bs → bs′ ≡ overwrite (verdictsOf (answer everyEnd j)) bs
     unfolding scope-table

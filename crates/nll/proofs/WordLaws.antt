@@ -33,16 +33,21 @@ use Rattle.nll.specs.Steps.{shapeOf, JobAt, Mapped, Seeds, Answered, Sol
 use Rattle.nll.proofs.JobLaws.{names-and-paths, code-is, points-are, width-is}
 use Rattle.nll.proofs.OverwriteLaws.{same-tail}
 
-pub seeds-by : {s t : List ℕ} {h : Head} {first succ walked used dropped : List ℕ} {width : ℕ} {ws ws′ : List ℕ}
-    → ((j : Job) → Layout s t h j → codeCount (j .blocks) ≤ wordBits * width → width ≤ 32 → Edges (graphOf j) first succ → ((p : Point) → p < 1024 → has walked p ≡ isWalked (graphOf j) p) → LiveRows j width used dropped)
-    → ((j : Job) → Layout s t h j → T (named j) → pointCount j ≤ 1024 → ((p : Point) → p < 1024 → has walked p ≡ isWalked (graphOf j) p) → LiveRows j width used dropped
+pub seeds-by : {s t : List ℕ} {h : Head} {first succ walked used dropped : List ℕ} {width m n : ℕ} {ws ws′ : List ℕ}
+    → (width ≤ 32 → 64 * width ≤ m) → (width ≤ 32 → 64 * width ≤ n) → length used ≡ m → length dropped ≡ n
+    → ((j : Job) → Layout s t h j → codeCount (j .blocks) ≤ wordBits * width → width ≤ 32 → 64 * width ≤ m → 64 * width ≤ n → Edges (graphOf j) first succ → ((p : Point) → p < 1024 → has walked p ≡ isWalked (graphOf j) p) → LiveRows j width used dropped)
+    → ((j : Job) → Layout s t h j → T (named j) → pointCount j ≤ 1024 → ((p : Point) → p < 1024 → has walked p ≡ isWalked (graphOf j) p)
+    → 64 * width ≤ length used → 64 * width ≤ length dropped → LiveRows j width used dropped
     → width ≡ wordCount (pointCount j) → j .regions * width ≤ length ws → Seeded j width ws ws′)
     → Seeds s t h first succ walked width ws ws′
 unfolding pointCount
-seeds-by {width = width} rows seeded = record {
+seeds-by {width = width} for-used for-dropped u d rows seeded = record {
   seeded = λ j a m e.
-      seeded j (a .layout) (names-and-paths j (a .accepted) .0) (a .points) (m .walks)
-      (rows j (a .layout) (omega (arith, e)) (omega (arith, e, a .points)) (m .edges) (m .walks)) e;
+      let w : width ≤ 32 = omega (arith, e, a .points) in
+      let x = for-used w in
+      let y = for-dropped w in
+      seeded j (a .layout) (names-and-paths j (a .accepted) .0) (a .points) (m .walks) (omega arith) (omega arith)
+      (rows j (a .layout) (omega (arith, e)) w x y (m .edges) (m .walks)) e;
 }
 
 -- ---- The answer

@@ -59,8 +59,8 @@ pub fn verdicts(
     requires { ⌜ length (now layout) ≡ 1280 ⌝ }
     ensures { λ _. ⌜ Judges (now (s .entry)) (now (layout .entry)) head (now (first .entry)) (now (succ .entry)) (now (walked .entry)) (now (words .entry)) (now (bytes .entry)) (now (bytes .exit)) ⌝ }
 {
-    if head.code <= 64 {
-        let mut scope = [0; 256];
+    if head.code <= 128 {
+        let mut scope = [0; 512];
         by_scope(
             s,
             layout,

@@ -186,10 +186,10 @@ module _ {s t : List ℕ} {h : Head} (walked used dropped ends ws first second a
   pub seeded : n ≡ h .regions → first ≡ cleared ws 0 (n * w) → Ends s t h ends
       → (length walked ≡ 32 → Room h w first → Adds w (h .regions) (λ r p. ltb r (h .declared) && declaredSeed (h .code) (h .declared) walked ends r p) first second)
       → ((j : Job) → Layout s t h j → 64 * w ≤ length used → 64 * w ≤ length dropped → Room h w second → Adds w (h .regions) (λ r p. anyTo (liveIn j w used dropped r p) (h .variables)) second after)
-      → length walked ≡ 32 → 64 * w ≤ length used → 64 * w ≤ length dropped
-      → (j : Job) → Layout s t h j → T (named j) → pointCount j ≤ 1024 → ((p : Point) → p < 1024 → has walked p ≡ isWalked (graphOf j) p) → LiveRows j w used dropped
-      → w ≡ wordCount (pointCount j) → j .regions * w ≤ length ws → Seeded j w ws after
-  seeded en ef ee fd fl hw hu hd j l a m isW live ew k =
+      → length walked ≡ 32
+      → (j : Job) → Layout s t h j → T (named j) → pointCount j ≤ 1024 → ((p : Point) → p < 1024 → has walked p ≡ isWalked (graphOf j) p)
+      → 64 * w ≤ length used → 64 * w ≤ length dropped → LiveRows j w used dropped → w ≡ wordCount (pointCount j) → j .regions * w ≤ length ws → Seeded j w ws after
+  seeded en ef ee fd fl hw j l a m isW hu hd live ew k =
       let size : length first ≡ length ws = ap length ef ∙ length-cleared ws 0 (n * w) in
       let room : Room h w ws = room-is l w ws a m ew k in
       let r₁ : Room h w first = room-kept size room in

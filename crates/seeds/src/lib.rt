@@ -61,9 +61,9 @@ pub fn seeds(
     width: usize,
     words: &mut [u32],
 )
-    requires { ⌜ (length (now layout) ≡ 1280) × (length (now walked) ≡ 32) × (width ≤ 32 → 64 * width ≤ length (now used)) × (width ≤ 32 → 64 * width ≤ length (now dropped)) ⌝ }
+    requires { ⌜ (length (now layout) ≡ 1280) × (length (now walked) ≡ 32) ⌝ }
     ensures { λ _. ⌜ ((j : Job) → Layout (now (s .entry)) (now (layout .entry)) head j → T (named j) → pointCount j ≤ 1024
-        → ((p : Point) → p < 1024 → has (now (walked .entry)) p ≡ isWalked (graphOf j) p) → LiveRows j width (now (used .entry)) (now (dropped .entry))
+        → ((p : Point) → p < 1024 → has (now (walked .entry)) p ≡ isWalked (graphOf j) p) → 64 * width ≤ length (now (used .entry)) → 64 * width ≤ length (now (dropped .entry)) → LiveRows j width (now (used .entry)) (now (dropped .entry))
         → width ≡ wordCount (pointCount j) → j .regions * width ≤ length (now (words .entry))
         → Seeded j width (now (words .entry)) (now (words .exit))) ⌝ }
 {

@@ -1,21 +1,35 @@
--- `liveness::compute`. Assumes nothing.
-use Rattle.nll_spec.specs.Graph.{graphOf}
-use Rattle.liveness.proofs.LiveLaws.{live-rows}
+-- `liveness::compute`: the tables of either size are as `by_tables` asks. Assumes nothing.
+use Prim.Native.Nat.{ℕ, _*_, _≤_}
+use native.Mathlib.Omega.{arith}
+use lib.ListN.{length-replicate}
+use Rattle.liveness.proofs.FillLaws.{start-blank}
 use borrow.Author.Needs.{needs}
 use Rattle.liveness.proofs.compute.Statement.{statement}
 use Rattle.liveness.proofs.compute.Tie as tie
 
-fill-requires : tie.Need-fill-requires
-fill-requires c κs = search needs
+slice-aggregate-by-tables : tie.Need-slice-aggregate-by-tables
+slice-aggregate-by-tables c = search needs
 
-flow-requires : tie.Need-flow-requires
-flow-requires c κs = search needs
+slice-aggregate-by-tables-2 : tie.Need-slice-aggregate-by-tables-2
+slice-aggregate-by-tables-2 c = search needs
 
-rows-requires : tie.Need-rows-requires
-rows-requires c κs = search needs
+by-tables-requires : tie.Need-by-tables-requires
+by-tables-requires c κs = let r = c .before .before .before .before .before .before .before .before .pre in
+    let size : 4 * c .before .before .before .before .before .before .before .before .args .code ≤ 512 = omega (arith, c .before .before .before .before .if1 .taken) in
+    let long = length-replicate {A = ℕ} 512 in
+    (r .0, r .1, r .2, r .3, start-blank 512 _ size, omega (arith, size, long 0), omega (arith, size, long 4294967295), r .4, r .5)
 
-rows-requires-2 : tie.Need-rows-requires-2
-rows-requires-2 c κs = search needs
+slice-aggregate-by-tables-3 : tie.Need-slice-aggregate-by-tables-3
+slice-aggregate-by-tables-3 c = search needs
+
+slice-aggregate-by-tables-4 : tie.Need-slice-aggregate-by-tables-4
+slice-aggregate-by-tables-4 c = search needs
+
+by-tables-requires-2 : tie.Need-by-tables-requires-2
+by-tables-requires-2 c κs = let r = c .before .before .before .before .before .before .before .before .pre in
+    let size : 4 * c .before .before .before .before .before .before .before .before .args .code ≤ 4096 = omega (arith, r .1, r .2) in
+    let long = length-replicate {A = ℕ} 4096 in
+    (r .0, r .1, r .2, r .3, start-blank 4096 _ size, omega (arith, size, long 0), omega (arith, size, long 4294967295), r .4, r .5)
 
 same-length : tie.Need-same-length
 same-length c = search needs
@@ -23,26 +37,31 @@ same-length c = search needs
 same-length-2 : tie.Need-same-length-2
 same-length-2 c = search needs
 
+returns : tie.Need-returns
+returns c = search needs
+
 same-length-3 : tie.Need-same-length-3
 same-length-3 c = search needs
 
 same-length-4 : tie.Need-same-length-4
 same-length-4 c = search needs
 
-returns : tie.Need-returns
-returns c = let a = c .before .before .before .before .before .before .before .before .before .before .before .before .before .before .before .before .before .before .before .before .before .before .before .before .before .before .before .args in
-    λ h j e m. live-rows (a .s .now) (a .layout .now) h (a .first .now) (a .succ .now) (a .walked .now) (c .before .before .before .before .before .before .before .before .before .before .before .before .before .before .before .before .before .before .before .before .before .before .before .before .before .before .before .pre .2) e m (c .before .before .before .before .before .before .before .before .before .before .before .before .before .before .before .before .before .before .before .fill .ensures) (λ i. c .before .before .before .before .before .before .before .before .before .before .before .before .flow .ensures .1 (graphOf i)) (c .before .before .before .before .before .before .before .rows .ensures) (c .before .before .rows2 .ensures) j
+returns-2 : tie.Need-returns-2
+returns-2 c = search needs
 
 pub compute-spec : {M : Type 1} → statement M
 compute-spec =
     tie.close
     (tie.spec
-    fill-requires
-    flow-requires
-    rows-requires
-    rows-requires-2
+    slice-aggregate-by-tables
+    slice-aggregate-by-tables-2
+    by-tables-requires
+    slice-aggregate-by-tables-3
+    slice-aggregate-by-tables-4
+    by-tables-requires-2
     same-length
     same-length-2
+    returns
     same-length-3
     same-length-4
-    returns)
+    returns-2)

@@ -9,7 +9,7 @@ fill-requires : tie.Need-fill-requires
 fill-requires c κs = let r = c .before .before .before .before .before .before .before .before .before .pre in (r .0, r .1, r .2, r .4, r .5)
 
 flow-requires : tie.Need-flow-requires
-flow-requires c κs = let r = c .before .before .before .before .before .before .before .before .before .before .before .before .before .before .before .before .before .before .pre .2 in (omega (arith, r .start), omega (arith, r .pass))
+flow-requires c κs = search needs
 
 mul-clear : tie.Need-mul-clear
 mul-clear c = search needs
@@ -40,7 +40,7 @@ same-length-4 c = search needs
 
 returns : tie.Need-returns
 returns c = let r = c .before .before .before .before .before .before .before .before .before .before .before .before .before .before .before .before .before .before .before .before .before .before .before .before .before .before .before .before .before .before .before .before .before .before .before .pre in
-    λ h e. scope-says e (r .3) (c .before .before .before .before .before .before .before .before .before .before .before .before .before .before .before .before .before .before .before .before .before .before .before .before .before .fill .ensures) (c .before .before .before .before .before .before .before .before .before .before .before .before .before .before .before .before .flow .ensures .1) (c .before .before .before .before .before .before .before .before .before .before .before .before .before .before .before .before .before .before .before .before .before .before .before .before .before .before .before .before .before .before .before .before .before .before .before .args .scope .now) (r .7) (c .before .before .before .before .before .before .before .before .before .before .before .before .clear .ensures) (c .before .before .before .before .before .before .before .gather .ensures) (c .before .before .mask .ensures)
+    λ h e. scope-says e (r .3) (c .before .before .before .before .before .before .before .before .before .before .before .before .before .before .before .before .before .before .before .before .before .before .before .before .before .fill .ensures) (c .before .before .before .before .before .before .before .before .before .before .before .before .before .before .before .before .flow .ensures .1 (omega (arith, r .2 .start)) (omega (arith, r .2 .pass))) (c .before .before .before .before .before .before .before .before .before .before .before .before .before .before .before .before .before .before .before .before .before .before .before .before .before .before .before .before .before .before .before .before .before .before .before .args .scope .now) (r .7) (c .before .before .before .before .before .before .before .before .before .before .before .before .clear .ensures) (c .before .before .before .before .before .before .before .gather .ensures) (c .before .before .mask .ensures)
 
 pub by-tables-spec : {M : Type 1} → statement M
 by-tables-spec =

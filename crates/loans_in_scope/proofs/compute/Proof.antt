@@ -16,7 +16,7 @@ slice-aggregate-by-tables-3 c = search needs
 
 by-tables-requires : tie.Need-by-tables-requires
 by-tables-requires c κs = let r = c .before .before .before .before .before .before .before .before .pre in
-    (r .0, r .1, zeros-sized 256 _ (omega (arith, c .before .before .before .before .if1 .taken)), zeros-empty 256, r .2, r .3, r .4, r .5)
+    (r .0, r .1, zeros-sized 512 _ (omega (arith, c .before .before .before .before .if1 .taken)), zeros-empty 512, r .2, r .3, r .4, r .5)
 
 slice-aggregate-by-tables-4 : tie.Need-slice-aggregate-by-tables-4
 slice-aggregate-by-tables-4 c = search needs

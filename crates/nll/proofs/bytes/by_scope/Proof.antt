@@ -23,7 +23,7 @@ same-length-2 : tie.Need-same-length-2
 same-length-2 c = search needs
 
 returns : tie.Need-returns
-returns c = judges _ _ (c .before .before .before .before .before .before .before .before .before .before .before .before .before .shape-of .ensures .0) (c .before .before .before .before .before .before .before .before .before .before .before .loans .ensures .1) (c .before .before .before .before .before .before .before .before .loans-in-scope .ensures) (c .before .before .borrow-check .ensures)
+returns c = judges _ _ (c .before .before .before .before .before .before .before .before .before .before .before .before .before .shape-of .ensures .0) (c .before .before .before .before .before .before .before .before .before .before .before .loans .ensures .1) (c .before .before .before .before .before .before .before .before .before .before .before .before .before .before .before .before .before .before .pre .1) (c .before .before .before .before .before .before .before .before .loans-in-scope .ensures) (c .before .before .borrow-check .ensures)
 
 pub by-scope-spec : {M : Type 1} → statement M
 by-scope-spec =

@@ -1,5 +1,4 @@
 -- `nll::words::by_rows`. Assumes nothing.
-use native.Mathlib.Omega.{arith}
 use Rattle.nll.proofs.WordLaws.{seeds-by}
 use borrow.Author.Needs.{needs}
 use Rattle.nll.proofs.words.by_rows.Statement.{statement}
@@ -9,7 +8,7 @@ liveness-requires : tie.Need-liveness-requires
 liveness-requires c κs = search needs
 
 seeds-requires : tie.Need-seeds-requires
-seeds-requires c κs = let r = c .before .before .before .before .before .before .before .before .before .before .before .before .before .before .pre in (r .0, r .1, λ w. omega (arith, r .2 w), λ w. omega (arith, r .3 w))
+seeds-requires c κs = search needs
 
 same-length : tie.Need-same-length
 same-length c = search needs
@@ -21,15 +20,9 @@ same-length-3 : tie.Need-same-length-3
 same-length-3 c = search needs
 
 returns : tie.Need-returns
-returns c = seeds-by (c .before .before .before .before .before .before .before .before .before .before .liveness .ensures) (c .before .before .seeds .ensures)
+returns c = let r = c .before .before .before .before .before .before .before .before .before .before .before .before .before .before .before .before .before .pre in seeds-by (r .2) (r .3) (search needs) (search needs) (c .before .before .before .before .before .before .before .before .before .before .liveness .ensures) (c .before .before .seeds .ensures)
 
 pub by-rows-spec : {M : Type 1} → statement M
 by-rows-spec =
     tie.close
-    (tie.spec
-    liveness-requires
-    seeds-requires
-    same-length
-    same-length-2
-    same-length-3
-    returns)
+    (tie.spec liveness-requires seeds-requires same-length same-length-2 same-length-3 returns)
