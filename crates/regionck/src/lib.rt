@@ -185,7 +185,7 @@ pub fn regionck(
             grown,
         );
     } else {
-        let mut list = [0; 24577];
+        let mut list = [0; 12289];
         solve(
             s,
             layout,
