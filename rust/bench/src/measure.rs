@@ -16,6 +16,8 @@ pub struct Times {
     /// The original's reading of the record, which is a stand-in's, and its analysis.
     pub reading: f64,
     pub analysis: f64,
+    /// The proved call without room, which ends after refusals 1 to 9 are judged. The original judges none of them.
+    pub judging: f64,
     /// The proved call, which reads the record, judges it and writes the answer.
     pub proved: f64,
 }
@@ -36,7 +38,8 @@ pub fn times(record: &[u8], proved: &mut dyn Engine) -> Times {
         checked.expect("a record that the original answers");
         analysis
     });
-    Times { reading: median(reading), analysis, proved: proved_seconds(record, proved) }
+    let judging = median_of_calls(|| seconds(|| proved.call(record, &mut [], &mut [])).0);
+    Times { reading: median(reading), analysis, judging, proved: proved_seconds(record, proved) }
 }
 
 /// The call with buffers of an exact fit. They are filled at random before the first call and are not cleared: each

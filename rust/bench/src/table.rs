@@ -11,13 +11,14 @@ const AIM: f64 = 10.0;
 const HEAD: &str = "\
 reading:  the original's parser, a stand-in, from text to function
 analysis: the original's own code, from function to the last error that it reports
+judging:  the proved call without room: refusals 1 to 9, of which the original judges none, and then 10
 proved:   the whole call, from the record's bytes to both buffers written
 ratio:    reading and analysis to proved, of the medians; alone: analysis to proved
 least:    the same of the record on which it is least
 buffers:  an exact fit, filled at random before the first call, not cleared before a call
 
-| class | records | bytes | points | reading | analysis | proved | ratio | alone | least | least alone | proved, slowest |
-|---|---|---|---|---|---|---|---|---|---|---|---|";
+| class | records | bytes | points | reading | analysis | judging | proved | ratio | alone | least | least alone | proved, slowest |
+|---|---|---|---|---|---|---|---|---|---|---|---|---|";
 
 /// Times each class and prints a line for it. Tells whether the aim is met.
 pub fn print(classes: &[Class], proved: &mut dyn Engine) -> bool {
@@ -49,20 +50,22 @@ impl Line {
         let records = class.records();
         let all: Vec<Times> = records.iter().map(|record| times(record, proved)).collect();
         let middle = |measure: fn(&Times) -> f64| median(all.iter().map(measure).collect());
-        let (reading, analysis, proved) = (middle(|t| t.reading), middle(|t| t.analysis), middle(|t| t.proved));
+        let (reading, analysis) = (middle(|t| t.reading), middle(|t| t.analysis));
+        let (judging, proved) = (middle(|t| t.judging), middle(|t| t.proved));
         let ratio = middle(Times::original) / proved;
         let ratios: Vec<f64> = all.iter().map(|t| t.original() / t.proved).collect();
         let (at, least) = ratios.iter().copied().enumerate().min_by(|a, b| a.1.total_cmp(&b.1)).expect("a record");
         let least_alone = all.iter().map(|t| t.analysis / t.proved).fold(f64::INFINITY, f64::min);
         let slowest = all.iter().map(|t| t.proved).fold(0.0, f64::max);
         println!(
-            "| {} | {} | {} | {} | {} | {} | {} | {ratio:.1} | {:.1} | {least:.1} | {least_alone:.1} | {} |",
+            "| {} | {} | {} | {} | {} | {} | {} | {} | {ratio:.1} | {:.1} | {least:.1} | {least_alone:.1} | {} |",
             class.name,
             all.len(),
             median(records.iter().map(|record| record.len() as f64).collect()),
             median(records.iter().map(|record| points(record)).collect()),
             shown(reading),
             shown(analysis),
+            shown(judging),
             shown(proved),
             analysis / proved,
             shown(slowest),
