@@ -83,7 +83,7 @@ met-stays s a b c down up m =
 
 -- ---- One run after another
 
-no-member : {c : Outlives} → Member c [] → ⊥
+pub no-member : {c : Outlives} → Member c [] → ⊥
 no-member m = not-suc-le-zero (member-place noConstraint m .1)
 
 pub ran-none : (s : Setting) (last ws grew : List ℕ) → Ran s last [] ws grew ws grew

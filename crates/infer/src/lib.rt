@@ -1,6 +1,7 @@
 // "S outlives T at p": the points that a walk from p through T reaches are put into S, and, where it comes to a point without successors, so are the
 // declared ends that the end rule passes on.
 // The points that follow point p are succ[first[p]..first[p + 1]]. Region r's set starts at word r * width.
+use constraint_list::Entry;
 use dfs::reach;
 ghost use mathlib.Core.Path.{_≡_};
 ghost use mathlib.Core.Bool.{true};
@@ -12,8 +13,8 @@ ghost use Rattle.nll_spec.specs.Output.{wordBits};
 ghost use Rattle.bit_set.specs.Bits.{bothFit};
 ghost use Rattle.dfs.specs.Walk.{inCode, Chained};
 ghost use Rattle.infer.specs.Search.{ruleOf, passes, withRun, Gets, In, Below, Spread, isSubset, hasEnds, addsNothing, inBounds, isCovered, Covered};
-ghost use Rattle.constraint_list.specs.Listed.{constraintsIn};
-ghost use Rattle.infer.specs.Ran.{Setting, Given, Names, Ran, Runs, constraint, anyMarked};
+ghost use Rattle.constraint_list.specs.Listed.{constraint, constraintsOf, pointOf, constraintsIn};
+ghost use Rattle.infer.specs.Ran.{Setting, Given, Names, Ran, Runs, anyMarked};
 
 // A region's number.
 pub struct RegionVariable(pub u8);
@@ -262,6 +263,85 @@ fn wide16(x: u16) -> usize
     x as usize
 }
 
+// Runs the constraints that an entry says, at point p.
+fn run_entry(
+    words: &mut [u32],
+    first: &[u16; 1025],
+    succ: &[u16; 1536],
+    chain: &[u32; 32],
+    shape: Shape,
+    rule: EndRule,
+    last: &[u8; 128],
+    grew: &mut [u8; 128],
+    e: Entry,
+    p: usize,
+)
+    ensures { λ _. ⌜ Runs shape rule (now (first .entry)) (now (succ .entry)) (now (chain .entry)) (now (last .entry)) (constraintsOf e p)
+        (now (words .entry)) (now (grew .entry)) (now (words .exit)) (now (grew .exit)) ⌝ }
+{
+    match e {
+        Entry::At(_) => {}
+        Entry::One { sup: a, sub: b } => {
+            let sup = RegionVariable(a);
+            let sub = RegionVariable(b);
+            outlives(
+                words,
+                first,
+                succ,
+                chain,
+                shape,
+                rule,
+                last,
+                grew,
+                sup,
+                sub,
+                p,
+            )
+        }
+        Entry::Both { sup: a, sub: b } => {
+            let sup = RegionVariable(a);
+            let sub = RegionVariable(b);
+            outlives(
+                words,
+                first,
+                succ,
+                chain,
+                shape,
+                rule,
+                last,
+                grew,
+                sup,
+                sub,
+                p,
+            );
+            outlives(
+                words,
+                first,
+                succ,
+                chain,
+                shape,
+                rule,
+                last,
+                grew,
+                sub,
+                sup,
+                p,
+            )
+        }
+    }
+}
+
+// The point said last after an entry, where it was p before.
+fn point_after(e: Entry, p: usize) -> usize
+    ensures { λ r. ⌜ r ≡ pointOf e p ⌝ }
+{
+    match e {
+        Entry::At(q) => wide16(q),
+        Entry::One { sup: _, sub: _ } => p,
+        Entry::Both { sup: _, sub: _ } => p,
+    }
+}
+
 // Runs each constraint of the list once.
 pub fn run(
     words: &mut [u32],
@@ -272,31 +352,18 @@ pub fn run(
     rule: EndRule,
     last: &[u8; 128],
     grew: &mut [u8; 128],
-    list: &[u32],
+    list: &[u16],
 )
     ensures { λ _. ⌜ Runs shape rule (now (first .entry)) (now (succ .entry)) (now (chain .entry)) (now (last .entry)) (constraintsIn (now (list .entry)))
         (now (words .entry)) (now (grew .entry)) (now (words .exit)) (now (grew .exit)) ⌝ }
 {
-    let count = constraint_list::count(list);
+    let count = constraint_list::used(list);
+    let mut p = 0;
     let mut i = 0;
     while i < count {
-        let c = constraint_list::get(list, i);
-        let sup = RegionVariable(c.sup);
-        let sub = RegionVariable(c.sub);
-        let point = wide16(c.point);
-        outlives(
-            words,
-            first,
-            succ,
-            chain,
-            shape,
-            rule,
-            last,
-            grew,
-            sup,
-            sub,
-            point,
-        );
+        let e = constraint_list::get(list, i);
+        run_entry(words, first, succ, chain, shape, rule, last, grew, e, p);
+        p = point_after(e, p);
         i += 1;
     }
 }

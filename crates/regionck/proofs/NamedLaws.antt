@@ -25,6 +25,7 @@ use Rattle.nll_spec.proofs.GraphLaws.{next-in-code, walked-is-code}
 use Rattle.nll_spec.proofs.AcceptedLaws.{Accepted, accepted-job}
 use Rattle.nll_spec.proofs.RegionLaws.{both-named}
 use Rattle.infer.specs.Ran.{AllNamed}
+use Rattle.infer.proofs.RanLaws.{no-member}
 use Rattle.regionck.specs.Rounds.{settingOf, constraintsBelow}
 
 -- ---- After an action comes the next point
@@ -128,14 +129,11 @@ module _ (at : Point) where
         go true = outlives-here (refRegion t) r
         go false = tt
 
-none : {c : Outlives} → Member c [] → ⊥
-none {c} m = every-member (λ (x : Outlives). false) [] tt m
-
 -- it is that of an action of the blocks
 point-in : (j : Job) → Accepted j → (p : Point) → p < graphOf j .code → (a : Action) → actionAt (graphOf j) p ≡ a → {c : Outlives} → Member c (constraintsAt j p a) → c .point < graphOf j .code
 unfolding constraintsAt isHere
-point-in j ok p l Noop e m = absurd (none m)
-point-in j ok p l (Init d qs) e m = absurd (none m)
+point-in j ok p l Noop e m = absurd (no-member m)
+point-in j ok p l (Init d qs) e m = absurd (no-member m)
 point-in j ok p l (Borrow d r k q) e {c} m =
     subst (λ (x : Point). x < graphOf j .code)
     (sym (eqb→eq (c .point) (suc p)
@@ -161,9 +159,9 @@ point-in j ok p l (Assign d q) e {c} m =
     other n = subst (λ (a : Action). T (isAssign a)) n tt
 point-in j ok p l (Constraint sup sub) e {c} m =
     subst (λ (x : Point). x < graphOf j .code) (sym (eqb→eq (c .point) p (every-member (isHere p) (record { sup = sup; sub = sub; point = p } ∷ []) (and-intro (eqb p p) true (eqb-refl p) tt) m))) l
-point-in j ok p l (Use q) e m = absurd (none m)
-point-in j ok p l (Drop q) e m = absurd (none m)
-point-in j ok p l (StorageDead v) e m = absurd (none m)
+point-in j ok p l (Use q) e m = absurd (no-member m)
+point-in j ok p l (Drop q) e m = absurd (no-member m)
+point-in j ok p l (StorageDead v) e m = absurd (no-member m)
 
 -- ---- The names of a constraint
 

@@ -1,35 +1,34 @@
 -- A round: the constraints of the points of walked blocks, collected in a list and run. Assumes nothing.
 use mathlib.Core.Path.{_≡_, refl, sym, ap, _∙_, subst}
-use mathlib.Core.Bool.{Bool, true, false, _&&_, cond, true≢false}
+use mathlib.Core.Bool.{Bool, true, false, cond}
 use mathlib.Core.List.{List, [], _++_, append-nil, append-assoc}
 use Prim.Native.Nat.{ℕ, _+_, _*_, _≤_, _<_}
 use native.Mathlib.Omega.{arith}
+use native.Mathlib.Decide.{decLt}
 use lib.ListN.{length}
-use lib.Dec.{eqb, ltb}
-use borrow.Author.Tests.{eqb-true, ltb-true}
 use Rattle.nll_spec.specs.Lists.{Member}
 use Rattle.nll_spec.specs.Syntax.{Job, Point}
 use Rattle.nll_spec.specs.Output.{wordBits}
 use Rattle.nll_spec.specs.WellFormed.{refusal}
 use Rattle.nll_spec.specs.Graph.{graphOf, actionAt, isWalked}
 use Rattle.nll_spec.specs.Constraints.{Outlives, constraintsAt, constraintsOf}
+use Rattle.nll_spec.specs.Regions.{everyEnd}
 use Rattle.nll_spec.proofs.GraphLaws.{code-count}
 use Rattle.nll_spec.proofs.Members.{member-right}
 use Rattle.bit_set.specs.Bits.{has}
 use Rattle.record.specs.Layout.{Layout}
 use Rattle.record.specs.declared.Head.{Head}
-use Rattle.constraint_list.specs.Listed.{countIn, roomIn, constraintsIn, firstIn, Adds}
+use Rattle.constraint_list.specs.Listed.{usedIn, roomIn, constraintsIn, firstIn, Sound, Fits, Added, Adds}
 use Rattle.constraint_list.proofs.ListLaws.{adds-none, first-none}
 use Rattle.infer.specs.Search.{ruleOf}
-use Rattle.infer.specs.Ran.{Given, AllNamed, Ran, Runs}
+use Rattle.infer.specs.Ran.{Ran, Runs}
 use Rattle.infer.specs.declared.EndRule as declared
 use Rattle.infer.specs.declared.Shape.{Shape}
-use Rattle.infer.proofs.RanLaws.{ran-none, ran-append, given-kept}
+use Rattle.infer.proofs.RanLaws.{true-T, no-member, ran-none, ran-append, given-kept}
 use Rattle.constraints.specs.Constraining.{Constrains}
-use Rattle.regionck.specs.Rounds.{settingOf, noMarks, walkedAt, WalkedIn, constraintsBelow, Known, PointAdds, Holding, Collects, Holds, RoundRuns}
-use Rattle.regionck.specs.declared.round.Held.{Held}
+use Rattle.regionck.specs.Rounds.{settingOf, noMarks, walkedAt, constraintsBelow, Known, PointAdds, Holding, RunsBelow, RoundRuns}
 use Rattle.constraints.proofs.ListLaws.{select-below}
-use Rattle.regionck.proofs.NamedLaws.{named-below}
+use Rattle.regionck.proofs.NamedLaws.{named-at, named-below}
 use Rattle.constraints.proofs.FewLaws.{few-constraints}
 
 -- ---- A point
@@ -61,69 +60,80 @@ module _ {s t : List ℕ} {h : Head} {walked : List ℕ} {p : Point} where
 -- ---- The points that a list has
 
 module _ {s t : List ℕ} {h : Head} {walked : List ℕ} {code : ℕ} where
-  pub held-none : {ls : List ℕ} {from : ℕ} → countIn ls ≡ 0 → from ≤ code → Holding s t h walked code ls (record { from = from; to = from })
-  held-none {ls} {from} e l = record { within = l; holds = λ j k. ap (λ (n : ℕ). constraintsBelow j from ++ firstIn ls n) e ∙ ap (λ (cs : List Outlives). constraintsBelow j from ++ cs) (first-none ls) ∙ append-nil (constraintsBelow j from) }
+  pub held-none : {ls : List ℕ} {from : ℕ} → usedIn ls ≡ 0 → Sound ls → from ≤ code → Holding s t h walked code ls from from
+  held-none {ls} {from} e sound l = record {
+    within = l;
+    sound = λ j k. sound;
+    holds = λ j k. ap (λ (n : ℕ). constraintsBelow j from ++ firstIn ls n) e ∙ ap (λ (cs : List Outlives). constraintsBelow j from ++ cs) (first-none ls) ∙ append-nil (constraintsBelow j from);
+  }
 
-  -- no point has more constraints
-  few-at : (j : Job) → Known s t h walked code j → {p : Point} → p < code → length (walkedAt j p) ≤ 264
-  few-at j k {p} l = go (isWalked (graphOf j) p)
-    where
-      go : (b : Bool) → length (cond b (constraintsAt j p (actionAt (graphOf j) p)) []) ≤ 264
-      go true = few-constraints (k .layout) (k .accepted) p (omega (arith, l, k .points))
-      go false = omega arith
+  module _ (j : Job) (k : Known s t h walked code j) {p : Point} (l : p < code) where
+    -- no point has more constraints
+    few-at : length (walkedAt j p) ≤ 264
+    few-at = go (isWalked (graphOf j) p)
+      where
+        go : (b : Bool) → length (cond b (constraintsAt j p (actionAt (graphOf j) p)) []) ≤ 264
+        go true = few-constraints (k .layout) (k .accepted) p (omega (arith, l, k .points))
+        go false = omega arith
 
-  pub held-more : {ls ls′ : List ℕ} {from p : ℕ} → PointAdds s t h walked p ls ls′ → Holding s t h walked code ls (record { from = from; to = p }) → 264 ≤ roomIn ls → p < code
-      → Holding s t h walked code ls′ (record { from = from; to = p + 1 })
+    -- they have numbers
+    fits-at : (c : Outlives) → Member c (walkedAt j p) → Fits c
+    fits-at c m = go (isWalked (graphOf j) p) refl m
+      where
+        go : (b : Bool) → isWalked (graphOf j) p ≡ b → Member c (cond b (constraintsAt j p (actionAt (graphOf j) p)) []) → Fits c
+        go true e m =
+            let x = named-at everyEnd j (k .accepted) p (true-T _ e) c m in
+            record { sup = omega (arith, x .sup, k .layout .regions, k .layout .regionLimit); sub = omega (arith, x .sub, k .layout .regions, k .layout .regionLimit); point = omega (arith, x .point, code-count j, k .layout .few) }
+        go false e m = absurd (no-member m)
+
+  pub held-more : {ls ls′ : List ℕ} {from p : ℕ} → PointAdds s t h walked p ls ls′ → Holding s t h walked code ls from p → 528 ≤ roomIn ls → p < code → Holding s t h walked code ls′ from (p + 1)
   held-more {ls} {ls′} {from} {p} y x room l = record {
     within = omega arith;
+    sound = λ j k. added j k .sound;
     holds = λ j k.
-        let few = few-at j k l in
-        ap (λ (cs : List Outlives). constraintsBelow j from ++ cs) (y .adds j code k l .adds (omega (arith, few, room)))
+        ap (λ (cs : List Outlives). constraintsBelow j from ++ cs) (added j k .says)
         ∙ sym (append-assoc (constraintsBelow j from) (constraintsIn ls) (walkedAt j p))
         ∙ ap (λ (cs : List Outlives). cs ++ walkedAt j p) (x .holds j k)
         ∙ sym (select-below (λ (q : ℕ). constraintsAt j q (actionAt (graphOf j) q)) (isWalked (graphOf j)) p);
   }
-
-module _ {s t : List ℕ} {h : Head} {walked : List ℕ} {code p : ℕ} {ls : List ℕ} {held : Held} where
-  pub hold-kept : (eqb (held .from) p && ltb p (held .to)) ≡ true → Holds s t h walked code p ls held ls held
-  hold-kept e = go (eqb (held .from) p) (ltb p (held .to)) refl refl e
     where
-      go : (x y : Bool) → eqb (held .from) p ≡ x → ltb p (held .to) ≡ y → x && y ≡ true → Holds s t h walked code p ls held ls held
-      go true true i k e = record { starts = eqb-true (held .from) p i; later = ltb-true p (held .to) k; holding = λ x. x }
-      go true false i k e = absurd (true≢false (sym e))
-      go false y i k e = absurd (true≢false (sym e))
+      added : (j : Job) → Known s t h walked code j → Added (walkedAt j p) ls ls′
+      added j k = y .adds j code k l .adds (x .sound j k) (fits-at j k l) (omega (arith, few-at j k l, room))
 
-  pub hold-anew : {ls′ : List ℕ} {r : ℕ} → Collects s t h walked code p ls ls′ r → Holds s t h walked code p ls held ls′ (record { from = p; to = r })
-  hold-anew x = record { starts = refl; later = x .later; holding = λ y. x .holding }
+-- a list without room has the constraints of a point
+pub some-point : {from p room : ℕ} → from ≤ p → (p ≡ from → 528 ≤ room) → room < 528 → from < p
+some-point {from} {p} l k r = go (decLt from p)
+  where
+    go : Dec (from < p) → from < p
+    go (yes q) = q
+    go (no q) = absurd (omega (arith, r, k (omega (arith, l, q))))
 
 -- ---- A round
-
--- the constraints of the first n points are run
-pub record RunsBelow (s t : List ℕ) (h : Head) (walked : List ℕ) (shape : Shape) (rule : declared.EndRule) (first succ chain last ws ws′ grew : List ℕ) (n : ℕ) : Type 0 where
-  pub ran : (j : Job) → Layout s t h j → refusal j ≡ 0 → WalkedIn j walked → Given (settingOf (ruleOf rule) j) shape rule first succ chain ws noMarks
-      → Ran (settingOf (ruleOf rule) j) last (constraintsBelow j n) ws noMarks ws′ grew
 
 module _ (s t : List ℕ) (h : Head) (walked : List ℕ) (shape : Shape) (rule : declared.EndRule) (first succ chain last ws : List ℕ) where
   pub below-none : RunsBelow s t h walked shape rule first succ chain last ws ws noMarks 0
   below-none = record { ran = λ j layout accepted w g. ran-none (settingOf (ruleOf rule) j) last ws noMarks }
 
   -- the constraints of the list, which begin with those of the next point
-  pub below-more : {ls : List ℕ} {n : ℕ} {at : Held} {ws₁ grew₁ ws₂ grew₂ : List ℕ} → RunsBelow s t h walked shape rule first succ chain last ws ws₁ grew₁ n
-      → Holding s t h walked (shape .code) ls at → at .from ≡ n → Runs shape rule first succ chain last (constraintsIn ls) ws₁ grew₁ ws₂ grew₂
-      → RunsBelow s t h walked shape rule first succ chain last ws ws₂ grew₂ (at .to)
-  below-more {ls} {n} {at} {ws₁} {grew₁} {ws₂} {grew₂} x held i y =
+  pub below-more : {ls : List ℕ} {n m : ℕ} {ws₁ grew₁ ws₂ grew₂ : List ℕ} → RunsBelow s t h walked shape rule first succ chain last ws ws₁ grew₁ n
+      → Holding s t h walked (shape .code) ls n m → Runs shape rule first succ chain last (constraintsIn ls) ws₁ grew₁ ws₂ grew₂
+      → RunsBelow s t h walked shape rule first succ chain last ws ws₂ grew₂ m
+  below-more {ls} {n} {m} {ws₁} {grew₁} {ws₂} {grew₂} x held y =
       record {
         ran = λ j layout accepted w g.
             let a = x .ran j layout accepted w g in
-            let e = ap (λ (k : ℕ). constraintsBelow j k ++ constraintsIn ls) (sym i) ∙ held .holds j (record { layout = layout; accepted = accepted; reached = w; points = g .code }) in
+            let e = held .holds j (record { layout = layout; accepted = accepted; reached = w; points = g .code }) in
             subst (λ (cs : List Outlives). Ran (settingOf (ruleOf rule) j) last cs ws noMarks ws₂ grew₂) e
             (ran-append a (y .ran (settingOf (ruleOf rule) j) (given-kept g a)
-            (λ c k. named-below (ruleOf rule) j accepted (at .to) c (subst (λ (cs : List Outlives). Member c cs) e (member-right (constraintsBelow j n) (constraintsIn ls) k)))));
+            (λ c k. named-below (ruleOf rule) j accepted m c (subst (λ (cs : List Outlives). Member c cs) e (member-right (constraintsBelow j n) (constraintsIn ls) k)))));
       }
 
-  pub below-all : {ws′ grew : List ℕ} (n : ℕ) → n ≡ shape .code → RunsBelow s t h walked shape rule first succ chain last ws ws′ grew n → RoundRuns s t h walked shape rule first succ chain last ws ws′ grew
+  pub below-code : {ws′ grew : List ℕ} (n : ℕ) → n ≡ shape .code → RunsBelow s t h walked shape rule first succ chain last ws ws′ grew n → RunsBelow s t h walked shape rule first succ chain last ws ws′ grew (shape .code)
+  below-code {ws′} {grew} n e x = subst (λ (k : ℕ). RunsBelow s t h walked shape rule first succ chain last ws ws′ grew k) e x
+
+  pub below-all : {ws′ grew : List ℕ} → RunsBelow s t h walked shape rule first succ chain last ws ws′ grew (shape .code) → RoundRuns s t h walked shape rule first succ chain last ws ws′ grew
   unfolding constraintsOf
-  below-all {ws′} {grew} n e x =
+  below-all {ws′} {grew} x =
       record {
-        ran = λ j layout accepted w g. subst (λ (k : ℕ). Ran (settingOf (ruleOf rule) j) last (constraintsBelow j k) ws noMarks ws′ grew) (e ∙ g .code) (x .ran j layout accepted w g);
+        ran = λ j layout accepted w g. subst (λ (k : ℕ). Ran (settingOf (ruleOf rule) j) last (constraintsBelow j k) ws noMarks ws′ grew) (g .code) (x .ran j layout accepted w g);
       }

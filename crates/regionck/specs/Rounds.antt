@@ -23,8 +23,7 @@ use Rattle.infer.specs.Search.{ruleOf}
 use Rattle.infer.specs.Ran.{Setting, Words, Given, Ran}
 use Rattle.infer.specs.declared.EndRule as declared
 use Rattle.infer.specs.declared.Shape.{Shape}
-use Rattle.constraint_list.specs.Listed.{constraintsIn, Adds}
-use Rattle.regionck.specs.declared.round.Held.{Held}
+use Rattle.constraint_list.specs.Listed.{constraintsIn, Sound, Adds}
 
 -- what the constraints of a job are run in
 abbrev pub settingOf : EndRule → Job → Setting
@@ -57,23 +56,23 @@ pub record Known (s t : List ℕ) (h : Head) (walked : List ℕ) (code : ℕ) (j
 pub record PointAdds (s t : List ℕ) (h : Head) (walked : List ℕ) (p : Point) (ls ls′ : List ℕ) : Type 0 where
   pub adds : (j : Job) (code : ℕ) → Known s t h walked code j → p < code → Adds (walkedAt j p) ls ls′
 
--- The list has the constraints of the points from the first of `held` on, up to the second.
-pub record Holding (s t : List ℕ) (h : Head) (walked : List ℕ) (code : ℕ) (ls : List ℕ) (held : Held) : Type 0 where
-  pub within : held .to ≤ code
-  pub holds : (j : Job) → Known s t h walked code j → constraintsBelow j (held .from) ++ constraintsIn ls ≡ constraintsBelow j (held .to)
+-- The list has the constraints of the points from the first on, up to the second.
+pub record Holding (s t : List ℕ) (h : Head) (walked : List ℕ) (code : ℕ) (ls : List ℕ) (from to : Point) : Type 0 where
+  pub within : to ≤ code
+  pub sound : (j : Job) → Known s t h walked code j → Sound ls
+  pub holds : (j : Job) → Known s t h walked code j → constraintsBelow j from ++ constraintsIn ls ≡ constraintsBelow j to
 
 -- The list has the constraints of `from` and of the points after it, up to r.
-pub record Collects (s t : List ℕ) (h : Head) (walked : List ℕ) (code from : ℕ) (ls ls′ : List ℕ) (r : ℕ) : Type 0 where
-  pub later : from < r
-  pub holding : Holding s t h walked code ls′ (record { from = from; to = r })
+pub record Collects (s t : List ℕ) (h : Head) (walked : List ℕ) (code from : ℕ) (ls : List ℕ) (r : ℕ) : Type 0 where
+  pub later : from < code → from < r
+  pub holding : Holding s t h walked code ls from r
 
--- The same of a list that may have them.
-pub record Holds (s t : List ℕ) (h : Head) (walked : List ℕ) (code p : ℕ) (ls : List ℕ) (held : Held) (ls′ : List ℕ) (r : Held) : Type 0 where
-  pub starts : r .from ≡ p
-  pub later : p < r .to
-  pub holding : Holding s t h walked code ls held → Holding s t h walked code ls′ r
+-- The constraints of the first n points are run, from no marks on.
+pub record RunsBelow (s t : List ℕ) (h : Head) (walked : List ℕ) (shape : Shape) (rule : declared.EndRule) (first succ chain last ws ws′ grew : List ℕ) (n : ℕ) : Type 0 where
+  pub ran : (j : Job) → Layout s t h j → refusal j ≡ 0 → WalkedIn j walked → Given (settingOf (ruleOf rule) j) shape rule first succ chain ws noMarks
+      → Ran (settingOf (ruleOf rule) j) last (constraintsBelow j n) ws noMarks ws′ grew
 
--- All constraints of a job are run, from no marks on.
+-- The same of all constraints of a job.
 pub record RoundRuns (s t : List ℕ) (h : Head) (walked : List ℕ) (shape : Shape) (rule : declared.EndRule) (first succ chain last ws ws′ grew : List ℕ) : Type 0 where
   pub ran : (j : Job) → Layout s t h j → refusal j ≡ 0 → WalkedIn j walked → Given (settingOf (ruleOf rule) j) shape rule first succ chain ws noMarks
       → Ran (settingOf (ruleOf rule) j) last (constraintsOf j (graphOf j)) ws noMarks ws′ grew

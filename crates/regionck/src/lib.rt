@@ -4,7 +4,7 @@ mod round;
 use infer::EndRule;
 use infer::Shape;
 use record::Head;
-use round::Held;
+use round::collect;
 use round::round;
 ghost use mathlib.Core.Path.{_≡_};
 ghost use mathlib.Core.Bool.{cond};
@@ -49,7 +49,7 @@ fn note(grew: &[u8; 128], grown: &mut [u8; 128])
     }
 }
 
-// Runs rounds until no set grows. `grown` marks, by 1, the regions whose sets grew. The list has room for constraints.
+// Runs rounds until no set grows. `grown` marks, by 1, the regions whose sets grew. The constraints for which the list has room are derived once.
 fn solve(
     s: &[u8],
     layout: &[u16; 1280],
@@ -62,19 +62,18 @@ fn solve(
     rule: EndRule,
     words: &mut [u32],
     grown: &mut [u8; 128],
-    list: &mut [u32],
+    list: &mut [u16],
 )
-    requires { ⌜ (length (now layout) ≡ 1280) × (length (now grown) ≡ 128) × (265 ≤ length (now list)) ⌝ }
+    requires { ⌜ (length (now layout) ≡ 1280) × (length (now grown) ≡ 128) × (530 ≤ length (now list)) ⌝ }
     ensures { λ _. ⌜ (length (now (grown .exit)) ≡ 128) × ((j : Job) → Seeded (now (s .entry)) (now (layout .entry)) head (now (first .entry)) (now (succ .entry)) (now (walked .entry)) shape (now (words .entry)) j
         → Chained (now (chain .entry)) (now (first .entry)) (now (succ .entry)) → Solved (ruleOf rule) j (now (words .entry)) (now (words .exit)) (now (grown .exit))) ⌝ }
 {
     clear(grown);
-    constraint_list::clear(list);
-    let mut held = Held { from: 0, to: 0 };
+    let to = collect(s, layout, head, walked, shape.code, 0, list);
     let mut last = [1; 128];
     let mut left = ROUNDS;
     while left != 0 {
-        let one = round(
+        last = round(
             s,
             layout,
             head,
@@ -87,10 +86,8 @@ fn solve(
             chain,
             &last,
             list,
-            held,
+            to,
         );
-        last = one.grew;
-        held = one.held;
         if !infer::any_marked(&last) {
             return;
         }
@@ -118,7 +115,7 @@ fn solve_small(
         → Chained (now (chain .entry)) (now (first .entry)) (now (succ .entry)) → Solved (ruleOf rule) j (now (words .entry)) (now (words .exit)) (now (grown .exit))) ⌝ }
 {
     if shape.code <= 64 {
-        let mut list = [0; 513];
+        let mut list = [0; 1026];
         solve(
             s,
             layout,
@@ -134,7 +131,7 @@ fn solve_small(
             &mut list,
         );
     } else {
-        let mut list = [0; 4097];
+        let mut list = [0; 4098];
         solve(
             s,
             layout,
@@ -185,7 +182,7 @@ pub fn regionck(
             grown,
         );
     } else {
-        let mut list = [0; 12289];
+        let mut list = [0; 45058];
         solve(
             s,
             layout,

@@ -5,27 +5,16 @@ use infer::Shape;
 use record::Head;
 use relate::Run;
 ghost use mathlib.Core.Path.{_≡_};
-ghost use Prim.Native.Nat.{_<_, _≤_};
+ghost use mathlib.Core.List.{List};
+ghost use Prim.Native.Nat.{ℕ, _≤_};
 ghost use lib.ListN.{length};
-ghost use Rattle.regionck.specs.Rounds.{PointAdds, Collects, Holds, Holding, RoundRuns};
+ghost use Rattle.regionck.specs.Rounds.{PointAdds, Collects, Holding, RunsBelow, RoundRuns};
 
-// No action makes more constraints.
-const MOST: usize = 264;
-
-// The points whose constraints a list has: from the first on, up to the second.
-pub struct Held {
-    pub from: usize,
-    pub to: usize,
-}
-
-// The marks of the regions that grew, and what the list has after the round.
-pub struct Ran {
-    pub grew: [u8; 128],
-    pub held: Held,
-}
+// No action's constraints take more numbers of a list.
+const MOST: usize = 528;
 
 // Adds the constraints of a point of the blocks, if its block is walked.
-fn point(s: &[u8], layout: &[u16; 1280], head: Head, walked: &[u32; 32], p: usize, list: &mut [u32])
+fn point(s: &[u8], layout: &[u16; 1280], head: Head, walked: &[u32; 32], p: usize, list: &mut [u16])
     requires { ⌜ length (now layout) ≡ 1280 ⌝ }
     ensures { λ _. ⌜ PointAdds (now (s .entry)) (now (layout .entry)) head (now (walked .entry)) p (now (list .entry)) (now (list .exit)) ⌝ }
 {
@@ -40,21 +29,20 @@ fn point(s: &[u8], layout: &[u16; 1280], head: Head, walked: &[u32; 32], p: usiz
 }
 
 // Puts the constraints of point `from` and of those after it into the list, as far as it has room for all of a point's. Returns the first point left out.
-fn collect(
+pub fn collect(
     s: &[u8],
     layout: &[u16; 1280],
     head: Head,
     walked: &[u32; 32],
     code: usize,
     from: usize,
-    list: &mut [u32],
+    list: &mut [u16],
 ) -> usize
-    requires { ⌜ (length (now layout) ≡ 1280) × (from < code) × (265 ≤ length (now list)) ⌝ }
-    ensures { λ r. ⌜ Collects (now (s .entry)) (now (layout .entry)) head (now (walked .entry)) code from (now (list .entry)) (now (list .exit)) r ⌝ }
+    requires { ⌜ (length (now layout) ≡ 1280) × (from ≤ code) × (530 ≤ length (now list)) ⌝ }
+    ensures { λ r. ⌜ Collects (now (s .entry)) (now (layout .entry)) head (now (walked .entry)) code from (now (list .exit)) r ⌝ }
 {
     constraint_list::clear(list);
-    point(s, layout, head, walked, from, list);
-    let mut p = from + 1;
+    let mut p = from;
     while p < code {
         if constraint_list::room(list) < MOST {
             return p;
@@ -65,28 +53,38 @@ fn collect(
     p
 }
 
-// Has the list hold the constraints from point p on: as it does, or by collecting them.
-fn hold(
+// Runs the constraints of point `from` and of those after it, which are collected part by part.
+fn rest(
     s: &[u8],
     layout: &[u16; 1280],
     head: Head,
     walked: &[u32; 32],
-    code: usize,
-    p: usize,
-    list: &mut [u32],
-    held: Held,
-) -> Held
-    requires { ⌜ (length (now layout) ≡ 1280) × (p < code) × (265 ≤ length (now list)) ⌝ }
-    ensures { λ r. ⌜ Holds (now (s .entry)) (now (layout .entry)) head (now (walked .entry)) code p (now (list .entry)) held (now (list .exit)) r ⌝ }
+    shape: Shape,
+    rule: EndRule,
+    words: &mut [u32],
+    first: &[u16; 1025],
+    succ: &[u16; 1536],
+    chain: &[u32; 32],
+    last: &[u8; 128],
+    grew: &mut [u8; 128],
+    from: usize,
+)
+    requires { ⌜ (length (now layout) ≡ 1280) × (from ≤ shape .code) ⌝ }
+    ensures { λ _. ⌜ ((ws : List ℕ) → RunsBelow (now (s .entry)) (now (layout .entry)) head (now (walked .entry)) shape rule (now (first .entry)) (now (succ .entry)) (now (chain .entry))
+        (now (last .entry)) ws (now (words .entry)) (now (grew .entry)) from
+        → RunsBelow (now (s .entry)) (now (layout .entry)) head (now (walked .entry)) shape rule (now (first .entry)) (now (succ .entry)) (now (chain .entry))
+        (now (last .entry)) ws (now (words .exit)) (now (grew .exit)) (shape .code)) ⌝ }
 {
-    if (held.from == p) & (p < held.to) {
-        return held;
+    let code = shape.code;
+    let mut list = [0; 2050];
+    let mut p = from;
+    while p < code {
+        p = collect(s, layout, head, walked, code, p, &mut list);
+        infer::run(words, first, succ, chain, shape, rule, last, grew, &list);
     }
-    let to = collect(s, layout, head, walked, code, p, list);
-    Held { from: p, to }
 }
 
-// Runs the constraints of each point of walked blocks, part by part where the list has no room for all.
+// Runs the constraints of each point of walked blocks. The list has those of the points before `to`.
 pub fn round(
     s: &[u8],
     layout: &[u16; 1280],
@@ -99,33 +97,42 @@ pub fn round(
     succ: &[u16; 1536],
     chain: &[u32; 32],
     last: &[u8; 128],
-    list: &mut [u32],
-    before: Held,
-) -> Ran
-    requires { ⌜ (length (now layout) ≡ 1280) × (265 ≤ length (now list))
-        × Holding (now s) (now layout) head (now walked) (shape .code) (now list) before ⌝ }
+    list: &[u16],
+    to: usize,
+) -> [u8; 128]
+    requires { ⌜ (length (now layout) ≡ 1280) × Holding (now s) (now layout) head (now walked) (shape .code) (now list) 0 to ⌝ }
     ensures { λ r. ⌜ RoundRuns (now (s .entry)) (now (layout .entry)) head (now (walked .entry)) shape rule (now (first .entry)) (now (succ .entry)) (now (chain .entry))
-        (now (last .entry)) (now (words .entry)) (now (words .exit)) (r .grew)
-        × Holding (now (s .entry)) (now (layout .entry)) head (now (walked .entry)) (shape .code) (now (list .exit)) (r .held) ⌝ }
+        (now (last .entry)) (now (words .entry)) (now (words .exit)) r ⌝ }
 {
-    let code = shape.code;
     let mut grew = [0; 128];
-    let mut held = before;
-    let mut p = 0;
-    while p < code {
-        held = hold(s, layout, head, walked, code, p, list, held);
-        infer::run(
-            words,
-            first,
-            succ,
-            chain,
-            shape,
-            rule,
-            last,
-            &mut grew,
-            list,
-        );
-        p = held.to;
+    infer::run(
+        words,
+        first,
+        succ,
+        chain,
+        shape,
+        rule,
+        last,
+        &mut grew,
+        list,
+    );
+    if shape.code <= to {
+        return grew;
     }
-    Ran { grew, held }
+    rest(
+        s,
+        layout,
+        head,
+        walked,
+        shape,
+        rule,
+        words,
+        first,
+        succ,
+        chain,
+        last,
+        &mut grew,
+        to,
+    );
+    grew
 }

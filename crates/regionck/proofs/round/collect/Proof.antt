@@ -1,17 +1,18 @@
 -- `regionck::round::collect` meets its contract. The loop's invariant: the list has the constraints of the points from `from` on, up to p. Assumes nothing.
-use Prim.Native.Nat.{_-_, _≤_, _<_}
+use Prim.Native.Nat.{_-_, _≤_}
 use mathlib.Core.Path.{_≡_}
 use native.Mathlib.Omega.{arith}
 use lib.ListN.{length}
+use Rattle.constraint_list.specs.Listed.{roomIn}
 use Rattle.regionck.specs.Rounds.{Holding}
-use Rattle.regionck.proofs.RoundLaws.{held-none, held-more}
+use Rattle.regionck.proofs.RoundLaws.{held-none, held-more, some-point}
 use borrow.Author.Needs.{needs}
 use Rattle.regionck.proofs.round.collect.Statement.{statement}
 use Rattle.regionck.proofs.round.collect.Tie as tie
 
 abbrev Inv-loop : tie.InvT-loop
 Inv-loop s layout head walked code from list₀ p₀ list p =
-    (from < p) × (p ≤ code) × (length list ≡ length list₀) × Holding s layout head walked code list (record { from = from; to = p })
+    (from ≤ p) × (p ≤ code) × (length list ≡ length list₀) × (p ≡ from → 528 ≤ roomIn list) × Holding s layout head walked code list from p
 
 abbrev μ-loop : tie.MeasureT-loop
 μ-loop s layout head walked code from list₀ p₀ list p = code - p
@@ -19,14 +20,9 @@ abbrev μ-loop : tie.MeasureT-loop
 clear-requires : tie.Need-clear-requires Inv-loop μ-loop
 clear-requires c κs = search needs
 
-point-requires : tie.Need-point-requires Inv-loop μ-loop
-point-requires c κs = search needs
-
-add-p : tie.Need-add-p Inv-loop μ-loop
-add-p c = search needs
-
 loop-holds : tie.Need-loop-holds Inv-loop μ-loop
-loop-holds c = (omega arith, omega arith, search needs, held-more (c .before .before .point .ensures) (held-none (c .before .before .before .before .before .before .clear .ensures .1) (omega arith)) (omega arith) (omega arith))
+loop-holds c = let (used, sound) = c .before .before .clear .ensures .1 (omega arith) in
+    (omega arith, omega arith, search needs, λ e. omega (arith, used), held-none used sound (omega arith))
 
 room-requires : tie.Need-room-requires Inv-loop μ-loop
 room-requires c κs = search needs
@@ -35,25 +31,25 @@ same-length : tie.Need-same-length Inv-loop μ-loop
 same-length c = search needs
 
 returns : tie.Need-returns Inv-loop μ-loop
-returns c = record { later = c .before .before .before .before .loop .inv .0; holding = c .before .before .before .before .loop .inv .3 }
+returns c = record { later = λ l. some-point (c .before .before .before .before .loop .inv .0) (c .before .before .before .before .loop .inv .3) (omega arith); holding = c .before .before .before .before .loop .inv .4 }
 
-point-requires-2 : tie.Need-point-requires-2 Inv-loop μ-loop
-point-requires-2 c κs = search needs
+point-requires : tie.Need-point-requires Inv-loop μ-loop
+point-requires c κs = search needs
 
-add-p-2 : tie.Need-add-p-2 Inv-loop μ-loop
-add-p-2 c = search needs
+add-p : tie.Need-add-p Inv-loop μ-loop
+add-p c = search needs
 
 loop-less : tie.Need-loop-less Inv-loop μ-loop
 loop-less c = search needs
 
 loop-again : tie.Need-loop-again Inv-loop μ-loop
-loop-again c = (omega arith, omega arith, search needs, held-more (c .before .before .point2 .ensures) (c .before .before .before .before .before .before .before .before .loop .inv .3) (omega arith) (omega arith))
+loop-again c = (omega arith, omega arith, search needs, λ e. absurd (omega arith), held-more (c .before .before .point .ensures) (c .before .before .before .before .before .before .before .before .loop .inv .4) (omega arith) (omega arith))
 
 same-length-2 : tie.Need-same-length-2 Inv-loop μ-loop
 same-length-2 c = search needs
 
 returns-2 : tie.Need-returns-2 Inv-loop μ-loop
-returns-2 c = record { later = c .before .loop .inv .0; holding = c .before .loop .inv .3 }
+returns-2 c = record { later = λ l. omega arith; holding = c .before .loop .inv .4 }
 
 pub collect-spec : {M : Type 1} → statement M
 collect-spec =
@@ -62,14 +58,12 @@ collect-spec =
     Inv-loop
     μ-loop
     clear-requires
-    point-requires
-    add-p
     loop-holds
     room-requires
     same-length
     returns
-    point-requires-2
-    add-p-2
+    point-requires
+    add-p
     loop-less
     loop-again
     same-length-2
