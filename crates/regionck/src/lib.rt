@@ -182,7 +182,7 @@ pub fn regionck(
             grown,
         );
     } else {
-        let mut list = [0; 45058];
+        let mut list = [0; 65536];
         solve(
             s,
             layout,

@@ -66,8 +66,8 @@ fn clocks(clocks: &[Clock]) -> Vec<Vec<u8>> {
 /// The records that are the most work for the proved call, of those that were found.
 pub fn slowest() -> Vec<(String, Vec<u8>)> {
     let mut found = vec![];
-    let apart = |assignments| Clock { apart: true, ..Clock::of(assignments) };
-    for clock in [Clock::of(20), apart(20), Clock::of(100), apart(100), apart(450)] {
+    let apart = |assignments, steps| Clock { apart: true, steps, ..Clock::of(assignments) };
+    for clock in [apart(20, 1), apart(100, 1), apart(450, 1), apart(450, 6), apart(600, 6), apart(740, 6)] {
         found.push((format!("{clock:?}"), worst::clock(&clock)));
     }
     found.extend([2, 8, 32].map(|nodes| (format!("dense {nodes}"), dense(&mut Rng::new(1), nodes))));

@@ -51,11 +51,20 @@ fn three_and(names: [RegionName; 3], ty: Ty) -> Ty {
     Ty::Struct(1, args)
 }
 
-/// A type of 32 nodes with as many regions as these can have, 97.
-fn large_type(name: impl Fn(usize) -> RegionName) -> Ty {
+/// A type of so many nodes with as many regions as these can have: 97 for 32 nodes.
+fn large_type(nodes: usize, name: impl Fn(usize) -> RegionName) -> Ty {
     let leaf = Ty::Struct(0, (0..4).map(|i| Arg::Region(Region::Free(name(i)))).collect());
     let around = |ty, node| three_and([1, 2, 3].map(|i| name(3 * node + i)), ty);
-    (1..MAX_NODES).fold(leaf, around)
+    (1..nodes).fold(leaf, around)
+}
+
+/// Structs with one parameter, a type, that is the argument of the next one in their only field; the last one's field is of that type.
+fn in_turn(first: StructName, count: usize) -> impl Iterator<Item = StructDecl> {
+    let argument = || Ty::Bound(0);
+    (1..=count).map(move |index| {
+        let ty = if index < count { Ty::Struct(first + index, vec![Arg::Ty(argument())]) } else { argument() };
+        StructDecl { params: vec![invariant(Kind::Type)], fields: vec![Field { number: 1, ty }] }
+    })
 }
 
 /// A type with the regions of a range.
@@ -72,12 +81,15 @@ fn holding(names: std::ops::Range<RegionName>) -> Ty {
 /// far gets the region that outlives it.
 #[derive(Clone, Copy, Debug)]
 pub struct Clock {
-    /// Each relates 97 pairs of regions, both ways.
+    /// Each relates 97 pairs of regions, both ways, or 94 where the paths have more than one step.
     pub assignments: usize,
     /// The points after the assignments, two a round.
     pub ticks: usize,
     /// Whether the regions are not quite equal: at the end, where no walk comes, all regions hold a point and only some the next.
     pub apart: bool,
+    /// The steps of the assigned paths. The first of two or more goes to a type that is the argument of a struct, and each further one to a
+    /// type made by substitution.
+    pub steps: usize,
 }
 
 /// How many groups of regions there are where a clock's are apart, and the regions of each.
@@ -87,24 +99,26 @@ const GROUP: usize = REGIONS / GROUPS;
 impl Clock {
     /// So many assignments, and as many points after them as there is room for.
     pub fn of(assignments: usize) -> Clock {
-        Clock { assignments, ticks: MAX_POINTS - 4 * GROUPS - 20 - assignments, apart: false }
+        Clock { assignments, ticks: MAX_POINTS - 4 * GROUPS - 20 - assignments, apart: false, steps: 1 }
     }
 }
 
-/// The variables of a clock: one whose fields have the related types, two that give the points after the assignments, one that uses
-/// both, and one for each group of regions.
-const RELATED: Variable = 0;
-const LOWER: Variable = 1;
-const UPPER: Variable = 2;
-const BOTH: Variable = 3;
-const IN_GROUP: Variable = 4;
+/// The variables of a clock: two that have the related types, two that give the points after the assignments, one that uses both, and
+/// one for each group of regions.
+const RELATED: [Variable; 2] = [0, 1];
+const LOWER: Variable = 2;
+const UPPER: Variable = 3;
+const BOTH: Variable = 4;
+const IN_GROUP: Variable = 5;
 
 pub fn clock(clock: &Clock) -> Vec<u8> {
     let both = || vec![Path::variable(LOWER), Path::variable(UPPER)];
     let init = |variable, sources| Action::Init(Path::variable(variable), sources);
     let half = REGIONS / 2;
     let mut actions = vec![Action::Constraint { sup: half, sub: 0 }, Action::Constraint { sup: 0, sub: half }];
-    actions.extend(vec![Action::Assign(path(RELATED, vec![1]), path(RELATED, vec![2])); clock.assignments]);
+    let (structs, related) = related(clock.steps, half);
+    let [to, from] = related.each_ref().map(|(_, path)| path.clone());
+    actions.extend(vec![Action::Assign(to, from); clock.assignments]);
     actions.push(init(BOTH, both()));
     actions.extend((1..clock.ticks).map(|tick| match tick % 2 {
         1 => init(UPPER, vec![Path::variable(LOWER)]),
@@ -114,14 +128,27 @@ pub fn clock(clock: &Clock) -> Vec<u8> {
         let apart = |v| [init(LOWER, vec![]), init(UPPER, vec![]), init(v, both()), Action::Use(Path::variable(v))];
         actions.extend((IN_GROUP..IN_GROUP + GROUPS).flat_map(apart));
     }
-    // of 97 regions 48 are lower ones
-    let ty = |shift: usize| large_type(|i| (i + shift) % 48 + if i < 48 { 0 } else { half });
-    let fields = [ty(0), ty(7)].into_iter().zip(1..).map(|(ty, number)| Field { number, ty });
-    let mut structs = regions_and_a_type();
-    structs.push(StructDecl { params: vec![], fields: fields.collect() });
-    let mut variables = vec![Ty::Struct(2, vec![]), holding(0..half), holding(half..REGIONS), Ty::Unit];
+    let mut variables: Vec<Ty> = related.into_iter().map(|(ty, _)| ty).collect();
+    variables.extend([holding(0..half), holding(half..REGIONS), Ty::Unit]);
     variables.extend((0..GROUPS).map(|group| holding(GROUP * group..GROUP * (group + 1))));
     record(&Job { structs, regions: REGIONS, outlives: vec![], variables, blocks: in_a_row(&actions) })
+}
+
+/// The structs of a clock, and for each of the two related types a variable's type and the path to it.
+fn related(steps: usize, half: usize) -> (Vec<StructDecl>, [(Ty, Path); 2]) {
+    // of 97 regions 48 are lower ones
+    let ty = |nodes, shift: usize| large_type(nodes, move |i| (i + shift) % 48 + if i < 48 { 0 } else { half });
+    let mut structs = regions_and_a_type();
+    let around = structs.len();
+    if steps == 1 {
+        let fields = [ty(MAX_NODES, 0), ty(MAX_NODES, 7)].into_iter().zip(1..).map(|(ty, number)| Field { number, ty });
+        structs.push(StructDecl { params: vec![], fields: fields.collect() });
+        let whole = || Ty::Struct(around, vec![]);
+        return (structs, [(whole(), path(RELATED[0], vec![1])), (whole(), path(RELATED[1], vec![2]))]);
+    }
+    structs.extend(in_turn(around, steps));
+    let variable = |index: usize| Ty::Struct(around, vec![Arg::Ty(ty(MAX_NODES - 1, 7 * index))]);
+    (structs, [0, 1].map(|index| (variable(index), path(RELATED[index], vec![1; steps]))))
 }
 
 // ---- Many loans, much that is live, sets that go far
@@ -182,7 +209,7 @@ pub fn far() -> Vec<u8> {
 
 /// As many variables of large types as fit, all live at all points.
 pub fn live() -> Vec<u8> {
-    let variables: Vec<Ty> = (0..26).map(|v| large_type(move |i| (i + v) % REGIONS)).collect();
+    let variables: Vec<Ty> = (0..26).map(|v| large_type(MAX_NODES, move |i| (i + v) % REGIONS)).collect();
     let mut actions = vec![Action::Noop; MAX_POINTS - 16 - variables.len()];
     actions.extend((0..variables.len()).map(|v| Action::Use(Path::variable(v))));
     let structs = regions_and_a_type();
@@ -274,8 +301,9 @@ mod tests {
 
     #[test]
     fn all_are_accepted() {
-        let clocks = [1, 2, 100, 450].map(|assignments| clock(&Clock { apart: assignments > 1, ..Clock::of(assignments) }));
-        let mut records: Vec<Vec<u8>> = clocks.to_vec();
+        let of = |assignments, steps| clock(&Clock { apart: assignments > 1, steps, ..Clock::of(assignments) });
+        let clocks = [1, 2, 100, 450, 600].map(|assignments| [1, 2, 6].map(|steps| of(assignments, steps)));
+        let mut records: Vec<Vec<u8>> = clocks.concat();
         records.extend((0..7).map(loans));
         records.extend(deep());
         records.extend([far(), live()]);

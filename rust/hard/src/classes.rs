@@ -47,8 +47,8 @@ fn drawn(name: &'static str, count: u64, seed: u64, record: impl Fn(u64) -> Vec<
 
 /// Records that take long, short enough for the model.
 fn much_work() -> Vec<Vec<u8>> {
-    let clock = |assignments, ticks, apart| worst::clock(&Clock { assignments, ticks, apart });
-    let mut found = vec![clock(1, 120, false), clock(2, 60, true), clock(3, 30, true)];
+    let clock = |assignments, ticks, apart, steps| worst::clock(&Clock { assignments, ticks, apart, steps });
+    let mut found = vec![clock(1, 120, false, 1), clock(2, 60, true, 1), clock(3, 30, true, 1), clock(2, 30, true, 6), clock(60, 20, false, 2)];
     found.extend((0..7).map(worst::loans));
     found.extend([worst::far(), worst::live()]);
     found.extend((2..5).map(|nodes| dense(&mut Rng::new(1), nodes)));
