@@ -50,11 +50,6 @@ seeds-by {width = width} for-used for-dropped u d rows seeded = record {
       (rows j (a .layout) (omega (arith, e)) w x y (m .edges) (m .walks)) e;
 }
 
--- ---- Rows for a shape
-
-pub rows-fit : {a b : Shape} {n : ℕ} → a ≡ b → (b .width ≤ 32 → 64 * b .width ≤ n) → a .width ≤ 32 → 64 * a .width ≤ n
-rows-fit {n = n} e f = subst (λ (z : Shape). z .width ≤ 32 → 64 * z .width ≤ n) (sym e) f
-
 -- ---- The answer
 
 pub length-marks : (j : Job) → length (map bit (answer everyEnd j .grown)) ≡ length (j .outlives)

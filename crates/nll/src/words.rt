@@ -8,10 +8,10 @@ use seeds::seeds;
 ghost use mathlib.Core.Path.{_≡_};
 ghost use Prim.Native.Nat.{_*_, _≤_};
 ghost use lib.ListN.{length};
-ghost use Rattle.nll.specs.Steps.{shapeOf, Seeds, Solves};
+ghost use Rattle.nll.specs.Steps.{Seeds, Solves};
 
 // Fills the words with the regions' seeds. `used` and `dropped` are for the variables' rows of points.
-fn seed(
+fn by_rows(
     s: &[u8],
     layout: &[u16; 1280],
     head: Head,
@@ -30,51 +30,54 @@ fn seed(
     seeds(s, layout, head, walked, used, dropped, width, words);
 }
 
-// Fills the words with the regions' least sets, and marks those that are grown. `used` and `dropped` are for the variables' rows of points.
-fn by_rows(
+// The same with rows of a size for sets of so many words.
+fn seed(
     s: &[u8],
     layout: &[u16; 1280],
     head: Head,
     first: &[u16; 1025],
     succ: &[u16; 1536],
     walked: &[u32; 32],
-    used: &mut [u32],
-    dropped: &mut [u32],
+    width: usize,
     words: &mut [u32],
-    grown: &mut [u8; 128],
 )
-    requires { ⌜ (length (now layout) ≡ 1280) × (length (now walked) ≡ 32) × (length (now grown) ≡ 128)
-        × (shapeOf head .width ≤ 32 → 64 * shapeOf head .width ≤ length (now used)) × (shapeOf head .width ≤ 32 → 64 * shapeOf head .width ≤ length (now dropped)) ⌝ }
-    ensures { λ _. ⌜ Solves (now (s .entry)) (now (layout .entry)) head (now (first .entry)) (now (succ .entry)) (now (walked .entry)) (now (words .entry)) (now (words .exit)) (now (grown .exit)) ⌝ }
+    requires { ⌜ (length (now layout) ≡ 1280) × (length (now walked) ≡ 32) ⌝ }
+    ensures { λ _. ⌜ Seeds (now (s .entry)) (now (layout .entry)) head (now (first .entry)) (now (succ .entry)) (now (walked .entry)) width (now (words .entry)) (now (words .exit)) ⌝ }
 {
-    let shape = shape_of(head);
-    seed(
-        s,
-        layout,
-        head,
-        first,
-        succ,
-        walked,
-        shape.width,
-        used,
-        dropped,
-        words,
-    );
-    regionck(
-        s,
-        layout,
-        head,
-        first,
-        succ,
-        walked,
-        shape,
-        EndRule::EveryEnd,
-        words,
-        grown,
-    );
+    if width <= 4 {
+        let mut used = [0; 256];
+        let mut dropped = [0; 256];
+        by_rows(
+            s,
+            layout,
+            head,
+            first,
+            succ,
+            walked,
+            width,
+            &mut used,
+            &mut dropped,
+            words,
+        );
+    } else {
+        let mut used = [0; 2048];
+        let mut dropped = [0; 2048];
+        by_rows(
+            s,
+            layout,
+            head,
+            first,
+            succ,
+            walked,
+            width,
+            &mut used,
+            &mut dropped,
+            words,
+        );
+    }
 }
 
-// The same with rows of a size for the job's points.
+// Fills the words with the regions' least sets, and marks those that are grown.
 pub fn solve(
     s: &[u8],
     layout: &[u16; 1280],
@@ -89,35 +92,17 @@ pub fn solve(
     ensures { λ _. ⌜ Solves (now (s .entry)) (now (layout .entry)) head (now (first .entry)) (now (succ .entry)) (now (walked .entry)) (now (words .entry)) (now (words .exit)) (now (grown .exit)) ⌝ }
 {
     let shape = shape_of(head);
-    if shape.width <= 4 {
-        let mut used = [0; 256];
-        let mut dropped = [0; 256];
-        by_rows(
-            s,
-            layout,
-            head,
-            first,
-            succ,
-            walked,
-            &mut used,
-            &mut dropped,
-            words,
-            grown,
-        );
-    } else {
-        let mut used = [0; 2048];
-        let mut dropped = [0; 2048];
-        by_rows(
-            s,
-            layout,
-            head,
-            first,
-            succ,
-            walked,
-            &mut used,
-            &mut dropped,
-            words,
-            grown,
-        );
-    }
+    seed(s, layout, head, first, succ, walked, shape.width, words);
+    regionck(
+        s,
+        layout,
+        head,
+        first,
+        succ,
+        walked,
+        shape,
+        EndRule::EveryEnd,
+        words,
+        grown,
+    );
 }

@@ -14,7 +14,7 @@ ghost use lib.Dec.{eqb};
 ghost use Rattle.nll_spec.specs.Syntax.{Job};
 ghost use Rattle.infer.specs.Search.{ruleOf};
 ghost use Rattle.dfs.specs.Walk.{Chained};
-ghost use Rattle.regionck.specs.Rounds.{Cleared, Noted, Seeded, Solved};
+ghost use Rattle.regionck.specs.Rounds.{Holding, Cleared, Noted, Seeded, Solved};
 
 // Each round but the last puts a point into a region's set, and 128 sets of 1024 points hold no more.
 const ROUNDS: u32 = 131073;
@@ -49,7 +49,8 @@ fn note(grew: &[u8; 128], grown: &mut [u8; 128])
     }
 }
 
-// Runs rounds until no set grows. `grown` marks, by 1, the regions whose sets grew. The constraints for which the list has room are derived once.
+// Runs rounds until no set grows. `grown` marks, by 1, the regions whose sets grew. The list has the constraints of the points before `to`, and those of the
+// others are derived anew in each round.
 fn solve(
     s: &[u8],
     layout: &[u16; 1280],
@@ -62,14 +63,14 @@ fn solve(
     rule: EndRule,
     words: &mut [u32],
     grown: &mut [u8; 128],
-    list: &mut [u16],
+    list: &[u16],
+    to: usize,
 )
-    requires { ⌜ (length (now layout) ≡ 1280) × (length (now grown) ≡ 128) × (530 ≤ length (now list)) ⌝ }
+    requires { ⌜ (length (now layout) ≡ 1280) × (length (now grown) ≡ 128) × Holding (now s) (now layout) head (now walked) (shape .code) (now list) 0 to ⌝ }
     ensures { λ _. ⌜ (length (now (grown .exit)) ≡ 128) × ((j : Job) → Seeded (now (s .entry)) (now (layout .entry)) head (now (first .entry)) (now (succ .entry)) (now (walked .entry)) shape (now (words .entry)) j
         → Chained (now (chain .entry)) (now (first .entry)) (now (succ .entry)) → Solved (ruleOf rule) j (now (words .entry)) (now (words .exit)) (now (grown .exit))) ⌝ }
 {
     clear(grown);
-    let to = collect(s, layout, head, walked, shape.code, 0, list);
     let mut last = [1; 128];
     let mut left = ROUNDS;
     while left != 0 {
@@ -96,14 +97,13 @@ fn solve(
     }
 }
 
-// The same for at most 256 points, with a list of a size for so many.
-fn solve_small(
+// The same with a long list.
+fn solve_large(
     s: &[u8],
     layout: &[u16; 1280],
     head: Head,
     first: &[u16; 1025],
     succ: &[u16; 1536],
-    chain: &[u32; 32],
     walked: &[u32; 32],
     shape: Shape,
     rule: EndRule,
@@ -112,17 +112,105 @@ fn solve_small(
 )
     requires { ⌜ (length (now layout) ≡ 1280) × (length (now grown) ≡ 128) ⌝ }
     ensures { λ _. ⌜ (length (now (grown .exit)) ≡ 128) × ((j : Job) → Seeded (now (s .entry)) (now (layout .entry)) head (now (first .entry)) (now (succ .entry)) (now (walked .entry)) shape (now (words .entry)) j
-        → Chained (now (chain .entry)) (now (first .entry)) (now (succ .entry)) → Solved (ruleOf rule) j (now (words .entry)) (now (words .exit)) (now (grown .exit))) ⌝ }
+        → Solved (ruleOf rule) j (now (words .entry)) (now (words .exit)) (now (grown .exit))) ⌝ }
 {
-    if shape.code <= 64 {
-        let mut list = [0; 1026];
+    let chain = dfs::chains(first, succ, shape.code);
+    let mut list = [0; 65536];
+    let to = collect(s, layout, head, walked, shape.code, 0, &mut list);
+    solve(
+        s,
+        layout,
+        head,
+        first,
+        succ,
+        &chain,
+        walked,
+        shape,
+        rule,
+        words,
+        grown,
+        &list,
+        to,
+    );
+}
+
+// The same with a list that is lent, if it has room for all constraints.
+fn solve_by(
+    s: &[u8],
+    layout: &[u16; 1280],
+    head: Head,
+    first: &[u16; 1025],
+    succ: &[u16; 1536],
+    walked: &[u32; 32],
+    shape: Shape,
+    rule: EndRule,
+    words: &mut [u32],
+    grown: &mut [u8; 128],
+    list: &mut [u16],
+)
+    requires { ⌜ (length (now layout) ≡ 1280) × (length (now grown) ≡ 128) × (530 ≤ length (now list)) ⌝ }
+    ensures { λ _. ⌜ (length (now (grown .exit)) ≡ 128) × ((j : Job) → Seeded (now (s .entry)) (now (layout .entry)) head (now (first .entry)) (now (succ .entry)) (now (walked .entry)) shape (now (words .entry)) j
+        → Solved (ruleOf rule) j (now (words .entry)) (now (words .exit)) (now (grown .exit))) ⌝ }
+{
+    let to = collect(s, layout, head, walked, shape.code, 0, list);
+    if to < shape.code {
+        solve_large(
+            s,
+            layout,
+            head,
+            first,
+            succ,
+            walked,
+            shape,
+            rule,
+            words,
+            grown,
+        );
+    } else {
+        let chain = dfs::chains(first, succ, shape.code);
         solve(
             s,
             layout,
             head,
             first,
             succ,
-            chain,
+            &chain,
+            walked,
+            shape,
+            rule,
+            words,
+            grown,
+            list,
+            to,
+        );
+    }
+}
+
+// The same for at most 256 points, with a list of a size for so many.
+fn solve_small(
+    s: &[u8],
+    layout: &[u16; 1280],
+    head: Head,
+    first: &[u16; 1025],
+    succ: &[u16; 1536],
+    walked: &[u32; 32],
+    shape: Shape,
+    rule: EndRule,
+    words: &mut [u32],
+    grown: &mut [u8; 128],
+)
+    requires { ⌜ (length (now layout) ≡ 1280) × (length (now grown) ≡ 128) ⌝ }
+    ensures { λ _. ⌜ (length (now (grown .exit)) ≡ 128) × ((j : Job) → Seeded (now (s .entry)) (now (layout .entry)) head (now (first .entry)) (now (succ .entry)) (now (walked .entry)) shape (now (words .entry)) j
+        → Solved (ruleOf rule) j (now (words .entry)) (now (words .exit)) (now (grown .exit))) ⌝ }
+{
+    if shape.code <= 64 {
+        let mut list = [0; 1026];
+        solve_by(
+            s,
+            layout,
+            head,
+            first,
+            succ,
             walked,
             shape,
             rule,
@@ -132,13 +220,12 @@ fn solve_small(
         );
     } else {
         let mut list = [0; 4098];
-        solve(
+        solve_by(
             s,
             layout,
             head,
             first,
             succ,
-            chain,
             walked,
             shape,
             rule,
@@ -166,7 +253,6 @@ pub fn regionck(
     ensures { λ _. ⌜ (length (now (grown .exit)) ≡ 128) × ((j : Job) → Seeded (now (s .entry)) (now (layout .entry)) head (now (first .entry)) (now (succ .entry)) (now (walked .entry)) shape (now (words .entry)) j
         → Solved (ruleOf rule) j (now (words .entry)) (now (words .exit)) (now (grown .exit))) ⌝ }
 {
-    let chain = dfs::chains(first, succ, shape.code);
     if shape.code <= 256 {
         solve_small(
             s,
@@ -174,7 +260,6 @@ pub fn regionck(
             head,
             first,
             succ,
-            &chain,
             walked,
             shape,
             rule,
@@ -182,20 +267,17 @@ pub fn regionck(
             grown,
         );
     } else {
-        let mut list = [0; 65536];
-        solve(
+        solve_large(
             s,
             layout,
             head,
             first,
             succ,
-            &chain,
             walked,
             shape,
             rule,
             words,
             grown,
-            &mut list,
         );
     }
 }

@@ -19,15 +19,12 @@ abbrev μ-loop : tie.MeasureT-loop
 clear-requires : tie.Need-clear-requires Inv-loop μ-loop
 clear-requires c κs = search needs
 
-collect-requires : tie.Need-collect-requires Inv-loop μ-loop
-collect-requires c κs = search needs
-
 loop-holds : tie.Need-loop-holds Inv-loop μ-loop
-loop-holds c = let a = c .before .before .before .before .before .before .before .before .before .args in
-    (search needs, c .before .before .before .before .clear .ensures .sized, going-start (a .s .now) (a .layout .now) (a .head) (a .first .now) (a .succ .now) (a .chain .now) (a .walked .now) (a .shape) (a .rule) (a .words .now) (c .before .before .before .before .clear .ensures))
+loop-holds c = let a = c .before .before .before .before .before .args in
+    (search needs, c .clear .ensures .sized, going-start (a .s .now) (a .layout .now) (a .head) (a .first .now) (a .succ .now) (a .chain .now) (a .walked .now) (a .shape) (a .rule) (a .words .now) (c .clear .ensures))
 
 round-requires : tie.Need-round-requires Inv-loop μ-loop
-round-requires c κs = (c .before .before .before .before .before .before .before .before .before .before .before .before .before .before .pre .0, c .before .before .before .before .before .before .before .collect .ensures .holding)
+round-requires c κs = (c .before .before .before .before .before .before .before .before .before .pre .0, c .before .before .before .before .before .before .before .before .before .pre .2)
 
 any-marked-requires : tie.Need-any-marked-requires Inv-loop μ-loop
 any-marked-requires c κs = search needs
@@ -35,12 +32,9 @@ any-marked-requires c κs = search needs
 same-length : tie.Need-same-length Inv-loop μ-loop
 same-length c = search needs
 
-same-length-2 : tie.Need-same-length-2 Inv-loop μ-loop
-same-length-2 c = search needs
-
 returns : tie.Need-returns Inv-loop μ-loop
-returns c = let a = c .before .before .before .before .before .before .before .before .before .before .before .before .before .before .before .before .before .before .before .before .args in
-    let l = c .before .before .before .before .before .before .before .before .before .before .loop in
+returns c = let a = c .before .before .before .before .before .before .before .before .before .before .before .before .before .before .before .args in
+    let l = c .before .before .before .before .before .before .before .before .before .loop in
     (l .inv .1, going-done (a .s .now) (a .layout .now) (a .head) (a .first .now) (a .succ .now) (a .chain .now) (a .walked .now) (a .shape) (a .rule) (a .words .now) (l .inv .2) (c .before .before .before .before .before .round .ensures) (sym (c .before .any-marked .ensures) ∙ not-true _ (c .if1 .taken)))
 
 note-requires : tie.Need-note-requires Inv-loop μ-loop
@@ -53,18 +47,15 @@ loop-less : tie.Need-loop-less Inv-loop μ-loop
 loop-less c = search needs
 
 loop-again : tie.Need-loop-again Inv-loop μ-loop
-loop-again c = let a = c .before .before .before .before .before .before .before .before .before .before .before .before .before .before .before .before .before .before .before .before .before .before .before .args in
-    let l = c .before .before .before .before .before .before .before .before .before .before .before .before .before .loop in
+loop-again c = let a = c .before .before .before .before .before .before .before .before .before .before .before .before .before .before .before .before .before .before .args in
+    let l = c .before .before .before .before .before .before .before .before .before .before .before .before .loop in
     (search needs, c .note .ensures .sized, going-more (a .s .now) (a .layout .now) (a .head) (a .first .now) (a .succ .now) (a .chain .now) (a .walked .now) (a .shape) (a .rule) (a .words .now) (l .inv .2) (c .before .before .before .before .before .before .before .before .round .ensures) (sym (c .before .before .before .before .any-marked .ensures) ∙ not-false _ (c .before .before .before .if1 .left)) (c .note .ensures))
 
-same-length-3 : tie.Need-same-length-3 Inv-loop μ-loop
-same-length-3 c = search needs
-
-same-length-4 : tie.Need-same-length-4 Inv-loop μ-loop
-same-length-4 c = search needs
+same-length-2 : tie.Need-same-length-2 Inv-loop μ-loop
+same-length-2 c = search needs
 
 returns-2 : tie.Need-returns-2 Inv-loop μ-loop
-returns-2 c = let a = c .before .before .before .before .before .before .before .before .before .before .before .args in
+returns-2 c = let a = c .before .before .before .before .before .before .before .args in
     let l = c .before .loop in
     (l .inv .1, going-out (a .s .now) (a .layout .now) (a .head) (a .first .now) (a .succ .now) (a .chain .now) (a .walked .now) (a .shape) (a .rule) (a .words .now) (omega arith) (l .inv .2))
 
@@ -75,17 +66,14 @@ solve-spec =
     Inv-loop
     μ-loop
     clear-requires
-    collect-requires
     loop-holds
     round-requires
     any-marked-requires
     same-length
-    same-length-2
     returns
     note-requires
     sub-left
     loop-less
     loop-again
-    same-length-3
-    same-length-4
+    same-length-2
     returns-2)

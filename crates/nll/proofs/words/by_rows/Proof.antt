@@ -1,17 +1,14 @@
 -- `nll::words::by_rows`. Assumes nothing.
-use Rattle.nll.proofs.WordLaws.{rows-fit, solves}
+use Rattle.nll.proofs.WordLaws.{seeds-by}
 use borrow.Author.Needs.{needs}
 use Rattle.nll.proofs.words.by_rows.Statement.{statement}
 use Rattle.nll.proofs.words.by_rows.Tie as tie
 
-shape-of-requires : tie.Need-shape-of-requires
-shape-of-requires c κs = search needs
+liveness-requires : tie.Need-liveness-requires
+liveness-requires c κs = search needs
 
-seed-requires : tie.Need-seed-requires
-seed-requires c κs = let r = c .before .before .before .before .before .before .before .before .pre in let e = c .before .before .before .shape-of .ensures .0 in (r .0, r .1, rows-fit e (r .3), rows-fit e (r .4))
-
-regionck-requires : tie.Need-regionck-requires
-regionck-requires c κs = search needs
+seeds-requires : tie.Need-seeds-requires
+seeds-requires c κs = search needs
 
 same-length : tie.Need-same-length
 same-length c = search needs
@@ -23,16 +20,9 @@ same-length-3 : tie.Need-same-length-3
 same-length-3 c = search needs
 
 returns : tie.Need-returns
-returns c = solves (c .before .before .before .before .before .before .before .before .before .before .before .before .before .before .before .shape-of .ensures .0) (λ k. c .before .before .before .before .before .slice-known6 .given k .fits) (c .before .before .before .before .before .before .before .before .before .before .before .seed .ensures) (c .before .before .regionck .ensures .0) (c .before .before .regionck .ensures .1)
+returns c = let r = c .before .before .before .before .before .before .before .before .before .before .before .before .before .before .before .before .before .pre in seeds-by (r .2) (r .3) (search needs) (search needs) (c .before .before .before .before .before .before .before .before .before .before .liveness .ensures) (c .before .before .seeds .ensures)
 
 pub by-rows-spec : {M : Type 1} → statement M
 by-rows-spec =
     tie.close
-    (tie.spec
-    shape-of-requires
-    seed-requires
-    regionck-requires
-    same-length
-    same-length-2
-    same-length-3
-    returns)
+    (tie.spec liveness-requires seeds-requires same-length same-length-2 same-length-3 returns)
