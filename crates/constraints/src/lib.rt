@@ -16,7 +16,7 @@ use repr::RegionName;
 use repr::Variance;
 ghost use mathlib.Core.Path.{_≡_};
 ghost use mathlib.Core.List.{List};
-ghost use Prim.Native.Nat.{ℕ, _+_, _≤_};
+ghost use Prim.Native.Nat.{ℕ, _≤_};
 ghost use lib.ListN.{length};
 ghost use Rattle.repr.specs.declared.Path.{Path};
 ghost use Rattle.env.specs.Paths.{PathSays};

@@ -20,7 +20,6 @@ use Rattle.repr.specs.Types.{node, NodeSays, nodesSays}
 use Rattle.repr.specs.Types as reprTypes
 use Rattle.repr.specs.declared.Cursor.{Cursor}
 use Rattle.repr.specs.declared.BorrowKind.{BorrowKind}
-use Rattle.repr.specs.declared.Variance.{Variance}
 use Rattle.repr.specs.declared.Region.{Region}
 use Rattle.repr.specs.declared.Region.the-variants as regions
 use Rattle.repr.specs.declared.RegionName.{RegionName}

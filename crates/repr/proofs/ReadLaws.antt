@@ -9,7 +9,7 @@ use native.Mathlib.Decide.{decLt}
 use lib.ListN.{length, getD, take, drop, length-drop, drop-of-length-le, List·getD-eq-default}
 use lib.Seq.{drop-cons, drop-drop}
 use borrow.Author.Tests.{le-leb, lt-leb}
-use Rattle.nll_spec.specs.Lists.{below, countFrom}
+use Rattle.nll_spec.specs.Lists.{countFrom}
 use Rattle.nll_spec.specs.Decode.{Reading, refused, read, Reader, done, refuse, _>>=_, byte, count, pick, oneOf, items, region}
 use Rattle.repr.specs.Reading.{choice}
 

@@ -2,7 +2,6 @@
 use Prim.Native.Nat.{_-_, _≤_}
 use mathlib.Core.Path.{_≡_}
 use native.Mathlib.Omega.{arith}
-use lib.ListN.{length}
 use Rattle.constraint_list.specs.Listed.{Adds}
 use Rattle.constraints.specs.Constraining.{sourceConstraints}
 use Rattle.constraints.proofs.ConstrainLaws.{source-none, source-more}
