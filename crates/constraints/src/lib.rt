@@ -66,7 +66,7 @@ struct PathTypes {
     q: PathType,
 }
 
-// A borrow's region, and how many steps its source has, and the source's shortest supporting prefix.
+// A borrow's region, and how many steps its source has and the source's shortest supporting prefix.
 struct Source {
     region: RegionName,
     supporting: usize,
