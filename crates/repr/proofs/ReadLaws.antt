@@ -84,7 +84,7 @@ pub record Chosen (many n : ℕ) (bs rest : List ℕ) : Type 0 where
   pub stands : byte bs ≡ read n rest
   pub below : n < many
 
-clash : {A : Type 0} {a : A} {k : ℕ} {bs : List ℕ} → refused k ≡ read a bs → ⊥
+pub clash : {A : Type 0} {a : A} {k : ℕ} {bs : List ℕ} → refused k ≡ read a bs → ⊥
 clash e = let z : _≡_ {A = ℕ} 0 1 = cc in omega arith
 
 -- the number of a refusal, whatever was to be read
