@@ -1,6 +1,6 @@
 -- What each way through the relation of two types adds. Assumes nothing.
 use mathlib.Core.Path.{_≡_, refl, sym, ap, subst, _∙_}
-use mathlib.Core.Bool.{Bool, true, false, _&&_, true≢false}
+use mathlib.Core.Bool.{true, and-eq-true-iff, true≢false}
 use mathlib.Core.List.{List, [], _∷_, _++_, tail}
 use Prim.Native.Nat.{ℕ, _+_, _-_, _*_, _≤_, _<_}
 use native.Mathlib.Omega.{arith}
@@ -98,14 +98,9 @@ module _ (at : syntax.Point) (ss : List syntax.StructDecl) where
       → relateFirst at ss g w h ++ relateArgs at ss (tailArgs g) v (tail ds) (tailArgs h) ≡ relateArgs at ss g v ds h
   rows-relate g v ds h x w = rw (w, x) (first-and-others g v ds h)
 
-both-true : (x y : Bool) → x && y ≡ true → (x ≡ true) × (y ≡ true)
-both-true true true e = (refl, refl)
-both-true true false e = absurd (true≢false (sym e))
-both-true false y e = absurd (true≢false (sym e))
-
 refs-alike : {t u first second : Ty} {k k′ : syntax.BorrowKind} {r o : syntax.Region} → t ≡ RefTy k r first → u ≡ RefTy k′ o second → sameShape t u ≡ true → sameShape first second ≡ true
 unfolding sameShape
-refs-alike {first = first} {second = second} {k = k} {k′ = k′} {o = o} e f h = both-true (isRefOf k (RefTy k′ o second)) (sameShape first second) (rw (e, f) at h) .1
+refs-alike {first = first} {second = second} {k = k} {k′ = k′} {o = o} e f h = and-eq-true-iff (isRefOf k (RefTy k′ o second)) (sameShape first second) .0 (rw (e, f) at h) .1
 
 regions-alike : {g more : Args} {r : syntax.Region} (h : Args) → g ≡ RegionArg r more → sameShapes g h ≡ true → sameShapes more (tailArgs h) ≡ true
 unfolding sameShapes
@@ -113,7 +108,7 @@ regions-alike h e i = rw e at i
 
 types-alike : {g more : Args} {t u : Ty} (h : Args) → g ≡ TypeArg t more → headType h ≡ u → sameShapes g h ≡ true → (sameShape t u ≡ true) × (sameShapes more (tailArgs h) ≡ true)
 unfolding sameShapes
-types-alike {more = more} {t = t} {u = u} h e f i = both-true (sameShape t u) (sameShapes more (tailArgs h)) (rw (e, f) at i)
+types-alike {more = more} {t = t} {u = u} h e f i = and-eq-true-iff (sameShape t u) (sameShapes more (tailArgs h)) .0 (rw (e, f) at i)
 
 -- ---- Nodes that are left
 
