@@ -7,7 +7,7 @@ use native.Mathlib.Omega.{arith}
 use lib.ListN.{length}
 use lib.Dec.{T, leb→le, ltb→lt}
 use Rattle.nll_spec.specs.Lists.{every}
-use Rattle.nll_spec.specs.Syntax.{Path, Point, RegionName, BorrowKind, Action, Borrow, Assign, Job}
+use Rattle.nll_spec.specs.Syntax.{Point, RegionName, BorrowKind, Action, Borrow, Assign, Job}
 use Rattle.nll_spec.specs.Decode.{maxSteps}
 use Rattle.nll_spec.specs.WellFormed.{named, typesFit, shapesFit, actionNamed, pathNamed, isRegion, pathFits, pathsOf, pathsFit, refusal}
 use Rattle.nll_spec.specs.Graph.{graphOf, statementsOf, actionAt}

@@ -43,7 +43,7 @@ use Rattle.env.proofs.PathLaws.{stepless}
 use Rattle.env.proofs.PrefixLaws.{shortest-of}
 use Rattle.env.proofs.ShortestLaws.{taken-leaves}
 use Rattle.relate.specs.Relates.{Relates, RelatesRef}
-use Rattle.relate.specs.declared.Run.{Run}
+use Rattle.relate.specs.declared.Site.{Site}
 use Rattle.constraint_list.specs.Listed.{Adds}
 use Rattle.constraint_list.proofs.ListLaws.{adds-none, adds-append}
 use Rattle.constraints.specs.Constraining.{after, stepConstraints, sourceConstraints, Takes, SourceIs, SourceSays, PathTypesSay, alongSource, TypesAdd, SecondAdds, PathsAdd, PairAdds, Constrains}
@@ -105,11 +105,11 @@ source-says {kinds = kinds} {of = of} e len short sup count =
 
 -- ---- Two types, where they stand
 
-module _ {s t : List ℕ} {run : Run} {how : Related} {a : List ℕ} {x : ℕ} {b : List ℕ} {y : ℕ} {ls ls′ : List ℕ} where
-  pub types-assigned : how ≡ Assigned → Relates s t run a x b y Co ls ls′ → TypesAdd s t run how a x b y ls ls′
+module _ {s t : List ℕ} {site : Site} {how : Related} {a : List ℕ} {x : ℕ} {b : List ℕ} {y : ℕ} {ls ls′ : List ℕ} where
+  pub types-assigned : how ≡ Assigned → Relates s t site a x b y Co ls ls′ → TypesAdd s t site how a x b y ls ls′
   types-assigned e v = rw e (record { adds = λ j l m n k p q f g z. v .adds j l m n p q f g z })
 
-  pub types-borrowed : {r : RegionName} → how ≡ Borrowed r → RelatesRef (r .0) s t run a x b y Contra ls ls′ → TypesAdd s t run how a x b y ls ls′
+  pub types-borrowed : {r : RegionName} → how ≡ Borrowed r → RelatesRef (r .0) s t site a x b y Contra ls ls′ → TypesAdd s t site how a x b y ls ls′
   types-borrowed e v = rw e (record { adds = λ j l m n k p q f g z. v .adds j l m n k p q f g z })
 
 module _ {s t : List ℕ} {h : Head} {p : Path} {out kinds names : List ℕ} {d : PathType} (v : PathSays s t h p out kinds names d) (j : Job) (l : Layout s t h j) (w : Takes s j p) where
@@ -119,25 +119,25 @@ module _ {s t : List ℕ} {h : Head} {p : Path} {out kinds names : List ℕ} {d 
   refused : d ≡ pathType.Refused → ⊥
   refused e = true≢false (sym (w .fits) ∙ result e)
 
-module _ {s t : List ℕ} {run : Run} {how : Related} {ls : List ℕ} where
-  module _ {a : List ℕ} {x : ℕ} {q : Path} {b kinds names : List ℕ} {d : PathType} (v : PathSays s t (run .head) q b kinds names d) where
-    pub second-refused : d ≡ pathType.Refused → SecondAdds s t run how a x q ls ls
+module _ {s t : List ℕ} {site : Site} {how : Related} {ls : List ℕ} where
+  module _ {a : List ℕ} {x : ℕ} {q : Path} {b kinds names : List ℕ} {d : PathType} (v : PathSays s t (site .head) q b kinds names d) where
+    pub second-refused : d ≡ pathType.Refused → SecondAdds s t site how a x q ls ls
     second-refused e = record { adds = λ j l w m k p f z. absurd (refused v j l w e) }
 
-    pub second-inside : {y : Cursor} {ls′ : List ℕ} → d ≡ pathType.Inside y → TypesAdd s t run how a x s (y .at) ls ls′ → SecondAdds s t run how a x q ls ls′
+    pub second-inside : {y : Cursor} {ls′ : List ℕ} → d ≡ pathType.Inside y → TypesAdd s t site how a x s (y .at) ls ls′ → SecondAdds s t site how a x q ls ls′
     second-inside e u = record { adds = λ j l w m k p f z. let r = result v j l w e in u .adds j l m _ k p (r .stands) f (r .few) z }
 
-    pub second-written : {y : Cursor} {ls′ : List ℕ} → d ≡ pathType.Written y → TypesAdd s t run how a x b (y .at) ls ls′ → SecondAdds s t run how a x q ls ls′
+    pub second-written : {y : Cursor} {ls′ : List ℕ} → d ≡ pathType.Written y → TypesAdd s t site how a x b (y .at) ls ls′ → SecondAdds s t site how a x q ls ls′
     second-written e u = record { adds = λ j l w m k p f z. let r = result v j l w e in u .adds j l m _ k p (r .stands) f (r .few) z }
 
-  module _ {p q : Path} {a kinds names : List ℕ} {d : PathType} (v : PathSays s t (run .head) p a kinds names d) where
-    pub paths-refused : d ≡ pathType.Refused → PathsAdd s t run how p q ls ls
+  module _ {p q : Path} {a kinds names : List ℕ} {d : PathType} (v : PathSays s t (site .head) p a kinds names d) where
+    pub paths-refused : d ≡ pathType.Refused → PathsAdd s t site how p q ls ls
     paths-refused e = record { adds = λ j l w u k z. absurd (refused v j l w e) }
 
-    pub paths-inside : {x : Cursor} {ls′ : List ℕ} → d ≡ pathType.Inside x → SecondAdds s t run how s (x .at) q ls ls′ → PathsAdd s t run how p q ls ls′
+    pub paths-inside : {x : Cursor} {ls′ : List ℕ} → d ≡ pathType.Inside x → SecondAdds s t site how s (x .at) q ls ls′ → PathsAdd s t site how p q ls ls′
     paths-inside e u = record { adds = λ j l w o k z. let r = result v j l w e in u .adds j l o _ k (r .stands) (r .few) z }
 
-    pub paths-written : {x : Cursor} {ls′ : List ℕ} → d ≡ pathType.Written x → SecondAdds s t run how a (x .at) q ls ls′ → PathsAdd s t run how p q ls ls′
+    pub paths-written : {x : Cursor} {ls′ : List ℕ} → d ≡ pathType.Written x → SecondAdds s t site how a (x .at) q ls ls′ → PathsAdd s t site how p q ls ls′
     paths-written e u = record { adds = λ j l w o k z. let r = result v j l w e in u .adds j l o _ k (r .stands) (r .few) z }
 
 -- ---- An assignment and a borrow
@@ -170,26 +170,26 @@ module _ {s t : List ℕ} {h : Head} {q : Path} {b kinds names : List ℕ} {d : 
       ∙ ap (sourceConstraints at kinds names (u .of .supporting) (r .0)) (u .steps)
       ∙ source-same j accepted (pathOf s q) leaves (w .short) o at (r .0)
 
-module _ {s t : List ℕ} {run : Run} (pair : Pair) {ls : List ℕ} where
+module _ {s t : List ℕ} {site : Site} (pair : Pair) {ls : List ℕ} where
   pub pair-stepless : (x y : Cursor) {ls′ : List ℕ} → (pair .p .steps ≡ 0) × (pair .q .steps ≡ 0) → x .at ≡ entryIn t 32 64 (pair .p .base .0) → y .at ≡ entryIn t 32 64 (pair .q .base .0)
-      → TypesAdd s t run (pair .how) s (x .at) s (y .at) ls ls′ → PairAdds s t run pair ls ls′
+      → TypesAdd s t site (pair .how) s (x .at) s (y .at) ls ls′ → PairAdds s t site pair ls ls′
   pair-stepless x y z vp vq u =
       record {
         adds = λ j l accepted wp wq k same.
-            adds-as (sym (then-none _ (no-steps (pair .how) (run .at) j (pathOf s (pair .q)) (rw (z .1)))))
+            adds-as (sym (then-none _ (no-steps (pair .how) (site .at) j (pathOf s (pair .q)) (rw (z .1)))))
             (paths-inside (stepless (pair .p) x (z .0) vp) refl (second-inside (stepless (pair .q) y (z .1) vq) refl u) .adds j l wp wq k same);
       }
 
-  pub pair-runs : {a b kinds names : List ℕ} {d : PathTypes} {ls₁ ls₂ : List ℕ} {of : Source} → PathTypesSay s t (run .head) (pair .p) (pair .q) a b kinds names d
-      → PathsAdd s t run (pair .how) (pair .p) (pair .q) ls ls₁
-      → SourceSays s (pair .q) (pair .how) kinds of → Adds (sourceConstraints (run .at) kinds names (of .supporting) (of .region .0) (of .steps)) ls₁ ls₂
-      → PairAdds s t run pair ls ls₂
-  pair-runs {of = of} v u o src = record { adds = λ j l accepted wp wq k z. adds-append (u .adds j l wp wq k z) (adds-as (along (v .second) (run .at) of j l accepted wq (pair .how) (o .says)) src) }
+  pub pair-adds : {a b kinds names : List ℕ} {d : PathTypes} {ls₁ ls₂ : List ℕ} {of : Source} → PathTypesSay s t (site .head) (pair .p) (pair .q) a b kinds names d
+      → PathsAdd s t site (pair .how) (pair .p) (pair .q) ls ls₁
+      → SourceSays s (pair .q) (pair .how) kinds of → Adds (sourceConstraints (site .at) kinds names (of .supporting) (of .region .0) (of .steps)) ls₁ ls₂
+      → PairAdds s t site pair ls ls₂
+  pair-adds {of = of} v u o src = record { adds = λ j l accepted wp wq k z. adds-append (u .adds j l wp wq k z) (adds-as (along (v .second) (site .at) of j l accepted wq (pair .how) (o .says)) src) }
 
 -- ---- An action
 
-module _ {s t : List ℕ} {run : Run} {ls : List ℕ} where
-  pub point-far : 1024 < run .at → Constrains s t run ls ls
+module _ {s t : List ℕ} {site : Site} {ls : List ℕ} where
+  pub point-far : 1024 < site .at → Constrains s t site ls ls
   point-far f = record { adds = λ j l accepted h. absurd (omega (arith, f, h, code-count j, l .few)) }
 
 -- what is read there, for every job
@@ -219,52 +219,52 @@ none-made s c j p (actions.Use q) o i = carry (λ y z. constraintsAt j p y ≡ [
 none-made s c j p (actions.Drop q) o i = carry (λ y z. constraintsAt j p y ≡ []) i refl
 none-made s c j p (actions.StorageDead v) o i = carry (λ y z. constraintsAt j p y ≡ []) i refl
 
-module _ {s t : List ℕ} {run : Run} {ls : List ℕ} {r : ActionStep} (act : Read s t (run .at) r) where
-  pub action-refused : {k : ℕ} → r ≡ actionStep.Refused k → Constrains s t run ls ls
+module _ {s t : List ℕ} {site : Site} {ls : List ℕ} {r : ActionStep} (act : Read s t (site .at) r) where
+  pub action-refused : {k : ℕ} → r ≡ actionStep.Refused k → Constrains s t site ls ls
   action-refused e = record { adds = λ j l accepted h. absurd (clash (acts act j l h e .reads)) }
 
   module _ {a : Action} {c : Cursor} (e : r ≡ actionStep.Action a c) where
-    pub action-other : OneOf (0 ∷ 1 ∷ 5 ∷ 6 ∷ 7 ∷ []) (tagOf the-type a) → Constrains s t run ls ls
-    action-other o = record { adds = λ j l accepted h. adds-none (none-made s c j (run .at) a o (acts act j l h e .reads)) }
+    pub action-other : OneOf (0 ∷ 1 ∷ 5 ∷ 6 ∷ 7 ∷ []) (tagOf the-type a) → Constrains s t site ls ls
+    action-other o = record { adds = λ j l accepted h. adds-none (none-made s c j (site .at) a o (acts act j l h e .reads)) }
 
     module _ {ls′ : List ℕ} where
-      pub action-borrow : {d q : Path} {o : RegionName} {k : BorrowKind} {next : Run} → a ≡ actions.Borrow d o k q → next ≡ after run
-          → PairAdds s t next (record { how = Borrowed o; p = d; q = q }) ls ls′ → Constrains s t run ls ls′
+      pub action-borrow : {d q : Path} {o : RegionName} {k : BorrowKind} {next : Site} → a ≡ actions.Borrow d o k q → next ≡ after site
+          → PairAdds s t next (record { how = Borrowed o; p = d; q = q }) ls ls′ → Constrains s t site ls ls′
       unfolding constraintsAt shapeFits
       action-borrow {d} {q} {o} {k} {next} i f b =
           record {
             adds = λ j l accepted h.
-                let u : actionAt (graphOf j) (run .at) ≡ syntax.Borrow (pathOf s d) (o .0) (borrowKindOf k) (pathOf s q)
+                let u : actionAt (graphOf j) (site .at) ≡ syntax.Borrow (pathOf s d) (o .0) (borrowKindOf k) (pathOf s q)
                 = carry (λ x y. x ≡ syntax.Borrow (pathOf s d) (o .0) (borrowKindOf k) (pathOf s q)) (is act j l h e i .reads) refl in
-                let w = borrow-takes l accepted (run .at) d q u in
-                let z : T (shapeFits j (syntax.Borrow (pathOf s d) (o .0) (borrowKindOf k) (pathOf s q))) = subst (λ (x : syntax.Action). T (shapeFits j x)) u (accepted-job j accepted .shapes (run .at)) in
-                let b′ : PairAdds s t (after run) (record { how = Borrowed o; p = d; q = q }) ls ls′
-                = subst (λ (x : Run). PairAdds s t x (record { how = Borrowed o; p = d; q = q }) ls ls′) f b in
-                adds-as (ap (constraintsAt j (run .at)) (sym u))
+                let w = borrow-takes l accepted (site .at) d q u in
+                let z : T (shapeFits j (syntax.Borrow (pathOf s d) (o .0) (borrowKindOf k) (pathOf s q))) = subst (λ (x : syntax.Action). T (shapeFits j x)) u (accepted-job j accepted .shapes (site .at)) in
+                let b′ : PairAdds s t (after site) (record { how = Borrowed o; p = d; q = q }) ls ls′
+                = subst (λ (x : Site). PairAdds s t x (record { how = Borrowed o; p = d; q = q }) ls ls′) f b in
+                adds-as (ap (constraintsAt j (site .at)) (sym u))
                 (subst (λ (p : Point). Adds
                 (relate p (j .structs) (pathType j (pathOf s d)) Contra (RefTy (borrowKindOf k) (Free (o .0)) (pathType j (pathOf s q)))
                 ++ relateSource p (j .structs) (Free (o .0)) (variableType j (q .base .0)) (pathOf s q .steps)) ls ls′)
-                (add-one (run .at)) (b′ .adds j l accepted (w .0) (w .1) (borrowKindOf k) z));
+                (add-one (site .at)) (b′ .adds j l accepted (w .0) (w .1) (borrowKindOf k) z));
           }
 
-      pub action-assign : {d q : Path} {next : Run} → a ≡ actions.Assign d q → next ≡ after run
-          → PairAdds s t next (record { how = Assigned; p = q; q = d }) ls ls′ → Constrains s t run ls ls′
+      pub action-assign : {d q : Path} {next : Site} → a ≡ actions.Assign d q → next ≡ after site
+          → PairAdds s t next (record { how = Assigned; p = q; q = d }) ls ls′ → Constrains s t site ls ls′
       unfolding constraintsAt shapeFits
       action-assign {d} {q} {next} i f b =
           record {
             adds = λ j l accepted h.
-                let u : actionAt (graphOf j) (run .at) ≡ syntax.Assign (pathOf s d) (pathOf s q) = carry (λ x y. x ≡ syntax.Assign (pathOf s d) (pathOf s q)) (is act j l h e i .reads) refl in
-                let w = assign-takes l accepted (run .at) d q u in
-                let z : T (shapeFits j (syntax.Assign (pathOf s d) (pathOf s q))) = subst (λ (x : syntax.Action). T (shapeFits j x)) u (accepted-job j accepted .shapes (run .at)) in
-                let b′ : PairAdds s t (after run) (record { how = Assigned; p = q; q = d }) ls ls′
-                = subst (λ (x : Run). PairAdds s t x (record { how = Assigned; p = q; q = d }) ls ls′) f b in
-                adds-as (ap (constraintsAt j (run .at)) (sym u))
+                let u : actionAt (graphOf j) (site .at) ≡ syntax.Assign (pathOf s d) (pathOf s q) = carry (λ x y. x ≡ syntax.Assign (pathOf s d) (pathOf s q)) (is act j l h e i .reads) refl in
+                let w = assign-takes l accepted (site .at) d q u in
+                let z : T (shapeFits j (syntax.Assign (pathOf s d) (pathOf s q))) = subst (λ (x : syntax.Action). T (shapeFits j x)) u (accepted-job j accepted .shapes (site .at)) in
+                let b′ : PairAdds s t (after site) (record { how = Assigned; p = q; q = d }) ls ls′
+                = subst (λ (x : Site). PairAdds s t x (record { how = Assigned; p = q; q = d }) ls ls′) f b in
+                adds-as (ap (constraintsAt j (site .at)) (sym u))
                 (subst (λ (p : Point). Adds (relate p (j .structs) (pathType j (pathOf s q)) Co (pathType j (pathOf s d))) ls ls′)
-                (add-one (run .at)) (adds-as (append-nil _) (b′ .adds j l accepted (w .1) (w .0) syntax.Mut z)));
+                (add-one (site .at)) (adds-as (append-nil _) (b′ .adds j l accepted (w .1) (w .0) syntax.Mut z)));
           }
 
-      pub action-constraint : {m n : RegionName} → a ≡ actions.Constraint m n → Adds (requireOutlives (run .at) (Free (m .0)) (Free (n .0))) ls ls′
-          → Constrains s t run ls ls′
+      pub action-constraint : {m n : RegionName} → a ≡ actions.Constraint m n → Adds (requireOutlives (site .at) (Free (m .0)) (Free (n .0))) ls ls′
+          → Constrains s t site ls ls′
       unfolding constraintsAt
       action-constraint {m} {n} i b =
-          record { adds = λ j l accepted h. adds-as (ap (constraintsAt j (run .at)) (sym (carry (λ x y. x ≡ syntax.Constraint (m .0) (n .0)) (is act j l h e i .reads) refl))) b }
+          record { adds = λ j l accepted h. adds-as (ap (constraintsAt j (site .at)) (sym (carry (λ x y. x ≡ syntax.Constraint (m .0) (n .0)) (is act j l h e i .reads) refl))) b }

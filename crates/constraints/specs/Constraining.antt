@@ -23,16 +23,16 @@ use Rattle.env.specs.Paths.{PathSays}
 use Rattle.env.specs.Prefixes.{ShortestIn}
 use Rattle.env.specs.declared.Shortest.{Shortest}
 use Rattle.constraint_list.specs.Listed.{Adds}
-use Rattle.relate.specs.declared.Run.{Run}
+use Rattle.relate.specs.declared.Site.{Site}
 use Rattle.constraints.specs.declared.Source.{Source}
 use Rattle.constraints.specs.declared.PathTypes.{PathTypes}
 use Rattle.constraints.specs.declared.Pair.{Pair}
 use Rattle.constraints.specs.declared.Related.{Related}
 use Rattle.constraints.specs.declared.Related.the-variants.{Assigned, Borrowed}
 
--- the run, at the next point
-abbrev pub after : Run → Run
-after run = record { head = run .head; at = run .at + 1 }
+-- the same head, at the next point
+abbrev pub after : Site → Site
+after site = record { head = site .head; at = site .at + 1 }
 
 -- Step i of a borrow's source leaves a Ref, and the prefix that it ends has at least as many steps as the shortest supporting one: that Ref's region
 -- outlives the borrow's.
@@ -90,34 +90,34 @@ abbrev pub alongSource : Related → Point → Job → syntax.Path → List Outl
 alongSource Assigned at j q = []
 alongSource (Borrowed r) at j q = relateSource at (j .structs) (Free (r .0)) (variableType j (q .base)) (q .steps)
 
-module _ (s t : List ℕ) (run : Run) where
+module _ (s t : List ℕ) (site : Site) where
   -- The constraints of the two types that stand there are added, if the types have one shape.
   pub record TypesAdd (how : Related) (a : List ℕ) (x : ℕ) (b : List ℕ) (y : ℕ) (ls ls′ : List ℕ) : Type 0 where
-    pub adds : (j : Job) → Layout s t (run .head) j → (m n : Ty) (k : BorrowKind) → TypeAt a x m → TypeAt b y n → typeNodes m ≤ maxNodes → typeNodes n ≤ maxNodes → T (sameShape m (against how k n))
-        → Adds (relate (run .at) (j .structs) m (under how) (against how k n)) ls ls′
+    pub adds : (j : Job) → Layout s t (site .head) j → (m n : Ty) (k : BorrowKind) → TypeAt a x m → TypeAt b y n → typeNodes m ≤ maxNodes → typeNodes n ≤ maxNodes → T (sameShape m (against how k n))
+        → Adds (relate (site .at) (j .structs) m (under how) (against how k n)) ls ls′
 
   -- The same for the type that stands there and that of a path.
   pub record SecondAdds (how : Related) (a : List ℕ) (x : ℕ) (q : Path) (ls ls′ : List ℕ) : Type 0 where
-    pub adds : (j : Job) → Layout s t (run .head) j → Takes s j q → (m : Ty) (k : BorrowKind) → TypeAt a x m → typeNodes m ≤ maxNodes → T (sameShape m (against how k (pathType j (pathOf s q))))
-        → Adds (relate (run .at) (j .structs) m (under how) (against how k (pathType j (pathOf s q)))) ls ls′
+    pub adds : (j : Job) → Layout s t (site .head) j → Takes s j q → (m : Ty) (k : BorrowKind) → TypeAt a x m → typeNodes m ≤ maxNodes → T (sameShape m (against how k (pathType j (pathOf s q))))
+        → Adds (relate (site .at) (j .structs) m (under how) (against how k (pathType j (pathOf s q)))) ls ls′
 
   -- The same for the types of two paths.
   pub record PathsAdd (how : Related) (p q : Path) (ls ls′ : List ℕ) : Type 0 where
-    pub adds : (j : Job) → Layout s t (run .head) j → Takes s j p → Takes s j q → (k : BorrowKind) → T (sameShape (pathType j (pathOf s p)) (against how k (pathType j (pathOf s q))))
-        → Adds (relate (run .at) (j .structs) (pathType j (pathOf s p)) (under how) (against how k (pathType j (pathOf s q)))) ls ls′
+    pub adds : (j : Job) → Layout s t (site .head) j → Takes s j p → Takes s j q → (k : BorrowKind) → T (sameShape (pathType j (pathOf s p)) (against how k (pathType j (pathOf s q))))
+        → Adds (relate (site .at) (j .structs) (pathType j (pathOf s p)) (under how) (against how k (pathType j (pathOf s q)))) ls ls′
 
   -- ---- The constraints of an action
 
-  -- The constraints of an assignment or a borrow are added, at the run's point.
+  -- The constraints of an assignment or a borrow are added, at the site's point.
   pub record PairAdds (pair : Pair) (ls ls′ : List ℕ) : Type 0 where
-    pub adds : (j : Job) → Layout s t (run .head) j → refusal j ≡ 0 → Takes s j (pair .p) → Takes s j (pair .q) → (k : BorrowKind)
+    pub adds : (j : Job) → Layout s t (site .head) j → refusal j ≡ 0 → Takes s j (pair .p) → Takes s j (pair .q) → (k : BorrowKind)
         → T (sameShape (pathType j (pathOf s (pair .p))) (against (pair .how) k (pathType j (pathOf s (pair .q)))))
         → Adds
-        (relate (run .at) (j .structs) (pathType j (pathOf s (pair .p))) (under (pair .how)) (against (pair .how) k (pathType j (pathOf s (pair .q))))
-        ++ alongSource (pair .how) (run .at) j (pathOf s (pair .q)))
+        (relate (site .at) (j .structs) (pathType j (pathOf s (pair .p))) (under (pair .how)) (against (pair .how) k (pathType j (pathOf s (pair .q))))
+        ++ alongSource (pair .how) (site .at) j (pathOf s (pair .q)))
         ls ls′
 
-  -- The constraints of the action at the run's point, which is one of the blocks.
+  -- The constraints of the action at the site's point, which is one of the blocks.
   pub record Constrains (ls ls′ : List ℕ) : Type 0 where
-    pub adds : (j : Job) → Layout s t (run .head) j → refusal j ≡ 0 → run .at < graphOf j .code
-        → Adds (constraintsAt j (run .at) (actionAt (graphOf j) (run .at))) ls ls′
+    pub adds : (j : Job) → Layout s t (site .head) j → refusal j ≡ 0 → site .at < graphOf j .code
+        → Adds (constraintsAt j (site .at) (actionAt (graphOf j) (site .at))) ls ls′

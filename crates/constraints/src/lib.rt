@@ -6,7 +6,7 @@ use env::prefixes::steps_of;
 use record::Head;
 use record::access::action_at;
 use record::access::variable_at;
-use relate::Run;
+use relate::Site;
 use repr::Action;
 use repr::ActionStep;
 use repr::Cursor;
@@ -16,7 +16,7 @@ use repr::RegionName;
 use repr::Variance;
 ghost use mathlib.Core.Path.{_≡_};
 ghost use mathlib.Core.List.{List};
-ghost use Prim.Native.Nat.{ℕ, _+_, _≤_};
+ghost use Prim.Native.Nat.{ℕ, _≤_};
 ghost use lib.ListN.{length};
 ghost use Rattle.repr.specs.declared.Path.{Path};
 ghost use Rattle.env.specs.Paths.{PathSays};
@@ -35,15 +35,15 @@ fn wide16(x: u16) -> usize
     x as usize
 }
 
-// The run, at the next point.
-fn after(run: Run) -> Run
-    requires { ⌜ run .at ≤ 1024 ⌝ }
-    ensures { λ r. ⌜ r ≡ after run ⌝ }
+// The same head, at the next point.
+fn after(site: Site) -> Site
+    requires { ⌜ site .at ≤ 1024 ⌝ }
+    ensures { λ r. ⌜ r ≡ after site ⌝ }
 {
-    let head = run.head;
-    Run {
+    let head = site.head;
+    Site {
         head,
-        at: run.at + 1,
+        at: site.at + 1,
     }
 }
 
@@ -66,7 +66,7 @@ struct PathTypes {
     q: PathType,
 }
 
-// A borrow's region, and how many steps its source has, and the source's shortest supporting prefix.
+// A borrow's region, and how many steps its source has and the source's shortest supporting prefix.
 struct Source {
     region: RegionName,
     supporting: usize,
@@ -74,9 +74,9 @@ struct Source {
 }
 
 // Step i of a borrow's source: if it leaves a Ref and ends a supporting prefix, that Ref's region outlives the borrow's.
-fn relate_step(of: Source, kinds: &[u8; 8], names: &[u8; 8], i: usize, run: Run, list: &mut [u16])
+fn relate_step(of: Source, kinds: &[u8; 8], names: &[u8; 8], i: usize, site: Site, list: &mut [u16])
     requires { ⌜ (length (now kinds) ≡ 8) × (length (now names) ≡ 8) ⌝ }
-    ensures { λ _. ⌜ Adds (stepConstraints (run .at) (now (kinds .entry)) (now (names .entry)) (of .supporting) (of .region .0) i)
+    ensures { λ _. ⌜ Adds (stepConstraints (site .at) (now (kinds .entry)) (now (names .entry)) (of .supporting) (of .region .0) i)
         (now (list .entry)) (now (list .exit)) ⌝ }
 {
     if 8 <= i {
@@ -92,18 +92,18 @@ fn relate_step(of: Source, kinds: &[u8; 8], names: &[u8; 8], i: usize, run: Run,
     let region = of.region;
     let left = Region::Free(RegionName(names[i]));
     let right = Region::Free(region);
-    relate::require_outlives(left, right, run, list);
+    relate::require_outlives(left, right, site, list);
 }
 
 // The steps of a borrow's source.
-fn relate_source(of: Source, kinds: &[u8; 8], names: &[u8; 8], run: Run, list: &mut [u16])
+fn relate_source(of: Source, kinds: &[u8; 8], names: &[u8; 8], site: Site, list: &mut [u16])
     requires { ⌜ (length (now kinds) ≡ 8) × (length (now names) ≡ 8) ⌝ }
-    ensures { λ _. ⌜ Adds (sourceConstraints (run .at) (now (kinds .entry)) (now (names .entry)) (of .supporting) (of .region .0) (of .steps))
+    ensures { λ _. ⌜ Adds (sourceConstraints (site .at) (now (kinds .entry)) (now (names .entry)) (of .supporting) (of .region .0) (of .steps))
         (now (list .entry)) (now (list .exit)) ⌝ }
 {
     let mut i = 0;
     while i < of.steps {
-        relate_step(of, kinds, names, i, run, list);
+        relate_step(of, kinds, names, i, site, list);
         i += 1;
     }
 }
@@ -159,15 +159,15 @@ fn relate_types(
     x: Cursor,
     b: &[u8],
     y: Cursor,
-    run: Run,
+    site: Site,
     list: &mut [u16],
 )
     requires { ⌜ length (now layout) ≡ 1280 ⌝ }
-    ensures { λ _. ⌜ TypesAdd (now (s .entry)) (now (layout .entry)) run how (now (a .entry)) (x .at) (now (b .entry)) (y .at)
+    ensures { λ _. ⌜ TypesAdd (now (s .entry)) (now (layout .entry)) site how (now (a .entry)) (x .at) (now (b .entry)) (y .at)
         (now (list .entry)) (now (list .exit)) ⌝ }
 {
     match how {
-        Related::Assigned => relate::relate(s, layout, a, x, b, y, Variance::Co, run, list),
+        Related::Assigned => relate::relate(s, layout, a, x, b, y, Variance::Co, site, list),
         Related::Borrowed(region) => relate::relate_ref(
             s,
             layout,
@@ -177,7 +177,7 @@ fn relate_types(
             b,
             y,
             Variance::Contra,
-            run,
+            site,
             list,
         ),
     }
@@ -192,18 +192,18 @@ fn relate_second(
     x: Cursor,
     b: &[u8; 512],
     found: PathType,
-    run: Run,
+    site: Site,
     list: &mut [u16],
 )
     requires { ⌜ length (now layout) ≡ 1280 ⌝ }
-    ensures { λ _. ⌜ ((q : Path) (kinds names : List ℕ) → PathSays (now (s .entry)) (now (layout .entry)) (run .head) q (now (b .entry)) kinds names found
-        → SecondAdds (now (s .entry)) (now (layout .entry)) run how (now (a .entry)) (x .at) q
+    ensures { λ _. ⌜ ((q : Path) (kinds names : List ℕ) → PathSays (now (s .entry)) (now (layout .entry)) (site .head) q (now (b .entry)) kinds names found
+        → SecondAdds (now (s .entry)) (now (layout .entry)) site how (now (a .entry)) (x .at) q
         (now (list .entry)) (now (list .exit))) ⌝ }
 {
     match found {
         PathType::Refused => {}
-        PathType::Inside(y) => relate_types(how, s, layout, a, x, s, y, run, list),
-        PathType::Written(y) => relate_types(how, s, layout, a, x, b, y, run, list),
+        PathType::Inside(y) => relate_types(how, s, layout, a, x, s, y, site, list),
+        PathType::Written(y) => relate_types(how, s, layout, a, x, b, y, site, list),
     }
 }
 
@@ -215,31 +215,31 @@ fn relate_found(
     a: &[u8; 512],
     b: &[u8; 512],
     found: PathTypes,
-    run: Run,
+    site: Site,
     list: &mut [u16],
 )
     requires { ⌜ length (now layout) ≡ 1280 ⌝ }
-    ensures { λ _. ⌜ ((p q : Path) (kinds names : List ℕ) → PathTypesSay (now (s .entry)) (now (layout .entry)) (run .head) p q (now (a .entry)) (now (b .entry)) kinds names found
-        → PathsAdd (now (s .entry)) (now (layout .entry)) run how p q
+    ensures { λ _. ⌜ ((p q : Path) (kinds names : List ℕ) → PathTypesSay (now (s .entry)) (now (layout .entry)) (site .head) p q (now (a .entry)) (now (b .entry)) kinds names found
+        → PathsAdd (now (s .entry)) (now (layout .entry)) site how p q
         (now (list .entry)) (now (list .exit))) ⌝ }
 {
     let first_type = found.p;
     let second_type = found.q;
     match first_type {
         PathType::Refused => {}
-        PathType::Inside(x) => relate_second(how, s, layout, s, x, b, second_type, run, list),
-        PathType::Written(x) => relate_second(how, s, layout, a, x, b, second_type, run, list),
+        PathType::Inside(x) => relate_second(how, s, layout, s, x, b, second_type, site, list),
+        PathType::Written(x) => relate_second(how, s, layout, a, x, b, second_type, site, list),
     }
 }
 
 // Two paths, of which one has steps, and the steps of a borrow's source.
-fn relate_stepped(pair: Pair, s: &[u8], layout: &[u16; 1280], run: Run, list: &mut [u16])
+fn relate_stepped(pair: Pair, s: &[u8], layout: &[u16; 1280], site: Site, list: &mut [u16])
     requires { ⌜ length (now layout) ≡ 1280 ⌝ }
-    ensures { λ _. ⌜ PairAdds (now (s .entry)) (now (layout .entry)) run pair
+    ensures { λ _. ⌜ PairAdds (now (s .entry)) (now (layout .entry)) site pair
         (now (list .entry)) (now (list .exit)) ⌝ }
 {
     let how = pair.how;
-    let head = run.head;
+    let head = site.head;
     let p = pair.p;
     let q = pair.q;
     let mut a = [0; 512];
@@ -247,43 +247,43 @@ fn relate_stepped(pair: Pair, s: &[u8], layout: &[u16; 1280], run: Run, list: &m
     let mut kind = [0; 8];
     let mut name = [0; 8];
     let found = path_types(s, layout, head, p, q, &mut a, &mut b, &mut kind, &mut name);
-    relate_found(how, s, layout, &a, &b, found, run, list);
+    relate_found(how, s, layout, &a, &b, found, site, list);
     let of = source_of(s, q, how, &kind);
-    relate_source(of, &kind, &name, run, list);
+    relate_source(of, &kind, &name, site, list);
 }
 
-// The constraints of an assignment or a borrow, at the point of the run.
-fn relate_paths(pair: Pair, s: &[u8], layout: &[u16; 1280], run: Run, list: &mut [u16])
+// The constraints of an assignment or a borrow, at the site's point.
+fn relate_paths(pair: Pair, s: &[u8], layout: &[u16; 1280], site: Site, list: &mut [u16])
     requires { ⌜ length (now layout) ≡ 1280 ⌝ }
-    ensures { λ _. ⌜ PairAdds (now (s .entry)) (now (layout .entry)) run pair
+    ensures { λ _. ⌜ PairAdds (now (s .entry)) (now (layout .entry)) site pair
         (now (list .entry)) (now (list .exit)) ⌝ }
 {
     let how = pair.how;
     let p = pair.p;
     let q = pair.q;
     if (p.steps != 0) | (q.steps != 0) {
-        relate_stepped(pair, s, layout, run, list);
+        relate_stepped(pair, s, layout, site, list);
         return;
     }
     let x = variable_at(layout, p.base);
     let y = variable_at(layout, q.base);
-    relate_types(how, s, layout, s, x, s, y, run, list);
+    relate_types(how, s, layout, s, x, s, y, site, list);
 }
 
 // Adds the constraints of the action at a point of the blocks. A Constraint's is at that point, all others at the next one.
-pub fn constrain(s: &[u8], layout: &[u16; 1280], run: Run, list: &mut [u16])
+pub fn constrain(s: &[u8], layout: &[u16; 1280], site: Site, list: &mut [u16])
     requires { ⌜ length (now layout) ≡ 1280 ⌝ }
-    ensures { λ _. ⌜ Constrains (now (s .entry)) (now (layout .entry)) run
+    ensures { λ _. ⌜ Constrains (now (s .entry)) (now (layout .entry)) site
         (now (list .entry)) (now (list .exit)) ⌝ }
 {
-    let p = run.at;
+    let p = site.at;
     if 1024 < p {
         return;
     }
     let ActionStep::Action(a, _) = action_at(s, layout, wide16(p)) else {
         return;
     };
-    let next = after(run);
+    let next = after(site);
     match a {
         Action::Borrow {
             dest,
@@ -309,7 +309,7 @@ pub fn constrain(s: &[u8], layout: &[u16; 1280], run: Run, list: &mut [u16])
         Action::Constraint { sup, sub } => {
             let left = Region::Free(sup);
             let right = Region::Free(sub);
-            relate::require_outlives(left, right, run, list)
+            relate::require_outlives(left, right, site, list)
         }
         _ => {}
     }

@@ -1,7 +1,7 @@
 -- The laws of `Along`, `Stopped` and `Chained`. Assumes nothing.
 use mathlib.Core.Path.{_≡_, refl, sym, ap, _∙_, subst}
 use mathlib.Core.Logic.{inl, inr, ⊎-elim}
-use mathlib.Core.Bool.{Bool, true, false, _&&_, true≢false}
+use mathlib.Core.Bool.{Bool, true, false, _&&_, and-eq-true-iff, true≢false}
 use mathlib.Core.List.{List}
 use Prim.Native.Nat.{ℕ, _+_, _-_, _*_, _/_, _%_, _≤_, _<_}
 use native.Mathlib.Decide.{ℕ-discrete, decLt}
@@ -14,6 +14,7 @@ use Rattle.bit_set.specs.Bits.{has, withBit}
 use Rattle.bit_set.proofs.BitLaws.{digit, has-out, length-with, has-with, has-with-other, with-out}
 use Rattle.graph.specs.Tables.{rowStart, rowEnd, upTo}
 use Rattle.graph.proofs.SearchLaws.{no-mark}
+use Rattle.graph.proofs.EntryLaws.{up-to-is}
 use Rattle.dfs.specs.Walk.{inCode, Follows, Chained, Along, Stopped}
 
 -- ---- Bits
@@ -118,30 +119,19 @@ up-to-le e = go (ltb e 1536) refl
     go true q = rw q (omega arith)
     go false q = let l : 1536 ≤ e = ltb-false e 1536 q in rw q l
 
-pub up-to-same : (e : ℕ) → e ≤ 1536 → upTo e ≡ e
-up-to-same e l = go (ltb e 1536) refl
-  where
-    go : (b : Bool) → ltb e 1536 ≡ b → upTo e ≡ e
-    go true q = rw q
-    go false q = let k : 1536 ≤ e = ltb-false e 1536 q in rw q (omega arith)
-
 pub follows-row : (first succ : List ℕ) (q : ℕ) → rowEnd first q ≡ rowStart first q + 1 → rowEnd first q ≤ 1536 → getD succ (rowStart first q) 0 ≡ q + 1 → Follows first succ q
 follows-row first succ q e l n =
-    let u : upTo (rowEnd first q) ≡ rowStart first q + 1 = up-to-same (rowEnd first q) l ∙ e in
+    let u : upTo (rowEnd first q) ≡ rowStart first q + 1 = up-to-is (rowEnd first q) l ∙ e in
     record {
       next = (rowStart first q, omega arith, rw u (omega arith), n);
       alone = λ s w. let i : w .0 ≡ rowStart first q = omega (arith, w .1, w .2, u) in sym (w .3) ∙ ap (λ (k : ℕ). getD succ k 0) i ∙ n;
     }
 
-both : (a b : Bool) → (a && b) ≡ true → (a ≡ true) × (b ≡ true)
-both true b e = (refl, e)
-both false b e = absurd (true≢false (sym e))
-
 -- as the code of `follows` goes
 pub follows-tests : (first succ : List ℕ) (q start end next : ℕ) → start ≡ rowStart first q → end ≡ rowEnd first q → next ≡ getD succ start 0 → end ≤ 1536 → start < end
     → (eqb (end - start) 1 && eqb next (q + 1)) ≡ true → Follows first succ q
 follows-tests first succ q start end next es ee en l r e =
-    let w = both (eqb (end - start) 1) (eqb next (q + 1)) e in
+    let w = and-eq-true-iff (eqb (end - start) 1) (eqb next (q + 1)) .0 e in
     let one : end - start ≡ 1 = eqb-true _ _ (w .0) in
     follows-row first succ q (omega (arith, es, ee, one, r)) (omega (arith, ee, l)) (ap (λ (k : ℕ). getD succ k 0) (sym es) ∙ sym en ∙ eqb-true _ _ (w .1))
 

@@ -2,7 +2,7 @@
 -- Assumes nothing.
 use mathlib.Core.Path.{_≡_, refl, sym, ap, _∙_, subst}
 use mathlib.Core.Logic.{_⊎_, inl, inr, ⊎-elim}
-use mathlib.Core.Bool.{Bool, true, false, not, _&&_, _||_, cond, true≢false}
+use mathlib.Core.Bool.{Bool, true, false, not, _&&_, _||_, and-eq-true-iff, or-true, cond, true≢false}
 use mathlib.Core.List.{List}
 use Prim.Native.Nat.{ℕ, zero, suc, _+_, _-_, _*_, _≤_, _<_}
 use native.Mathlib.Nat.{not-suc-le-zero}
@@ -277,21 +277,13 @@ pub record Exits (chain first ps : List ℕ) (b : Bool) : Type 0 where
 pub exits-none : (chain first : List ℕ) → Exits chain first (replicate 32 0) false
 exits-none chain first = record { leaf = λ e. absurd (true≢false (sym e)); exits = λ x m. absurd (true≢false (sym m ∙ has-none 32 x)) }
 
-and-both : (a b : Bool) → (a && b) ≡ true → (a ≡ true) × (b ≡ true)
-and-both true b e = (refl, e)
-and-both false b e = absurd (true≢false (sym e))
-
 or-either : (a b : Bool) → (a || b) ≡ true → (a ≡ true) ⊎ (b ≡ true)
 or-either true b e = inl refl
 or-either false b e = inr e
 
-or-right : (a : Bool) → (a || true) ≡ true
-or-right true = refl
-or-right false = refl
-
 -- a point of the chain is no leaf
 leaf-unlinked : (chain first : List ℕ) (x : ℕ) → has chain x ≡ true → isLeaf chain first x ≡ true → ⊥
-leaf-unlinked chain first x c e = true≢false (sym (and-both (not (has chain x)) _ e .0) ∙ ap not c)
+leaf-unlinked chain first x c e = true≢false (sym (and-eq-true-iff (not (has chain x)) _ .0 e .0) ∙ ap not c)
 
 module _ (chain first succ : List ℕ) (h : ℕ → Bool) (p : ℕ) where
   -- what holds at each turn of the search, of the points that are put and what is noted
@@ -388,7 +380,7 @@ module _ (chain first succ : List ℕ) (h : ℕ → Bool) (p : ℕ) (small : (s 
         to : (x : ℕ) → isLeaf chain first x ≡ true → (has ps x ≡ true) ⊎ ((q ≤ x) × (x ≤ e)) → (b || isLeaf chain first e) ≡ true
         to x i (inl m) = rw (g .exits .exits x m i)
         to x i (inr w) = elim (ℕ-discrete x e) [
-          | yes z ↦ ap (λ (c : Bool). b || c) (subst (λ (y : ℕ). isLeaf chain first y ≡ true) z i) ∙ or-right b
+          | yes z ↦ ap (λ (c : Bool). b || c) (subst (λ (y : ℕ). isLeaf chain first y ≡ true) z i) ∙ or-true b
           | no z ↦ absurd (leaf-unlinked chain first x (al .linked x (w .0) (omega (arith, w .1, z))) i)
         ]
 
@@ -457,7 +449,7 @@ module _ (chain first succ : List ℕ) (h : ℕ → Bool) (p : ℕ) (small : (s 
         sized = g .sized;
         sound = λ x m. down (g .walked .sound x m);
         complete = λ x r. all r;
-        leaf = λ k. let w = g .exits .leaf k in (w .0, down (g .walked .sound (w .0) (w .1)), leb-true _ _ (and-both (not (has chain (w .0))) _ (w .2) .1));
+        leaf = λ k. let w = g .exits .leaf k in (w .0, down (g .walked .sound (w .0) (w .1)), leb-true _ _ (and-eq-true-iff (not (has chain (w .0))) _ .0 (w .2) .1));
         exits = λ x r l. g .exits .exits x (all r) (is-leaf x l (has chain x) refl);
       }
     where

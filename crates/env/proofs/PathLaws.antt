@@ -14,7 +14,7 @@ use lib.Seq.{take-append-le, take-at, getD-set-same, getD-set-other}
 use borrow.Author.Tests.{ne-eqb, le-leb, lt-leb}
 use Rattle.nll_spec.specs.Syntax.{BorrowKind, Mut, Shared, Ty, UnitTy, RefTy, StructTy, BoundTy, Args, StructDecl, Job}
 use Rattle.nll_spec.specs.Syntax as syntax
-use Rattle.nll_spec.specs.Decode.{byte, maxNodes, type}
+use Rattle.nll_spec.specs.Decode.{byte, maxNodes}
 use Rattle.nll_spec.specs.Types.{isRef, refRegion, typeNodes, argNodes, structOf, subst, fieldType, stepType, step, typeAfter, variableType, pathType}
 use Rattle.nll_spec.specs.WellFormed.{stepsFit, pathFits}
 use Rattle.repr.specs.Reading.{byteSays, borrowKindOf, regionOf, pathOf}

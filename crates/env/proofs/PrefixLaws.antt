@@ -6,7 +6,7 @@ use Prim.Native.Nat.{ℕ, zero, suc, _+_, _-_, _≤_, _<_}
 use native.Mathlib.Omega.{arith}
 use native.Mathlib.Numerals.{add-one}
 use native.Mathlib.Decide.{decLt}
-use lib.Seq.{drop-nil}
+use lib.Seq.{drop-nil, take-suc, drop-append-le, length-take-le, take-all}
 use Rattle.nll_spec.specs.Decode.{byte}
 use Rattle.repr.specs.Reading.{rest, byteSays, pathOf}
 use Rattle.repr.specs.declared.Cursor.{Cursor}
@@ -16,7 +16,6 @@ use Rattle.repr.specs.declared.ByteStep.the-variants as byteStep
 use Rattle.env.proofs.StepLaws.{steps-out, steps-first}
 use lib.Dec.{eqb, leb}
 use lib.ListN.{length, getD, take, drop, length-take, drop-of-length-le}
-use lib.Seq.{take-suc, drop-append-le, length-take-le, take-all}
 use borrow.Author.Tests.{eqb-true, eq-eqb, ne-eqb, le-leb, lt-leb}
 use Rattle.nll_spec.specs.Lists.{every}
 use Rattle.nll_spec.specs.Syntax.{Mut, Shared, Ty, UnitTy, RefTy, StructTy, BoundTy, StructDecl, Path, Job}

@@ -5,10 +5,9 @@ use Prim.Native.Nat.{ℕ, zero, suc, _+_, _≤_, _<_}
 use native.Mathlib.Omega.{arith}
 use native.Mathlib.Nat.{not-suc-le-zero, le-of-suc-le-suc}
 use native.Mathlib.Numerals.{add-one}
-use lib.ListN.{length, getD, set, length-set}
+use lib.ListN.{length, set, length-set}
 use lib.Seq.{getD-set-same}
 use lib.Dec.{T, eqb}
-use borrow.Author.Tests.{lt-ltb}
 use Rattle.nll_spec.specs.Lists.{contains}
 use Rattle.nll_spec.specs.Syntax.{Job, Block, BlockIndex}
 use Rattle.nll_spec.specs.Decode.{codeCount, pointCount}

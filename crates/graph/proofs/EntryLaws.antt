@@ -33,7 +33,7 @@ at-contains (x ∷ xs) (suc k) h = any-there (eqb (getD xs k 0)) x xs (at-contai
 
 -- ---- What follows a point
 
-up-to-is : (e : ℕ) → e ≤ 1536 → upTo e ≡ e
+pub up-to-is : (e : ℕ) → e ≤ 1536 → upTo e ≡ e
 up-to-is e l = go (decLt e 1536)
   where
     go : Dec (e < 1536) → upTo e ≡ e

@@ -162,8 +162,8 @@ visiting-all {s} {from} {i} {n} {st} {u} w a b = let e : n ≡ i = omega arith i
 abbrev OnStack : State → ℕ → Type 0
 OnStack st x = (i : ℕ) × (i < st .depth) × (getD (st .stack) i 0 ≡ x)
 
--- For steps E and a property A that holds of all that is reached: the marked are of A; what is on the stack is marked; each marked block is excused
--- by X, is on the stack, or all that follow it are marked.
+-- For steps E and a property A that holds of all that is reached: the marked are of A; what is on the stack is marked; each marked block is of X,
+-- is on the stack, or all that follow it are marked.
 module _ (E : ℕ → ℕ → Type 0) (A : ℕ → Type 0) where
   abbrev Closed : State → ℕ → Type 0
   Closed st x = (y : ℕ) → E x y → Marked (st .seen) y

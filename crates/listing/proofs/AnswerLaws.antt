@@ -3,7 +3,7 @@
 use mathlib.Core.Path.{_≡_, refl, sym, _∙_, ap, ap₂}
 use mathlib.Core.Bool.{Bool, true, false, cond, not}
 use mathlib.Core.List.{List, [], _∷_, _++_, append-assoc}
-use Prim.Native.Nat.{ℕ, zero, suc, _+_, _-_, _*_, _<_, _≤_}
+use Prim.Native.Nat.{ℕ, zero, suc, _+_, _*_, _<_, _≤_}
 use native.Mathlib.Nat.{sub-zero}
 use native.Mathlib.Omega.{arith}
 use native.Mathlib.Numerals.{add-one}
@@ -26,6 +26,7 @@ use Rattle.nll_spec.proofs.OutputLaws.{points-of, bit-written, verdict-written,
 use Rattle.listing.specs.Places.{Counted, inSet, pointText, accessText, grownText, textFrom, regionText, grownFrom, accessFrom, regionFrom, rest}
 use Rattle.listing.specs.declared.Counts.{Counts}
 use Rattle.listing.specs.declared.Place.the-variants.{Points}
+use Rattle.listing.proofs.WriteLaws.{join}
 
 -- ---- Texts that are the same number by number
 
@@ -118,9 +119,6 @@ module _ (ends : EndRule) (j : Job) (ws bs : List ℕ) where
   abbrev grown-lines : List ℕ
   grown-lines = gather (λ r. line "grown" (r ∷ [])) (select (λ r. getD (answer ends j .grown) r false) (below (length (j .outlives))))
 
-  join : (u v w x : List ℕ) → u ++ (v ++ (w ++ x)) ≡ ((u ++ v) ++ w) ++ x
-  join u v w x = sym (append-assoc (u ++ v) w x ∙ append-assoc u v (w ++ x))
-
   all-listed : listed (pointCount j) (j .regions) (length (j .outlives)) ≡ answerLines j (answer ends j)
   unfolding listed answerLines answer graphOf
   all-listed =
@@ -135,7 +133,7 @@ module _ (ends : EndRule) (j : Job) (ws bs : List ℕ) where
       text-select (grownText bytes (pointCount j)) (λ r. line "grown" (r ∷ [])) (λ r. getD (answer ends j .grown) r false) (length (j .outlives)) grown-is
       in
       ap (λ (l : List ℕ). line "points" (pointCount j ∷ []) ++ l) (ap₂ (λ (x y : List ℕ). x ++ y) regions (ap₂ (λ (x y : List ℕ). x ++ y) accesses grown))
-      ∙ join (line "points" (pointCount j ∷ [])) regions-lines access-lines grown-lines
+      ∙ sym (join (line "points" (pointCount j ∷ [])) regions-lines access-lines grown-lines)
 
   -- The listing from its first place on is the answer's.
   pub whole-listing : (n : Counts) → Counted j n → rest n words bytes Points ≡ answerLines j (answer ends j)

@@ -26,7 +26,7 @@ use Rattle.listing.specs.declared.Counts.{Counts}
 use Rattle.listing.specs.declared.Chunk.{Chunk}
 use Rattle.listing.specs.declared.Place.{Place}
 use Rattle.listing.specs.declared.Place.the-variants.{Points, Region, Within, Access, Grown, Done}
-use Rattle.listing.proofs.WriteLaws.{puts-none, puts-as, spaced-room, pair-room, line-room, line-room-three}
+use Rattle.listing.proofs.WriteLaws.{join, puts-none, puts-as, spaced-room, pair-room, line-room, line-room-three}
 
 -- ---- The text of numbers, one by one
 
@@ -89,9 +89,6 @@ module _ (n : Counts) {at : ℕ} {old : List ℕ} (ws bs : List ℕ) where
       (text-then (regionText ws (n .points)) r (n .regions) (regionText ws (n .points) r) (accessFrom n ws bs 0) h refl
       ∙ join (ascii "region" ++ spaced r) (textFrom (pointText ws (n .points) r) 0 (n .points)) (10 ∷ []) (regionFrom n ws bs (r + 1)))
       (omega arith)
-    where
-      join : (u v w x : List ℕ) → ((u ++ v) ++ w) ++ x ≡ u ++ (v ++ (w ++ x))
-      join u v w x = append-assoc (u ++ v) w x ∙ append-assoc u v (w ++ x)
 
   module _ (r p : ℕ) where
     pub within-over : n .points ≤ p → {next : Place} {used : ℕ} {new : List ℕ} → Puts (10 ∷ []) at old used new → Follows n r next

@@ -1,7 +1,7 @@
 -- Hexadecimal in pieces: a digit, a byte of the text more, the end of the text, and the record that is cut where the kept bytes end.
 -- Assumes nothing.
 use mathlib.Core.Path.{_≡_, refl, sym, _∙_, ap}
-use mathlib.Core.Bool.{Bool, true, false, _&&_, cond}
+use mathlib.Core.Bool.{Bool, true, false, _&&_, and-false, cond}
 use mathlib.Core.List.{List, [], _∷_, _++_, append-assoc, append-nil}
 use mathlib.Core.Option.{Option, none, some}
 use Prim.Native.Nat.{ℕ, _+_, _-_, _*_, _<_, _≤_}
@@ -25,10 +25,6 @@ value-some d h = rw lt-ltb
 
 value-none : (d : ℕ) → 16 ≤ d → valueOf d ≡ none
 value-none d h = rw le-ltb
-
-and-false : (a : Bool) → (a && false) ≡ false
-and-false true = refl
-and-false false = refl
 
 inside : (low high c : ℕ) → low ≤ c → c ≤ high → between low high c ≡ true
 inside low high c h k = rw (le-leb low c h, le-leb c high k)

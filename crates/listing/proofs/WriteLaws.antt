@@ -18,6 +18,9 @@ use Rattle.listing.specs.Writing.{Puts}
 
 -- ---- Texts one after the other
 
+pub join : (u v w x : List ℕ) → ((u ++ v) ++ w) ++ x ≡ u ++ (v ++ (w ++ x))
+join u v w x = append-assoc (u ++ v) w x ∙ append-assoc u v (w ++ x)
+
 pub puts-none : (at : ℕ) (old : List ℕ) → Puts [] at old at old
 puts-none at old = record { ends = omega arith; size = refl; same = sym (append-nil (take at old)) }
 
@@ -123,9 +126,6 @@ unfolding line
 line-three word a b d =
     ap (λ (l : List ℕ). (((ascii word ++ spaced a) ++ spaced b) ++ l) ++ (10 ∷ [])) (sym (append-nil (spaced d)))
     ∙ ap (λ (l : List ℕ). l ++ (10 ∷ [])) (join (ascii word) (spaced a) (spaced b) (spaced d ++ []))
-  where
-    join : (u v w x : List ℕ) → ((u ++ v) ++ w) ++ x ≡ u ++ (v ++ (w ++ x))
-    join u v w x = append-assoc (u ++ v) w x ∙ append-assoc u v (w ++ x)
 
 pub line-room : (word : String) (n : ℕ) → n ≤ 65535 → length (line word (n ∷ [])) ≤ length (ascii word) + 7
 line-room word n h =

@@ -3,7 +3,7 @@ use super::Hex;
 use super::ROOM;
 ghost use mathlib.Core.Path.{_≡_};
 ghost use mathlib.Core.List.{List, [], _∷_};
-ghost use Prim.Native.Nat.{ℕ, _<_};
+ghost use Prim.Native.Nat.{ℕ};
 ghost use lib.ListN.{length};
 ghost use Rattle.nll_spec.specs.Listing.{isSkipped, digit};
 ghost use Rattle.listing.specs.Reading.{valueOf, Kept, Reads, Feeds, Holds};

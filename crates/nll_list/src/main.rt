@@ -1,5 +1,5 @@
 // The program `nll-list`: reads a record in hexadecimal, and prints what the analysis says of it.
-// What a call of C's reads and writes, no contract says. The contracts here hold the rest: `read_text` keeps the record of all pieces that were read;
+// No contract says what a call of C's reads and writes. The contracts here say the rest: `read_text` keeps the record of all pieces that were read;
 // `begin`, and then each chunk that `listing::fill` gives, are the listing of that text.
 mod begin;
 

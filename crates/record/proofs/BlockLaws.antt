@@ -27,7 +27,7 @@ use Rattle.record.specs.declared.CodeStep.{CodeStep}
 use Rattle.record.specs.declared.CodeStep.the-variants as codeStep
 use Rattle.record.specs.declared.BlocksStep.the-variants as blocksStep
 use Rattle.record.specs.Blocks.{blockEnd, pointKept, loanCount, firsts, ActionAt, ActionResult, ActionSays, Actions, ActionsResult, ActionsSay}
-use Rattle.record.specs.Blocks.{Coded, none, more, Placed, Blocks, BlocksSay}
+use Rattle.record.specs.Blocks.{Coded, none, more, Placed, BlocksSay}
 use Rattle.record.proofs.RowLaws.{Going, going-start, going-more, going-stop, going-end, offset-drop, standing-more, window-more}
 
 -- ---- An action

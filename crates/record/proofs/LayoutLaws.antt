@@ -1,6 +1,6 @@
 -- The whole record. Assumes nothing.
 use mathlib.Core.Path.{_≡_, refl, sym, ap, subst, _∙_}
-use mathlib.Core.Bool.{Bool, true, false, cond, _&&_}
+use mathlib.Core.Bool.{Bool, true, false, cond, _&&_, and-eq-true-iff}
 use mathlib.Core.List.{List, [], _∷_}
 use Prim.Native.Nat.{ℕ, suc, _+_, _-_, _*_, _≤_, _<_}
 use native.Mathlib.Omega.{arith}
@@ -30,14 +30,6 @@ use Rattle.record.specs.declared.Decoded.{Decoded}
 use Rattle.record.specs.declared.Decoded.the-variants.{Refused, Job as Accept}
 use Rattle.record.proofs.BlockLaws.{window-kept}
 
-first-true : (a b : Bool) → a && b ≡ true → a ≡ true
-first-true true b h = refl
-first-true false b h = h
-
-second-true : (a b : Bool) → a && b ≡ true → b ≡ true
-second-true true b h = h
-second-true false b h = absurd (let z : _≡_ {A = ℕ} 0 1 = ap (λ (x : Bool). cond x 1 0) h in omega arith)
-
 -- ---- Counts
 
 -- a count that was read is in its range
@@ -46,7 +38,7 @@ unfolding count done refuse
 count-most low high {n} bs {over} e = go (byte bs) refl
   where
     test : (m : ℕ) (r : List ℕ) (b : Bool) → leb low m && leb m high ≡ b → cond b (done m) (refuse 4) r ≡ read n over → n ≤ high
-    test m r true i j = let z : n ≡ m = cc in let l = leb-true m high (second-true (leb low m) (leb m high) i) in omega arith
+    test m r true i j = let z : n ≡ m = cc in let l = leb-true m high (and-eq-true-iff (leb low m) (leb m high) .0 i .1) in omega arith
     test m r false i j = absurd (let z : _≡_ {A = ℕ} 0 1 = cc in omega arith)
 
     go : (x : Reading ℕ) → byte bs ≡ x → n ≤ high
@@ -147,8 +139,9 @@ module _ {n : Counts} {s : List ℕ} {from : ℕ} {t : List ℕ} (next : Cursor)
 
   accepted : (b : Bool) → leb (points + n .declared) maxPoints && leb loans maxLoans ≡ b → DecodedSays (cond (leb (pointCount (p .job)) maxPoints && leb (borrowCount (p .job)) maxLoans) (decode.decoded (p .job)) (decode.rejected 5)) s t (cond b (Accept (headOf n points)) (Refused 5))
   accepted true e =
-      let few = leb-true (points + n .declared) maxPoints (first-true (leb (points + n .declared) maxPoints) (leb loans maxLoans) e) in
-      let lent = leb-true loans maxLoans (second-true (leb (points + n .declared) maxPoints) (leb loans maxLoans) e) in
+      let tests = and-eq-true-iff (leb (points + n .declared) maxPoints) (leb loans maxLoans) .0 e in
+      let few = leb-true (points + n .declared) maxPoints (tests .0) in
+      let lent = leb-true loans maxLoans (tests .1) in
       record { says = record { job = p .job; is = rw (points-are, ← p .lends, e); points = omega (arith, points-are); loans = omega (arith, p .lends); layout = p .layout (omega arith) } }
   accepted false e = record { says = rw (points-are, ← p .lends, e) }
 

@@ -21,7 +21,7 @@ use repr::StructStep;
 use repr::Variable;
 ghost use mathlib.Core.Path.{_≡_};
 ghost use Prim.Native.Nat.{_+_, _<_, _≤_};
-ghost use lib.ListN.{length, getD};
+ghost use lib.ListN.{length};
 ghost use Rattle.nll_spec.specs.Syntax.{Job};
 ghost use Rattle.nll_spec.specs.Decode.{codeCount};
 ghost use Rattle.nll_spec.specs.Types.{structOf};

@@ -12,7 +12,7 @@ use repr::BlockStep;
 use repr::Cursor;
 use repr::EndStep;
 ghost use mathlib.Core.Path.{_≡_};
-ghost use Prim.Native.Nat.{_+_, _≤_};
+ghost use Prim.Native.Nat.{_≤_};
 ghost use lib.ListN.{length};
 ghost use Rattle.record.specs.Blocks.{pointKept, ActionSays, ActionsSay, BlocksSay};
 

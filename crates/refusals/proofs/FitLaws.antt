@@ -1,6 +1,6 @@
 -- Types against parameters, node by node. Assumes nothing.
 use mathlib.Core.Path.{_≡_, refl, sym, ap, _∙_}
-use mathlib.Core.Bool.{Bool, true, false, _&&_}
+use mathlib.Core.Bool.{Bool, true, false, _&&_, and-false}
 use mathlib.Core.List.{List, [], _∷_}
 use Prim.Native.Nat.{ℕ, zero, suc, _-_, _≤_, _<_}
 use native.Mathlib.Omega.{arith}
@@ -119,10 +119,6 @@ declared-size : {s : List ℕ} {x : StructDecl} {d : reprStruct.StructDecl} → 
 declared-size {s} {d = d} w = items-length param (d .parameters) (rest s (d .declared)) (w .params .reads)
 
 -- ---- Arguments and parameters, counted
-
-and-false : (z : Bool) → z && false ≡ false
-and-false true = refl
-and-false false = refl
 
 args-differ : (ss : List StructDecl) (ps : List Param) (g : Args) (ds : List Param) → (argCount g ≡ length ds → ⊥) → argsFit ss ps g ds ≡ false
 unfolding argsFit argCount

@@ -8,7 +8,7 @@ use native.Mathlib.Nat.{le-refl}
 use lib.Dec.{ltb}
 use lib.ListN.{length}
 use borrow.Author.Tests.{lt-ltb, le-ltb}
-use Rattle.nll_spec.specs.Syntax.{BorrowKind, Region, Job}
+use Rattle.nll_spec.specs.Syntax.{Job}
 use Rattle.nll_spec.specs.WellFormed.{regionNamed, typeNamed, argsNamed}
 use Rattle.repr.specs.Reading.{regionOf}
 use Rattle.repr.specs.declared.Region as reprRegion
@@ -27,8 +27,7 @@ use Rattle.repr.specs.declared.ArgumentStep.the-variants as argumentStep
 use Rattle.record.specs.declared.Head.{Head}
 use Rattle.refusals.specs.Tests.{Sized, TypeNamed, ArgumentsNamed}
 use Rattle.refusals.proofs.WalkLaws as walks
-use Rattle.refusals.proofs.WalkLaws.{fewer-still}
-use Rattle.refusals.proofs.WalkLaws.{rest-fewer}
+use Rattle.refusals.proofs.WalkLaws.{fewer-still, rest-fewer}
 
 -- ---- A region
 

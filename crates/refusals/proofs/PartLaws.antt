@@ -1,8 +1,8 @@
 -- What is read of a part, tested. Assumes nothing.
 use mathlib.Core.Path.{_≡_, refl, sym, ap, _∙_}
-use mathlib.Core.Bool.{Bool, true, false, _&&_, not}
+use mathlib.Core.Bool.{Bool, true, false, _&&_, and-true, not}
 use mathlib.Core.List.{List, [], _∷_, _++_}
-use Prim.Native.Nat.{ℕ, zero, suc, _+_, _-_, _≤_, _<_}
+use Prim.Native.Nat.{ℕ, zero, suc, _-_, _≤_, _<_}
 use native.Mathlib.Omega.{arith}
 use native.Mathlib.Decide.{decLt}
 use lib.ListN.{length, take, drop}
@@ -160,15 +160,11 @@ pub record ActionIs (h : Head) (j : Job) (s : List ℕ) (a : Action) (c : Cursor
   pub reads : items (sourcesOf a) path (rest s c) ≡ read sources bs
   pub same : actionNamed j x ≡ ownNamed h a && every (pathNamed j) sources
 
-and-true : (z : Bool) → z ≡ z && true
-and-true true = refl
-and-true false = refl
-
 module _ {h : Head} {j : Job} (z : Sized h j) (s : List ℕ) where
   -- one that has no sources
   alone : {a : Action} {c : Cursor} {y x : syntax.Action} {bs : List ℕ} → sourcesOf a ≡ 0 → actionNamed j y ≡ ownNamed h a → read y (rest s c) ≡ read x bs → ActionIs h j s a c x bs
   unfolding items done
-  alone {a} {c} n k e = carry (λ x o. ActionIs h j s a c x o) e (record { sources = []; reads = rw n; same = k ∙ and-true (ownNamed h a) })
+  alone {a} {c} n k e = carry (λ x o. ActionIs h j s a c x o) e (record { sources = []; reads = rw n; same = k ∙ sym (and-true (ownNamed h a)) })
 
   pub action-is : (a : Action) (c : Cursor) {x : syntax.Action} {bs : List ℕ} → actionSays s (actionStep.Action a c) ≡ read x bs → ActionIs h j s a c x bs
   unfolding actionNamed done

@@ -3,7 +3,7 @@ use constraints::constrain;
 use infer::EndRule;
 use infer::Shape;
 use record::Head;
-use relate::Run;
+use relate::Site;
 ghost use mathlib.Core.Path.{_≡_};
 ghost use mathlib.Core.List.{List};
 ghost use Prim.Native.Nat.{ℕ, _≤_};
@@ -24,8 +24,8 @@ fn point(s: &[u8], layout: &[u16; 1280], head: Head, walked: &[u32; 32], p: usiz
     if !bit_set::test(walked, 0, p) {
         return;
     }
-    let run = Run { head, at: p as u16 };
-    constrain(s, layout, run, list);
+    let site = Site { head, at: p as u16 };
+    constrain(s, layout, site, list);
 }
 
 // Puts the constraints of point `from` and of those after it into the list, as far as it has room for all of a point's. Returns the first point left out.

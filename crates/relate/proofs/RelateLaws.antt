@@ -1,6 +1,6 @@
 -- What each way through the relation of two types adds. Assumes nothing.
 use mathlib.Core.Path.{_≡_, refl, sym, ap, subst, _∙_}
-use mathlib.Core.Bool.{Bool, true, false, _&&_, true≢false}
+use mathlib.Core.Bool.{true, and-eq-true-iff, true≢false}
 use mathlib.Core.List.{List, [], _∷_, _++_, tail}
 use Prim.Native.Nat.{ℕ, _+_, _-_, _*_, _≤_, _<_}
 use native.Mathlib.Omega.{arith}
@@ -20,7 +20,6 @@ use Rattle.repr.specs.Types.{node, NodeSays, nodesSays}
 use Rattle.repr.specs.Types as reprTypes
 use Rattle.repr.specs.declared.Cursor.{Cursor}
 use Rattle.repr.specs.declared.BorrowKind.{BorrowKind}
-use Rattle.repr.specs.declared.Variance.{Variance}
 use Rattle.repr.specs.declared.Region.{Region}
 use Rattle.repr.specs.declared.Region.the-variants as regions
 use Rattle.repr.specs.declared.RegionName.{RegionName}
@@ -38,7 +37,7 @@ use Rattle.repr.proofs.StandLaws.{NodeIs, node-is, on-node, none-is, args-passe
 use Rattle.repr.proofs.NodeLaws.{type-nodes, unit-nodes, ref-nodes, struct-nodes, region-nodes, first-nodes, tail-nodes}
 use Rattle.beside.specs.Beside.{headsOf, ParameterSays, TypesFirst, PairIs, FirstsSay}
 use Rattle.relate.specs.Relates.{Types, Arguments, Ends, Fewer, ParametersSay, relateFirst, OthersAt, Others, TypesRelate, FirstRelates, ArgumentsRelate, Relates, RelatesRef}
-use Rattle.relate.specs.declared.Run.{Run}
+use Rattle.relate.specs.declared.Site.{Site}
 use Rattle.relate.specs.declared.Both.{Both}
 use Rattle.relate.specs.declared.Both.the-variants.{Ended, Stopped}
 use Rattle.beside.specs.declared.Row.{Row}
@@ -99,14 +98,9 @@ module _ (at : syntax.Point) (ss : List syntax.StructDecl) where
       → relateFirst at ss g w h ++ relateArgs at ss (tailArgs g) v (tail ds) (tailArgs h) ≡ relateArgs at ss g v ds h
   rows-relate g v ds h x w = rw (w, x) (first-and-others g v ds h)
 
-both-true : (x y : Bool) → x && y ≡ true → (x ≡ true) × (y ≡ true)
-both-true true true e = (refl, refl)
-both-true true false e = absurd (true≢false (sym e))
-both-true false y e = absurd (true≢false (sym e))
-
 refs-alike : {t u first second : Ty} {k k′ : syntax.BorrowKind} {r o : syntax.Region} → t ≡ RefTy k r first → u ≡ RefTy k′ o second → sameShape t u ≡ true → sameShape first second ≡ true
 unfolding sameShape
-refs-alike {first = first} {second = second} {k = k} {k′ = k′} {o = o} e f h = both-true (isRefOf k (RefTy k′ o second)) (sameShape first second) (rw (e, f) at h) .1
+refs-alike {first = first} {second = second} {k = k} {k′ = k′} {o = o} e f h = and-eq-true-iff (isRefOf k (RefTy k′ o second)) (sameShape first second) .0 (rw (e, f) at h) .1
 
 regions-alike : {g more : Args} {r : syntax.Region} (h : Args) → g ≡ RegionArg r more → sameShapes g h ≡ true → sameShapes more (tailArgs h) ≡ true
 unfolding sameShapes
@@ -114,7 +108,7 @@ regions-alike h e i = rw e at i
 
 types-alike : {g more : Args} {t u : Ty} (h : Args) → g ≡ TypeArg t more → headType h ≡ u → sameShapes g h ≡ true → (sameShape t u ≡ true) × (sameShapes more (tailArgs h) ≡ true)
 unfolding sameShapes
-types-alike {more = more} {t = t} {u = u} h e f i = both-true (sameShape t u) (sameShapes more (tailArgs h)) (rw (e, f) at i)
+types-alike {more = more} {t = t} {u = u} h e f i = and-eq-true-iff (sameShape t u) (sameShapes more (tailArgs h)) .0 (rw (e, f) at i)
 
 -- ---- Nodes that are left
 
@@ -151,37 +145,37 @@ module _ {a : List ℕ} {x : ℕ} {b : List ℕ} {y left : ℕ} {j k : NodeStep}
         let fb = w .b-few in
         record { a-stand = i .a-stand; b-stand = i .b-stand; a-few = omega arith; b-few = omega arith; alike = sym (i .alike) ∙ w .alike }
 
-module _ {s t : List ℕ} {run : Run} {a : List ℕ} {x : ℕ} {b : List ℕ} {y left : ℕ} {v : syntax.Variance} {ls : List ℕ} where
-  pub types-none : left ≡ 0 → TypesRelate s t run a x b y left v ls ls Stopped
+module _ {s t : List ℕ} {site : Site} {a : List ℕ} {x : ℕ} {b : List ℕ} {y left : ℕ} {v : syntax.Variance} {ls : List ℕ} where
+  pub types-none : left ≡ 0 → TypesRelate s t site a x b y left v ls ls Stopped
   types-none z = record { adds = λ j l m n p q w. absurd (none m (w .a-few)); ends = λ m n p q w. none m (w .a-few); fewer = tt }
     where
       none : (m : Ty) → typeNodes m ≤ left → ⊥
       none m h = let k = type-nodes m in absurd (omega arith)
 
   module _ {j k : NodeStep} {h : Heads} (ma : NodeSays node a x j) (nb : NodeSays node b y k) (eh : h ≡ headsOf j k) where
-    pub types-differ : h ≡ heads.Differ → TypesRelate s t run a x b y left v ls ls Stopped
+    pub types-differ : h ≡ heads.Differ → TypesRelate s t site a x b y left v ls ls Stopped
     types-differ f = record {
       adds = λ j l m n p q w. absurd (true≢false (sym (w .alike) ∙ on-heads ma nb eh f m n p q w));
       ends = λ m n p q w. true≢false (sym (w .alike) ∙ on-heads ma nb eh f m n p q w);
       fewer = tt;
     }
 
-    pub types-units : {c d : Cursor} → h ≡ heads.Units c d → TypesRelate s t run a x b y left v ls ls (Ended (left - 1) c d)
+    pub types-units : {c d : Cursor} → h ≡ heads.Units c d → TypesRelate s t site a x b y left v ls ls (Ended (left - 1) c d)
     types-units f = record {
-      adds = λ j l m n p q w. adds-none (unit-relates (run .at) (j .structs) v n (on-heads ma nb eh f m n p q w .a-same));
+      adds = λ j l m n p q w. adds-none (unit-relates (site .at) (j .structs) v n (on-heads ma nb eh f m n p q w .a-same));
       ends = λ m n p q w. let o = on-heads ma nb eh f m n p q w in let i = unit-nodes (o .a-same) in record { nodes = omega arith; a-ends = o .a-ends; b-ends = o .b-ends };
       fewer = omega arith;
     }
 
     module _ {k′ : BorrowKind} {r o : Region} {c d : Cursor} (f : h ≡ heads.Refs k′ r c o d) (z : left ≡ 0 → ⊥) where
       pub types-refs : {vi vr vw : syntax.Variance} {ls₁ ls₂ : List ℕ} {res : Both} → vi ≡ invert v → vr ≡ referentVariance (borrowKindOf k′) → vw ≡ within v vr
-          → Adds (relateRegions (run .at) vi (regionOf r) (regionOf o)) ls ls₁
-          → TypesRelate s t run a (c .at) b (d .at) (left - 1) vw ls₁ ls₂ res
-          → TypesRelate s t run a x b y left v ls ls₂ res
+          → Adds (relateRegions (site .at) vi (regionOf r) (regionOf o)) ls ls₁
+          → TypesRelate s t site a (c .at) b (d .at) (left - 1) vw ls₁ ls₂ res
+          → TypesRelate s t site a x b y left v ls ls₂ res
       types-refs {vi} {vr} {vw} {ls₂ = ls₂} {res = res} ei er ew one more = record {
         adds = λ j l m n p q w.
             let i = on-heads ma nb eh f m n p q w in
-            subst (λ (cs : List Outlives). Adds cs ls ls₂) (ref-relates (run .at) (j .structs) v (i .a-same) (i .b-same) ei er ew)
+            subst (λ (cs : List Outlives). Adds cs ls ls₂) (ref-relates (site .at) (j .structs) v (i .a-same) (i .b-same) ei er ew)
             (adds-append one (more .adds j l (i .first) (i .second) p q (ref-parts ma nb eh f z m n p q w)));
         ends = λ m n p q w.
             let i = on-heads ma nb eh f m n p q w in
@@ -192,13 +186,13 @@ module _ {s t : List ℕ} {run : Run} {a : List ℕ} {x : ℕ} {b : List ℕ} {y
       }
 
     module _ {name : StructName} {c d : Row} (f : h ≡ heads.Structs name c d) (z : left ≡ 0 → ⊥) where
-      pub types-structs : {params : Row} {ls₁ : List ℕ} {res : Both} → ParametersSay s t (run .head) (name .0) params
-          → ArgumentsRelate s t run params a c b d (left - 1) v ls ls₁ res
-          → TypesRelate s t run a x b y left v ls ls₁ res
+      pub types-structs : {params : Row} {ls₁ : List ℕ} {res : Both} → ParametersSay s t (site .head) (name .0) params
+          → ArgumentsRelate s t site params a c b d (left - 1) v ls ls₁ res
+          → TypesRelate s t site a x b y left v ls ls₁ res
       types-structs {ls₁ = ls₁} {res = res} declared more = record {
         adds = λ j l m n p q w.
             let i = on-heads ma nb eh f m n p q w in
-            subst (λ (cs : List Outlives). Adds cs ls ls₁) (struct-relates (run .at) (j .structs) v (i .a-same) (i .b-same))
+            subst (λ (cs : List Outlives). Adds cs ls ls₁) (struct-relates (site .at) (j .structs) v (i .a-same) (i .b-same))
             (more .adds j l (structOf (j .structs) (name .0) .params) (declared .says j l) (i .first) (i .second) p q (struct-parts ma nb eh f z m n p q w));
         ends = λ m n p q w.
             let i = on-heads ma nb eh f m n p q w in
@@ -245,16 +239,16 @@ module _ {a : List ℕ} {x : Row} {b : List ℕ} {y : Row} {left : ℕ} (zx : x 
       let fb = w .b-few in
       record { a-stands = i .first .first; b-stands = i .second .first; a-few = omega arith; b-few = omega arith; alike = types-alike h (i .first .same) (head-is h (i .second .same)) (w .alike) .0 }
 
-module _ {s t : List ℕ} {run : Run} {a : List ℕ} {x : Row} {b : List ℕ} {y : Row} {left : ℕ} {v : syntax.Variance} {ls : List ℕ} (zx : x .count ≡ 0 → ⊥) {pair : Pair} (np : FirstsSay a (x .from .at) b y pair) where
-  pub first-differ : pair ≡ pairs.Differ → FirstRelates s t run a x b y left v ls ls Stopped
+module _ {s t : List ℕ} {site : Site} {a : List ℕ} {x : Row} {b : List ℕ} {y : Row} {left : ℕ} {v : syntax.Variance} {ls : List ℕ} (zx : x .count ≡ 0 → ⊥) {pair : Pair} (np : FirstsSay a (x .from .at) b y pair) where
+  pub first-differ : pair ≡ pairs.Differ → FirstRelates s t site a x b y left v ls ls Stopped
   first-differ e = record { adds = λ j l g h p q w. absurd (true≢false (sym (w .alike) ∙ on-pair zx np e g h p q w)); ends = λ g h p q w. true≢false (sym (w .alike) ∙ on-pair zx np e g h p q w); fewer = tt }
 
-  pub first-regions : {r o : Region} {c d : Cursor} {ls₁ : List ℕ} → pair ≡ pairs.Regions r c o d → Adds (relateRegions (run .at) v (regionOf r) (regionOf o)) ls ls₁
-      → FirstRelates s t run a x b y left v ls ls₁ (Ended left c d)
+  pub first-regions : {r o : Region} {c d : Cursor} {ls₁ : List ℕ} → pair ≡ pairs.Regions r c o d → Adds (relateRegions (site .at) v (regionOf r) (regionOf o)) ls ls₁
+      → FirstRelates s t site a x b y left v ls ls₁ (Ended left c d)
   first-regions {ls₁ = ls₁} e one = record {
     adds = λ j l g h p q w.
         let i = on-pair zx np e g h p q w in
-        subst (λ (cs : List Outlives). Adds cs ls ls₁) (region-first (run .at) (j .structs) v h (i .same) (i .second .region)) one;
+        subst (λ (cs : List Outlives). Adds cs ls ls₁) (region-first (site .at) (j .structs) v h (i .same) (i .second .region)) one;
     ends = λ g h p q w.
         let i = on-pair zx np e g h p q w in
         others-at 0 (tail-of g (i .same)) (omega (arith, region-nodes (i .same))) (omega arith) (w .a-few) (w .b-few) (i .others) (i .second .others) (regions-alike h (i .same) (w .alike));
@@ -262,29 +256,29 @@ module _ {s t : List ℕ} {run : Run} {a : List ℕ} {x : Row} {b : List ℕ} {y
   }
 
   module _ {c d : Cursor} (e : pair ≡ pairs.Units c d) where
-    pub first-spent : left ≡ 0 → FirstRelates s t run a x b y left v ls ls Stopped
+    pub first-spent : left ≡ 0 → FirstRelates s t site a x b y left v ls ls Stopped
     first-spent f = record { adds = λ j l g h p q w. absurd (spent g h p q w); ends = spent; fewer = tt }
       where
         spent : (g h : Args) (p q : List ℕ) → Arguments a x b y left g h p q → ⊥
         spent g h p q w = let k = unit-few zx np e g h p q w in let l = w .a-few in absurd (omega arith)
 
-    pub first-units : FirstRelates s t run a x b y left v ls ls (Ended (left - 1) c d)
+    pub first-units : FirstRelates s t site a x b y left v ls ls (Ended (left - 1) c d)
     first-units = record {
       adds = λ j l g h p q w.
           let i = on-pair zx np e g h p q w in
-          adds-none (sym (type-first (run .at) (j .structs) v h (i .same) (i .second .unit)) ∙ unit-relates (run .at) (j .structs) v UnitTy refl);
+          adds-none (sym (type-first (site .at) (j .structs) v h (i .same) (i .second .unit)) ∙ unit-relates (site .at) (j .structs) v UnitTy refl);
       ends = λ g h p q w.
           let i = on-pair zx np e g h p q w in
           others-at 1 (tail-is g (i .same)) (unit-few zx np e g h p q w) refl (w .a-few) (w .b-few) (i .others) (i .second .others) (types-alike h (i .same) (i .second .unit) (w .alike) .1);
       fewer = omega arith;
     }
 
-  pub first-types : {c d : Cursor} {ls₁ : List ℕ} {res : Both} → pair ≡ pairs.Types c d → TypesRelate s t run a (c .at) b (d .at) left v ls ls₁ res
-      → FirstRelates s t run a x b y left v ls ls₁ res
+  pub first-types : {c d : Cursor} {ls₁ : List ℕ} {res : Both} → pair ≡ pairs.Types c d → TypesRelate s t site a (c .at) b (d .at) left v ls ls₁ res
+      → FirstRelates s t site a x b y left v ls ls₁ res
   first-types {ls₁ = ls₁} {res = res} e u = record {
     adds = λ j l g h p q w.
         let i = on-pair zx np e g h p q w in
-        subst (λ (cs : List Outlives). Adds cs ls ls₁) (type-first (run .at) (j .structs) v h (i .first .same) (head-is h (i .second .same)))
+        subst (λ (cs : List Outlives). Adds cs ls ls₁) (type-first (site .at) (j .structs) v h (i .first .same) (head-is h (i .second .same)))
         (u .adds j l (i .first .item) (i .second .item) (i .first .mid) (i .second .mid) (first-parts zx np e g h p q w));
     ends = λ g h p q w.
         let i = on-pair zx np e g h p q w in
@@ -303,7 +297,7 @@ module _ {s t : List ℕ} {run : Run} {a : List ℕ} {x : Row} {b : List ℕ} {y
 
 -- ---- Two rows of arguments
 
-module _ {s t : List ℕ} {run : Run} {a : List ℕ} {x : Row} {b : List ℕ} {y : Row} {left : ℕ} {v : syntax.Variance} {ls ls₁ : List ℕ} {one : Both} (u : FirstRelates s t run a x b y left v ls ls₁ one) where
+module _ {s t : List ℕ} {site : Site} {a : List ℕ} {x : Row} {b : List ℕ} {y : Row} {left : ℕ} {v : syntax.Variance} {ls ls₁ : List ℕ} {one : Both} (u : FirstRelates s t site a x b y left v ls ls₁ one) where
   on-first : {w : Both} → one ≡ w → (g h : Args) (p q : List ℕ) → Arguments a x b y left g h p q → Others a (x .count) b (y .count) left g h p q w
   on-first e g h p q w = subst (λ (z : Both). Others a (x .count) b (y .count) left g h p q z) e (u .ends g h p q w)
 
@@ -313,18 +307,18 @@ module _ {s t : List ℕ} {run : Run} {a : List ℕ} {x : Row} {b : List ℕ} {y
       let i = on-first e g h p q w .stand in
       record { a-stand = rw (ex .0, ex .1) (i .a-stand); b-stand = rw (ey .0, ey .1) (i .b-stand); a-few = i .a-few; b-few = i .b-few; alike = i .alike }
 
-module _ {s t : List ℕ} {run : Run} {params : Row} {a : List ℕ} {x : Row} {b : List ℕ} {y : Row} {left : ℕ} {v : syntax.Variance} {ls : List ℕ} where
+module _ {s t : List ℕ} {site : Site} {params : Row} {a : List ℕ} {x : Row} {b : List ℕ} {y : Row} {left : ℕ} {v : syntax.Variance} {ls : List ℕ} where
   module _ {r : NodesStep} (n : reprTypes.ArgumentsSay b (y .from .at) (y .count) 32 r) (z : x .count ≡ 0) where
-    pub arguments-short : {k : ℕ} → r ≡ nodesStep.Refused k → ArgumentsRelate s t run params a x b y left v ls ls Stopped
+    pub arguments-short : {k : ℕ} → r ≡ nodesStep.Refused k → ArgumentsRelate s t site params a x b y left v ls ls Stopped
     arguments-short e = record { adds = λ j l ds o g h p q w. absurd (short g h p q w); ends = short; fewer = tt }
       where
         short : (g h : Args) (p q : List ℕ) → Arguments a x b y left g h p q → ⊥
         short g h p q w = clash (sym (ap (nodesSays b) e) ∙ args-passed n (w .b-stand) (w .b-few))
 
-    pub arguments-none : {l : ℕ} {d : Cursor} → r ≡ nodesStep.Ended l d → ArgumentsRelate s t run params a x b y left v ls ls (Ended left (x .from) d)
+    pub arguments-none : {l : ℕ} {d : Cursor} → r ≡ nodesStep.Ended l d → ArgumentsRelate s t site params a x b y left v ls ls (Ended left (x .from) d)
     unfolding argNodes
     arguments-none {l} {d} e = record {
-      adds = λ j l ds o g h p q w. adds-none (none-relates (run .at) (j .structs) v ds h (none-is z (w .a-stand) .same));
+      adds = λ j l ds o g h p q w. adds-none (none-relates (site .at) (j .structs) v ds h (none-is z (w .a-stand) .same));
       ends = λ g h p q w.
           let i = none-is z (w .a-stand) in
           let k = sym (ap (nodesSays b) e) ∙ args-passed n (w .b-stand) (w .b-few) in
@@ -333,17 +327,17 @@ module _ {s t : List ℕ} {run : Run} {params : Row} {a : List ℕ} {x : Row} {b
       fewer = le-refl left;
     }
 
-  module _ {own : Parameter} (par : ParameterSays s params own) {vw : syntax.Variance} (ew : vw ≡ within v (varianceOf (own .variance))) {ls₁ : List ℕ} {one : Both} (u : FirstRelates s t run a x b y left vw ls ls₁ one) where
-    pub arguments-stopped : one ≡ Stopped → ArgumentsRelate s t run params a x b y left v ls ls₁ Stopped
+  module _ {own : Parameter} (par : ParameterSays s params own) {vw : syntax.Variance} (ew : vw ≡ within v (varianceOf (own .variance))) {ls₁ : List ℕ} {one : Both} (u : FirstRelates s t site a x b y left vw ls ls₁ one) where
+    pub arguments-stopped : one ≡ Stopped → ArgumentsRelate s t site params a x b y left v ls ls₁ Stopped
     arguments-stopped e = record { adds = λ j l ds o g h p q w. absurd (on-first u e g h p q w); ends = on-first u e; fewer = tt }
 
     module _ {rem : ℕ} {c d : Cursor} (e : one ≡ Ended rem c d) {x′ y′ : Row} (ex : (x′ .from ≡ c) × (x′ .count ≡ x .count - 1)) (ey : (y′ .from ≡ d) × (y′ .count ≡ y .count - 1)) where
-      pub arguments-more : {ls₂ : List ℕ} {res : Both} → ArgumentsRelate s t run (own .others) a x′ b y′ rem v ls₁ ls₂ res
-          → ArgumentsRelate s t run params a x b y left v ls ls₂ res
+      pub arguments-more : {ls₂ : List ℕ} {res : Both} → ArgumentsRelate s t site (own .others) a x′ b y′ rem v ls₁ ls₂ res
+          → ArgumentsRelate s t site params a x b y left v ls ls₂ res
       arguments-more {ls₂} {res} more = record {
         adds = λ j l ds o g h p q w.
             let k = par .says ds o in
-            subst (λ (cs : List Outlives). Adds cs ls ls₂) (rows-relate (run .at) (j .structs) g v ds h (k .variance) ew)
+            subst (λ (cs : List Outlives). Adds cs ls ls₂) (rows-relate (site .at) (j .structs) g v ds h (k .variance) ew)
             (adds-append (u .adds j l g h p q w) (more .adds j l (tail ds) (k .others) (tailArgs g) (tailArgs h) p q (others-stand u e ex ey g h p q w)));
         ends = λ g h p q w. subst (λ (l : ℕ). Ends a b l p q res) (on-first u e g h p q w .nodes) (more .ends (tailArgs g) (tailArgs h) p q (others-stand u e ex ey g h p q w));
         fewer = fewer-still res (more .fewer) (rest-fewer one (u .fewer) e);
@@ -351,15 +345,15 @@ module _ {s t : List ℕ} {run : Run} {params : Row} {a : List ℕ} {x : Row} {b
 
 -- ---- Whole types
 
-module _ {s t : List ℕ} {run : Run} {a : List ℕ} {x : ℕ} {b : List ℕ} {y : ℕ} {v : syntax.Variance} {ls : List ℕ} where
-  pub whole-types : {ls′ : List ℕ} {r : Both} → TypesRelate s t run a x b y 32 v ls ls′ r → Relates s t run a x b y v ls ls′
+module _ {s t : List ℕ} {site : Site} {a : List ℕ} {x : ℕ} {b : List ℕ} {y : ℕ} {v : syntax.Variance} {ls : List ℕ} where
+  pub whole-types : {ls′ : List ℕ} {r : Both} → TypesRelate s t site a x b y 32 v ls ls′ r → Relates s t site a x b y v ls ls′
   whole-types w = record {
     adds = λ j l m n p q h i k.
         w .adds j l m n (p .over) (q .over) (record { a-stands = p .stands; b-stands = q .stands; a-few = h; b-few = i; alike = is-true _ k });
   }
 
   module _ {d : NodeStep} (m : NodeSays node a x d) {o : RegionName} where
-    pub ref-other : OneOf (0 ∷ 2 ∷ 3 ∷ 4 ∷ []) (tagOf the-type d) → RelatesRef (o .0) s t run a x b y v ls ls
+    pub ref-other : OneOf (0 ∷ 2 ∷ 3 ∷ 4 ∷ []) (tagOf the-type d) → RelatesRef (o .0) s t site a x b y v ls ls
     unfolding sameShape
     ref-other f = record { adds = λ j l t u k p q h i e. absurd (go t u k (p .over) d f (node-is m (p .stands)) (is-true _ e)) }
       where
@@ -370,16 +364,16 @@ module _ {s t : List ℕ} {run : Run} {a : List ℕ} {x : ℕ} {b : List ℕ} {y
         go t u k over (nodeStep.Bound j c) e w i = true≢false (sym i ∙ rw (w .same))
         go t u k over (nodeStep.Refused j) e w i = w
 
-    pub ref-runs : {k′ : BorrowKind} {r : Region} {c : Cursor} {vi vr vw : syntax.Variance} {ls₁ ls₂ : List ℕ} → d ≡ nodeStep.Ref k′ r c
+    pub ref-adds : {k′ : BorrowKind} {r : Region} {c : Cursor} {vi vr vw : syntax.Variance} {ls₁ ls₂ : List ℕ} → d ≡ nodeStep.Ref k′ r c
         → vi ≡ invert v → vr ≡ referentVariance (borrowKindOf k′) → vw ≡ within v vr
-        → Adds (relateRegions (run .at) vi (regionOf r) (Free (o .0))) ls ls₁
-        → Relates s t run a (c .at) b y vw ls₁ ls₂
-        → RelatesRef (o .0) s t run a x b y v ls ls₂
-    ref-runs {ls₂ = ls₂} f ei er ew one more = record {
+        → Adds (relateRegions (site .at) vi (regionOf r) (Free (o .0))) ls ls₁
+        → Relates s t site a (c .at) b y vw ls₁ ls₂
+        → RelatesRef (o .0) s t site a x b y v ls ls₂
+    ref-adds {ls₂ = ls₂} f ei er ew one more = record {
       adds = λ j l t u k p q h i e.
           let w = on-node m f (p .stands) in
           let n = ref-nodes (w .same) in
-          subst (λ (cs : List Outlives). Adds cs ls ls₂) (ref-relates (run .at) (j .structs) v (w .same) refl ei er ew)
+          subst (λ (cs : List Outlives). Adds cs ls ls₂) (ref-relates (site .at) (j .structs) v (w .same) refl ei er ew)
           (adds-append one (more .adds j l (w .referent) u (record { over = p .over; stands = w .stands }) q (omega arith) i (passes _ (refs-alike {u = RefTy k (Free (o .0)) u} (w .same) refl (is-true _ e)))));
     }
 

@@ -15,7 +15,7 @@ use Rattle.repr.specs.Stands.{Stands, TypeTo, ArgsTo, TypeAt}
 use Rattle.record.specs.Layout.{Layout}
 use Rattle.record.specs.declared.Head.{Head}
 use Rattle.constraint_list.specs.Listed.{Adds}
-use Rattle.relate.specs.declared.Run.{Run}
+use Rattle.relate.specs.declared.Site.{Site}
 use Rattle.beside.specs.declared.Row.{Row}
 use Rattle.relate.specs.declared.Both.{Both}
 use Rattle.relate.specs.declared.Both.the-variants as both
@@ -73,24 +73,24 @@ abbrev pub Others : List ℕ → ℕ → List ℕ → ℕ → ℕ → Args → A
 Others a m b n left g h p q (both.Ended l c d) = OthersAt a (record { from = c; count = m - 1 }) b (record { from = d; count = n - 1 }) left l g h p q
 Others a m b n left g h p q both.Stopped = ⊥
 
-module _ (s t : List ℕ) (run : Run) where
+module _ (s t : List ℕ) (site : Site) where
   pub record TypesRelate (a : List ℕ) (x : ℕ) (b : List ℕ) (y left : ℕ) (v : Variance) (ls ls′ : List ℕ) (r : Both) : Type 0 where
-    pub adds : (j : Job) → Layout s t (run .head) j → (m n : Ty) (p q : List ℕ) → Types a x b y left m n p q
-        → Adds (relate (run .at) (j .structs) m v n) ls ls′
+    pub adds : (j : Job) → Layout s t (site .head) j → (m n : Ty) (p q : List ℕ) → Types a x b y left m n p q
+        → Adds (relate (site .at) (j .structs) m v n) ls ls′
     pub ends : (m n : Ty) (p q : List ℕ) → Types a x b y left m n p q → Ends a b (left - typeNodes m) p q r
     pub fewer : Fewer left r
 
   -- The first arguments, under their own variance.
   pub record FirstRelates (a : List ℕ) (x : Row) (b : List ℕ) (y : Row) (left : ℕ) (v : Variance) (ls ls′ : List ℕ) (r : Both) : Type 0 where
-    pub adds : (j : Job) → Layout s t (run .head) j → (g h : Args) (p q : List ℕ) → Arguments a x b y left g h p q
-        → Adds (relateFirst (run .at) (j .structs) g v h) ls ls′
+    pub adds : (j : Job) → Layout s t (site .head) j → (g h : Args) (p q : List ℕ) → Arguments a x b y left g h p q
+        → Adds (relateFirst (site .at) (j .structs) g v h) ls ls′
     pub ends : (g h : Args) (p q : List ℕ) → Arguments a x b y left g h p q → Others a (x .count) b (y .count) left g h p q r
     pub fewer : Fewer left r
 
   pub record ArgumentsRelate (params : Row) (a : List ℕ) (x : Row) (b : List ℕ) (y : Row) (left : ℕ) (v : Variance) (ls ls′ : List ℕ) (r : Both) : Type 0 where
-    pub adds : (j : Job) → Layout s t (run .head) j → (ds : List Param) → Stands (items (params .count) param) ds (rest s (params .from))
+    pub adds : (j : Job) → Layout s t (site .head) j → (ds : List Param) → Stands (items (params .count) param) ds (rest s (params .from))
         → (g h : Args) (p q : List ℕ) → Arguments a x b y left g h p q
-        → Adds (relateArgs (run .at) (j .structs) g v ds h) ls ls′
+        → Adds (relateArgs (site .at) (j .structs) g v ds h) ls ls′
     pub ends : (g h : Args) (p q : List ℕ) → Arguments a x b y left g h p q → Ends a b (left - argNodes g) p q r
     pub fewer : Fewer left r
 
@@ -98,11 +98,11 @@ module _ (s t : List ℕ) (run : Run) where
 
   -- The constraints of the two types that stand there are added, if the types have one shape.
   pub record Relates (a : List ℕ) (x : ℕ) (b : List ℕ) (y : ℕ) (v : Variance) (ls ls′ : List ℕ) : Type 0 where
-    pub adds : (j : Job) → Layout s t (run .head) j → (m n : Ty) → TypeAt a x m → TypeAt b y n → typeNodes m ≤ maxNodes → typeNodes n ≤ maxNodes → T (sameShape m n)
-        → Adds (relate (run .at) (j .structs) m v n) ls ls′
+    pub adds : (j : Job) → Layout s t (site .head) j → (m n : Ty) → TypeAt a x m → TypeAt b y n → typeNodes m ≤ maxNodes → typeNodes n ≤ maxNodes → T (sameShape m n)
+        → Adds (relate (site .at) (j .structs) m v n) ls ls′
 
 -- The same for a Ref of a region to the second.
-pub record RelatesRef (o : RegionName) (s t : List ℕ) (run : Run) (a : List ℕ) (x : ℕ) (b : List ℕ) (y : ℕ) (v : Variance) (ls ls′ : List ℕ) : Type 0 where
-  pub adds : (j : Job) → Layout s t (run .head) j → (m n : Ty) (k : BorrowKind) → TypeAt a x m → TypeAt b y n → typeNodes m ≤ maxNodes → typeNodes n ≤ maxNodes
+pub record RelatesRef (o : RegionName) (s t : List ℕ) (site : Site) (a : List ℕ) (x : ℕ) (b : List ℕ) (y : ℕ) (v : Variance) (ls ls′ : List ℕ) : Type 0 where
+  pub adds : (j : Job) → Layout s t (site .head) j → (m n : Ty) (k : BorrowKind) → TypeAt a x m → TypeAt b y n → typeNodes m ≤ maxNodes → typeNodes n ≤ maxNodes
       → T (sameShape m (RefTy k (Free o) n))
-      → Adds (relate (run .at) (j .structs) m v (RefTy k (Free o) n)) ls ls′
+      → Adds (relate (site .at) (j .structs) m v (RefTy k (Free o) n)) ls ls′

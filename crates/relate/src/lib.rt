@@ -28,7 +28,7 @@ ghost use Rattle.constraint_list.specs.Listed.{Adds};
 ghost use Rattle.relate.specs.Relates.{ParametersSay, TypesRelate, FirstRelates, ArgumentsRelate, Relates, RelatesRef};
 
 // What constraints are made with: the record's head, and their point.
-pub struct Run {
+pub struct Site {
     pub head: Head,
     pub at: u16,
 }
@@ -55,8 +55,8 @@ enum Both {
 }
 
 // The first outlives the second. A bound gives no constraint.
-pub fn require_outlives(sup: Region, sub: Region, run: Run, list: &mut [u16])
-    ensures { λ _. ⌜ Adds (requireOutlives (run .at) (regionOf sup) (regionOf sub))
+pub fn require_outlives(sup: Region, sub: Region, site: Site, list: &mut [u16])
+    ensures { λ _. ⌜ Adds (requireOutlives (site .at) (regionOf sup) (regionOf sub))
         (now (list .entry)) (now (list .exit)) ⌝ }
 {
     let Region::Free(m) = sup else {
@@ -68,22 +68,22 @@ pub fn require_outlives(sup: Region, sub: Region, run: Run, list: &mut [u16])
     let c = Constraint {
         sup: m.0,
         sub: n.0,
-        point: run.at,
+        point: site.at,
     };
     constraint_list::add(list, c);
 }
 
 // Co: the second outlives the first. Contra: the first outlives the second. In: both.
-fn relate_regions(variance: Variance, a: Region, b: Region, run: Run, list: &mut [u16])
-    ensures { λ _. ⌜ Adds (relateRegions (run .at) (varianceOf variance) (regionOf a) (regionOf b))
+fn relate_regions(variance: Variance, a: Region, b: Region, site: Site, list: &mut [u16])
+    ensures { λ _. ⌜ Adds (relateRegions (site .at) (varianceOf variance) (regionOf a) (regionOf b))
         (now (list .entry)) (now (list .exit)) ⌝ }
 {
     match variance {
-        Variance::Co => require_outlives(b, a, run, list),
-        Variance::Contra => require_outlives(a, b, run, list),
+        Variance::Co => require_outlives(b, a, site, list),
+        Variance::Contra => require_outlives(a, b, site, list),
         Variance::In => {
-            require_outlives(a, b, run, list);
-            require_outlives(b, a, run, list)
+            require_outlives(a, b, site, list);
+            require_outlives(b, a, site, list)
         }
     }
 }
@@ -109,11 +109,11 @@ fn relate_types(
     b: &[u8],
     two: Types,
     v: Variance,
-    run: Run,
+    site: Site,
     list: &mut [u16],
 ) -> Both
     requires { ⌜ length (now layout) ≡ 1280 ⌝ }
-    ensures { λ r. ⌜ TypesRelate (now (s .entry)) (now (layout .entry)) run
+    ensures { λ r. ⌜ TypesRelate (now (s .entry)) (now (layout .entry)) site
         (now (a .entry)) (two .a .at) (now (b .entry)) (two .b .at) (two .left) (varianceOf v)
         (now (list .entry)) (now (list .exit)) r ⌝ }
 {
@@ -133,13 +133,13 @@ fn relate_types(
             o,
             b: q,
         } => {
-            relate_regions(invert(v), r, o, run, list);
+            relate_regions(invert(v), r, o, site, list);
             let w = within(v, referent_variance(kind));
             let to = Types { a: p, b: q, left };
-            relate_types(s, layout, a, b, to, w, run, list)
+            relate_types(s, layout, a, b, to, w, site, list)
         }
         Heads::Structs { name, a: g, b: h } => {
-            let head = run.head;
+            let head = site.head;
             let params = parameters_of(s, layout, head, name);
             let of = Rows {
                 params,
@@ -147,7 +147,7 @@ fn relate_types(
                 b: h,
                 left,
             };
-            relate_arguments(s, layout, a, b, of, v, run, list)
+            relate_arguments(s, layout, a, b, of, v, site, list)
         }
     }
 }
@@ -160,11 +160,11 @@ fn relate_first(
     b: &[u8],
     two: Rows,
     v: Variance,
-    run: Run,
+    site: Site,
     list: &mut [u16],
 ) -> Both
     requires { ⌜ (length (now layout) ≡ 1280) × (two .a .count ≡ 0 → ⊥) ⌝ }
-    ensures { λ r. ⌜ FirstRelates (now (s .entry)) (now (layout .entry)) run
+    ensures { λ r. ⌜ FirstRelates (now (s .entry)) (now (layout .entry)) site
         (now (a .entry)) (two .a) (now (b .entry)) (two .b) (two .left) (varianceOf v)
         (now (list .entry)) (now (list .exit)) r ⌝ }
 {
@@ -175,7 +175,7 @@ fn relate_first(
     match first_pair(a, x, b, h) {
         Pair::Differ => Both::Stopped,
         Pair::Regions { r, a: p, o, b: q } => {
-            relate_regions(v, r, o, run, list);
+            relate_regions(v, r, o, site, list);
             Both::Ended { left, a: p, b: q }
         }
         Pair::Units(p, q) => {
@@ -190,7 +190,7 @@ fn relate_first(
         }
         Pair::Types(p, q) => {
             let to = Types { a: p, b: q, left };
-            relate_types(s, layout, a, b, to, v, run, list)
+            relate_types(s, layout, a, b, to, v, site, list)
         }
     }
 }
@@ -203,11 +203,11 @@ fn relate_arguments(
     b: &[u8],
     two: Rows,
     v: Variance,
-    run: Run,
+    site: Site,
     list: &mut [u16],
 ) -> Both
     requires { ⌜ length (now layout) ≡ 1280 ⌝ }
-    ensures { λ r. ⌜ ArgumentsRelate (now (s .entry)) (now (layout .entry)) run
+    ensures { λ r. ⌜ ArgumentsRelate (now (s .entry)) (now (layout .entry)) site
         (two .params) (now (a .entry)) (two .a) (now (b .entry)) (two .b) (two .left) (varianceOf v)
         (now (list .entry)) (now (list .exit)) r ⌝ }
 {
@@ -229,7 +229,7 @@ fn relate_arguments(
     let own = first_parameter(s, params);
     let declared = own.variance;
     let w = within(v, declared);
-    match relate_first(s, layout, a, b, two, w, run, list) {
+    match relate_first(s, layout, a, b, two, w, site, list) {
         Both::Stopped => Both::Stopped,
         Both::Ended { left, a: p, b: q } => {
             let others = own.others;
@@ -239,7 +239,7 @@ fn relate_arguments(
                 b: after(h, q),
                 left,
             };
-            relate_arguments(s, layout, a, b, to, v, run, list)
+            relate_arguments(s, layout, a, b, to, v, site, list)
         }
     }
 }
@@ -253,11 +253,11 @@ pub fn relate(
     b: &[u8],
     y: Cursor,
     variance: Variance,
-    run: Run,
+    site: Site,
     list: &mut [u16],
 )
     requires { ⌜ length (now layout) ≡ 1280 ⌝ }
-    ensures { λ _. ⌜ Relates (now (s .entry)) (now (layout .entry)) run
+    ensures { λ _. ⌜ Relates (now (s .entry)) (now (layout .entry)) site
         (now (a .entry)) (x .at) (now (b .entry)) (y .at) (varianceOf variance)
         (now (list .entry)) (now (list .exit)) ⌝ }
 {
@@ -266,7 +266,7 @@ pub fn relate(
         b: y,
         left: 32,
     };
-    relate_types(s, layout, a, b, two, variance, run, list);
+    relate_types(s, layout, a, b, two, variance, site, list);
 }
 
 // Relates the type at x of a with a Ref of a region to the type at y of b, which has its shape.
@@ -279,11 +279,11 @@ pub fn relate_ref(
     b: &[u8],
     y: Cursor,
     variance: Variance,
-    run: Run,
+    site: Site,
     list: &mut [u16],
 )
     requires { ⌜ length (now layout) ≡ 1280 ⌝ }
-    ensures { λ _. ⌜ RelatesRef (region .0) (now (s .entry)) (now (layout .entry)) run
+    ensures { λ _. ⌜ RelatesRef (region .0) (now (s .entry)) (now (layout .entry)) site
         (now (a .entry)) (x .at) (now (b .entry)) (y .at) (varianceOf variance)
         (now (list .entry)) (now (list .exit)) ⌝ }
 {
@@ -295,7 +295,7 @@ pub fn relate_ref(
     else {
         return;
     };
-    relate_regions(invert(variance), r, Region::Free(region), run, list);
+    relate_regions(invert(variance), r, Region::Free(region), site, list);
     let v = within(variance, referent_variance(kind));
-    relate(s, layout, a, referent, b, y, v, run, list);
+    relate(s, layout, a, referent, b, y, v, site, list);
 }

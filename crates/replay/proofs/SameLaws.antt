@@ -1,28 +1,22 @@
 -- Two lists that are compared element by element, and the buffers that the call is to leave. Assumes nothing.
 use mathlib.Core.Path.{_≡_, refl, sym, ap, ap₂, subst, _∙_}
-use mathlib.Core.Bool.{Bool, true, false, _&&_}
+use mathlib.Core.Bool.{Bool, true, false, _&&_, and-eq-true-iff}
 use mathlib.Core.List.{List, [], _∷_}
-use Prim.Native.Nat.{ℕ, zero, suc, _+_, _-_, _≤_, _<_}
+use Prim.Native.Nat.{ℕ, _+_, _-_, _≤_, _<_}
 use native.Mathlib.Omega.{arith}
 use lib.ListN.{length, getD, drop, length-append, length-drop, length-replicate, getD-replicate, length-map, List·getD-append}
 use lib.Seq.{ext-getD, getD-append-add, getD-drop, getD-take, length-take-le}
 use lib.Dec.{eqb}
 use borrow.Author.Count.{below-none, below-more}
 use borrow.Author.Tests.{eqb-true, eq-eqb}
-use Rattle.nll_spec.specs.Lists.{below, countFrom}
+use Rattle.nll_spec.specs.Lists.{below}
 use Rattle.nll_spec.specs.Cases.{sameList}
 use Rattle.nll_spec.specs.Output.{overwrite}
+use Rattle.nll_spec.proofs.Tests.{length-countFrom}
 use Rattle.nll_spec.proofs.Lookup.{getD-map-below}
 use Rattle.replay.specs.File.{wordAt, wordsAt, partOf, wordsBefore, bytesBefore}
 
 -- ---- Equal lists
-
-both-true : (a b : Bool) → (a && b) ≡ true → (a ≡ true) × (b ≡ true)
-both-true true b e = (refl, e)
-both-true false b e = let z : false ≡ true = e in (z, absurd (clash z))
-  where
-    clash : false ≡ true → ⊥
-    clash z = let y : _≡_ {A = ℕ} 0 1 = cc in omega arith
 
 same-self : (a : List ℕ) → sameList a a ≡ true
 same-self [] = refl
@@ -33,7 +27,7 @@ same-equal [] [] e = refl
 same-equal [] (y ∷ ys) e = absurd (let z : _≡_ {A = ℕ} 0 1 = cc in omega arith)
 same-equal (x ∷ xs) [] e = absurd (let z : _≡_ {A = ℕ} 0 1 = cc in omega arith)
 same-equal (x ∷ xs) (y ∷ ys) e =
-    let t = both-true (eqb x y) (sameList xs ys) e in
+    let t = and-eq-true-iff (eqb x y) (sameList xs ys) .0 e in
     ap₂ (λ (z : ℕ) (zs : List ℕ). z ∷ zs) (eqb-true x y (t .0)) (same-equal xs ys (t .1))
 
 same-no : (a b : List ℕ) → (a ≡ b → ⊥) → false ≡ sameList a b
@@ -85,10 +79,6 @@ module _ (new old : List ℕ) where
   over-longer h = omega (arith, length-append new (drop (length new) old))
 
 -- ---- The file's words and bytes in a buffer
-
-length-countFrom : (i n : ℕ) → length (countFrom i n) ≡ n
-length-countFrom i zero = refl
-length-countFrom i (suc n) = ap suc (length-countFrom (suc i) n)
 
 length-wordsAt : (s : List ℕ) (at n : ℕ) → length (wordsAt s at n) ≡ n
 unfolding wordsAt

@@ -4,7 +4,7 @@ use super::file::byte_at;
 use super::file::four_at;
 use nll::Analysis;
 ghost use mathlib.Core.Path.{_≡_};
-ghost use Prim.Native.Nat.{_+_, _*_, _<_, _≤_};
+ghost use Prim.Native.Nat.{_+_, _<_, _≤_};
 ghost use lib.ListN.{length, getD};
 ghost use Rattle.nll.specs.Analysis.{numberOf};
 ghost use Rattle.nll_spec.specs.Cases.{sameList};

@@ -1,6 +1,6 @@
 // The file of recorded answers: big-endian numbers, and where an entry's parts stand.
 ghost use mathlib.Core.Path.{_≡_};
-ghost use Prim.Native.Nat.{_+_, _*_, _≤_};
+ghost use Prim.Native.Nat.{_≤_};
 ghost use lib.ListN.{getD};
 ghost use Rattle.replay.specs.File.{two, four, entryAt};
 

@@ -5,3 +5,4 @@ pub mod SpellLaws
 pub mod ItemLaws
 pub mod StandLaws
 pub mod NodeLaws
+pub mod ActionLaws

@@ -9,7 +9,7 @@ use native.Mathlib.Decide.{decLt}
 use lib.ListN.{length, getD, take, drop, length-drop, drop-of-length-le, List·getD-eq-default}
 use lib.Seq.{drop-cons, drop-drop}
 use borrow.Author.Tests.{le-leb, lt-leb}
-use Rattle.nll_spec.specs.Lists.{below, countFrom}
+use Rattle.nll_spec.specs.Lists.{countFrom}
 use Rattle.nll_spec.specs.Decode.{Reading, refused, read, Reader, done, refuse, _>>=_, byte, count, pick, oneOf, items, region}
 use Rattle.repr.specs.Reading.{choice}
 
@@ -84,7 +84,7 @@ pub record Chosen (many n : ℕ) (bs rest : List ℕ) : Type 0 where
   pub stands : byte bs ≡ read n rest
   pub below : n < many
 
-clash : {A : Type 0} {a : A} {k : ℕ} {bs : List ℕ} → refused k ≡ read a bs → ⊥
+pub clash : {A : Type 0} {a : A} {k : ℕ} {bs : List ℕ} → refused k ≡ read a bs → ⊥
 clash e = let z : _≡_ {A = ℕ} 0 1 = cc in omega arith
 
 -- the number of a refusal, whatever was to be read

@@ -12,12 +12,10 @@ use Rattle.nll_spec.specs.Syntax.{Ty, UnitTy, RefTy, StructTy, BoundTy, Args, N
 use Rattle.nll_spec.specs.Decode.{Reading, refused, read, Reader, done, refuse, _>>=_, byte, count, pick, oneOf, maxParams, Part, part, borrowKind, region, nodeTag, args, tagged, typeWithin}
 use Rattle.nll_spec.specs.Types.{argCount, typeNodes, argNodes}
 use Rattle.repr.proofs.ReadLaws.{step, count-in}
+pub use Rattle.repr.proofs.ReadLaws.{clash}
 use Rattle.repr.specs.Spelling.{kindByte, regionTag, regionNumber, spell, spellArgs, Fine, FineArgs}
 
 -- ---- What was read, read in steps
-
-pub clash : {A : Type 0} {a : A} {k : ℕ} {bs : List ℕ} → refused k ≡ read a bs → ⊥
-clash e = let z : _≡_ {A = ℕ} 0 1 = cc in omega arith
 
 -- what holds of what was read holds of what it is
 pub carry : {A : Type 0} (P : A → List ℕ → Type 0) {x y : A} {p q : List ℕ} → read x p ≡ read y q → P x p → P y q

@@ -103,7 +103,7 @@ abbrev pub pathSays : List ℕ → PathStep → Reading syntax.Path
 pathSays s (pathStep.Path p next) = read (pathOf s p) (rest s next)
 pathSays s (pathStep.Refused k) = refused k
 
--- ---- What is read, forgotten: only where it ends
+-- ---- Only where a reading ends
 
 abbrev pub ended : {A : Type 0} → Reading A → Reading (Unit {0})
 ended (refused k) = refused k

@@ -70,7 +70,7 @@ module _ (inner : Inner) (n left : ℕ) (s : List ℕ) where
 pub record ArgumentSays (s : List ℕ) (at : ℕ) (r : ArgumentStep) : Type 0 where
   pub same : (inner : Inner) (n left : ℕ) → argumentSays inner n left s r ≡ args inner (suc n) left (drop at s)
 
--- ---- A whole type, its tree forgotten
+-- ---- A whole type: the nodes that are left, and where it ends
 
 abbrev pub leftOf : {A : Type 0} → Reading (Part A) → Reading ℕ
 leftOf (refused k) = refused k

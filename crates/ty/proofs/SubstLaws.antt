@@ -1,10 +1,9 @@
 -- What each way through a substitution writes. Assumes nothing.
 use mathlib.Core.Path.{_≡_, refl, sym, ap, subst as transport, _∙_}
-use mathlib.Core.List.{List, [], _∷_, _++_, append-assoc}
+use mathlib.Core.List.{List, [], _∷_, _++_, append-assoc, append-nil}
 use Prim.Native.Nat.{ℕ, zero, suc, _+_, _-_, _*_, _≤_, _<_}
 use native.Mathlib.Omega.{arith}
 use native.Mathlib.Nat.{le-refl}
-use mathlib.Core.List.{append-nil}
 use lib.ListN.{length, take, drop, set, take-append-drop}
 use Rattle.nll_spec.specs.Syntax.{BorrowKind, Ty, UnitTy, RefTy, StructTy, BoundTy, Args, NoArgs, RegionArg, TypeArg}
 use Rattle.nll_spec.specs.Syntax as syntax

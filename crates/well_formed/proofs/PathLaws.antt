@@ -1,6 +1,6 @@
 -- Paths, their types, and the paths of an action. Assumes nothing.
 use mathlib.Core.Path.{_≡_, refl, sym, ap, subst, _∙_}
-use mathlib.Core.Bool.{Bool, true, false, _&&_, and-false, cond}
+use mathlib.Core.Bool.{Bool, true, false, _&&_, and-true, and-false, and-comm, cond}
 use mathlib.Core.List.{List, [], _∷_}
 use Prim.Native.Nat.{ℕ, _≤_, _<_}
 use native.Mathlib.Omega.{arith}
@@ -111,10 +111,6 @@ record ActionIs (j : Job) (s : List ℕ) (a : Action) (c : Cursor) (x : syntax.A
   same : actionTaken j x ≡ ownTaken j s a && every (pathTaken j) sources
   shape : shapeFits j x ≡ ownShape j s a
 
-and-true : (z : Bool) → z && true ≡ z
-and-true true = refl
-and-true false = refl
-
 module _ (j : Job) (s : List ℕ) where
   -- one that has no sources
   alone : {a : Action} {c : Cursor} {y x : syntax.Action} {bs : List ℕ} → sourcesOf a ≡ 0 → actionTaken j y ≡ ownTaken j s a → shapeFits j y ≡ ownShape j s a → read y (rest s c) ≡ read x bs → ActionIs j s a c x bs
@@ -148,10 +144,6 @@ alone-taken e k = rw (← e, k)
 
 pub alone-untaken : {x z : Bool} → x ≡ z → x ≡ false → 8 ≡ refusalOf z true
 alone-untaken e k = rw (← e, k)
-
-and-comm : (x y : Bool) → x && y ≡ y && x
-and-comm true y = sym (and-true y)
-and-comm false y = sym (and-false y)
 
 module _ {s t : List ℕ} {h : Head} {j : Job} (w : Layout s t h j) (a : Action) where
   pub own-is : {b : Action} {r : ℕ} → a ≡ b → r ≡ refusalOf (ownTaken j s b) (ownShape j s b) → r ≡ refusalOf (ownTaken j s a) (ownShape j s a)

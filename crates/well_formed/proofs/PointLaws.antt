@@ -1,6 +1,6 @@
 -- A test of all actions, made point by point. Assumes nothing.
 use mathlib.Core.Path.{_≡_, refl, sym, ap, _∙_}
-use mathlib.Core.Bool.{Bool, true, false, _&&_, and-true, cond}
+use mathlib.Core.Bool.{Bool, true, false, _&&_, and-true, and-assoc, cond}
 use mathlib.Core.List.{List, [], _∷_, _++_, map}
 use Prim.Native.Nat.{ℕ, suc, _+_, _<_, _≤_}
 use native.Mathlib.Omega.{arith}
@@ -29,15 +29,11 @@ noPoint = record { block = 0; action = Noop; next = [] }
 abbrev pub atPoint : (Action → Bool) → Statement → Bool
 atPoint f n = f (n .action)
 
-and-assoc : (x y z : Bool) → x && (y && z) ≡ (x && y) && z
-and-assoc true y z = refl
-and-assoc false y z = refl
-
 module _ (f : Action → Bool) (none : f Noop ≡ true) where
   every-block : (b : BlockIndex) (after : List Point) (p : Point) (acts : List Action) (ns : List Statement) → every (atPoint f) (blockStatements b after p acts ++ ns) ≡ every f acts && every (atPoint f) ns
   unfolding blockStatements
   every-block b after p [] ns = rw none
-  every-block b after p (a ∷ acts) ns = ap (λ (z : Bool). f a && z) (every-block b after (suc p) acts ns) ∙ and-assoc (f a) (every f acts) (every (atPoint f) ns)
+  every-block b after p (a ∷ acts) ns = ap (λ (z : Bool). f a && z) (every-block b after (suc p) acts ns) ∙ sym (and-assoc (f a) (every f acts) (every (atPoint f) ns))
 
   every-statement : (all : List Block) (b : BlockIndex) (p : Point) (ds : List Block) → every (atPoint f) (statementsFrom all b p ds) ≡ every f (gather (λ d. d .actions) ds)
   unfolding statementsFrom
@@ -156,7 +152,7 @@ module _ {j : Job} {code p : ℕ} {fits : Bool} (c : length (statementsOf j) ≡
     pub judged-more : (k ≡ 8 → ⊥) → Judged j (p + 1) (fits && eqb k 0)
     judged-more n = record {
       paths = testing-more c (g .paths) l (point-tested (actionTaken j) j (sym (taken-of (actionTaken j (actionAt (graphOf j) p)) (shapeFits j (actionAt (graphOf j) p)) e n))) refl;
-      shapes = g .shapes ∙ ap (λ (z : Bool). fits && z) (every-from (atPoint (shapeFits j)) (statementsOf j) noPoint p (omega arith) (point-tested (shapeFits j) j (shape-of (actionTaken j (actionAt (graphOf j) p)) (shapeFits j (actionAt (graphOf j) p)) e n) .says)) ∙ and-assoc fits (eqb k 0) _;
+      shapes = g .shapes ∙ ap (λ (z : Bool). fits && z) (every-from (atPoint (shapeFits j)) (statementsOf j) noPoint p (omega arith) (point-tested (shapeFits j) j (shape-of (actionTaken j (actionAt (graphOf j) p)) (shapeFits j (actionAt (graphOf j) p)) e n) .says)) ∙ sym (and-assoc fits (eqb k 0) _);
     }
 
   module _ (l : code ≤ p) (h : T (named j)) where

@@ -1,8 +1,7 @@
--- `constraints::relate_source`. The loop's invariant: the constraints of the first i steps are run. Assumes nothing.
+-- `constraints::relate_source`. The loop's invariant: the constraints of the first i steps are added. Assumes nothing.
 use Prim.Native.Nat.{_-_, _≤_}
 use mathlib.Core.Path.{_≡_}
 use native.Mathlib.Omega.{arith}
-use lib.ListN.{length}
 use Rattle.constraint_list.specs.Listed.{Adds}
 use Rattle.constraints.specs.Constraining.{sourceConstraints}
 use Rattle.constraints.proofs.ConstrainLaws.{source-none, source-more}
@@ -11,14 +10,14 @@ use Rattle.constraints.proofs.relate_source.Statement.{statement}
 use Rattle.constraints.proofs.relate_source.Tie as tie
 
 abbrev Inv-loop : tie.InvT-loop
-Inv-loop of kinds names run list₀ i₀ list i =
-    (i ≤ of .steps) × Adds (sourceConstraints (run .at) kinds names (of .supporting) (of .region .0) i) list₀ list
+Inv-loop of kinds names site list₀ i₀ list i =
+    (i ≤ of .steps) × Adds (sourceConstraints (site .at) kinds names (of .supporting) (of .region .0) i) list₀ list
 
 abbrev μ-loop : tie.MeasureT-loop
-μ-loop of kinds names run list₀ i₀ list i = of .steps - i
+μ-loop of kinds names site list₀ i₀ list i = of .steps - i
 
 loop-holds : tie.Need-loop-holds Inv-loop μ-loop
-loop-holds c = let a = c .before .args in (search needs, source-none (a .run .at) (a .kinds .now) (a .names .now) (a .of .supporting) (a .of .region .0))
+loop-holds c = let a = c .before .args in (search needs, source-none (a .site .at) (a .kinds .now) (a .names .now) (a .of .supporting) (a .of .region .0))
 
 relate-step-requires : tie.Need-relate-step-requires Inv-loop μ-loop
 relate-step-requires c κs = search needs
@@ -32,7 +31,7 @@ loop-less c = search needs
 loop-again : tie.Need-loop-again Inv-loop μ-loop
 loop-again c = let a = c .before .before .before .before .before .before .before .before .args in
     let l = c .before .before .before .before .before .before .loop in
-    (omega arith, source-more (a .run .at) (a .kinds .now) (a .names .now) (a .of .supporting) (a .of .region .0) (l .i) (l .inv .1) (c .before .before .relate-step .ensures))
+    (omega arith, source-more (a .site .at) (a .kinds .now) (a .names .now) (a .of .supporting) (a .of .region .0) (l .i) (l .inv .1) (c .before .before .relate-step .ensures))
 
 same-length : tie.Need-same-length Inv-loop μ-loop
 same-length c = search needs

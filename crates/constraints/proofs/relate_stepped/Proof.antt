@@ -1,5 +1,5 @@
 -- `constraints::relate_stepped`: the types of both paths, related, and the supporting prefixes of a borrow's source. Assumes nothing.
-use Rattle.constraints.proofs.ConstrainLaws.{pair-runs}
+use Rattle.constraints.proofs.ConstrainLaws.{pair-adds}
 use borrow.Author.Needs.{needs}
 use Rattle.constraints.proofs.relate_stepped.Statement.{statement}
 use Rattle.constraints.proofs.relate_stepped.Tie as tie
@@ -20,7 +20,7 @@ same-length : tie.Need-same-length
 same-length c = search needs
 
 returns : tie.Need-returns
-returns c = pair-runs (c .before .before .before .before .before .before .before .before .before .before .before .before .before .before .before .before .before .before .before .before .before .before .before .before .args .pair) (c .before .before .before .before .before .before .before .before .before .before .before .before .before .before .path-types .ensures) (c .before .before .before .before .before .before .before .before .before .before .relate-found .ensures _ _ _ _ (c .before .before .before .before .before .before .before .before .before .before .before .before .before .before .path-types .ensures)) (c .before .before .before .before .before .before .source-of .ensures) (c .before .before .relate-source .ensures)
+returns c = pair-adds (c .before .before .before .before .before .before .before .before .before .before .before .before .before .before .before .before .before .before .before .before .before .before .before .before .args .pair) (c .before .before .before .before .before .before .before .before .before .before .before .before .before .before .path-types .ensures) (c .before .before .before .before .before .before .before .before .before .before .relate-found .ensures _ _ _ _ (c .before .before .before .before .before .before .before .before .before .before .before .before .before .before .path-types .ensures)) (c .before .before .before .before .before .before .source-of .ensures) (c .before .before .relate-source .ensures)
 
 pub relate-stepped-spec : {M : Type 1} → statement M
 relate-stepped-spec =

@@ -1,5 +1,4 @@
 -- `dfs::search`. The loop's invariant: `Going`. The measure is `work`. Assumes nothing.
-use Prim.Native.Nat.{_-_}
 use mathlib.Core.Bool.{_||_}
 use native.Mathlib.Omega.{arith}
 use Rattle.graph.specs.Search.{state}

@@ -31,7 +31,7 @@ same-length : tie.Need-same-length
 same-length c = search needs
 
 returns-2 : tie.Need-returns-2
-returns-2 c = laws.ref-runs (c .before .before .before .before .before .before .before .before .before .before .before .before .before .before .type-node .ensures) (c .before .before .before .before .before .before .before .before .before .before .before .before .kind .given .1) (c .before .before .before .before .before .before .before .before .before .before .invert .ensures) (c .before .before .before .before .before .referent-variance .ensures) (c .before .before .before .before .within .ensures) (c .before .before .before .before .before .before .before .before .relate-regions .ensures) (c .before .before .relate .ensures)
+returns-2 c = laws.ref-adds (c .before .before .before .before .before .before .before .before .before .before .before .before .before .before .type-node .ensures) (c .before .before .before .before .before .before .before .before .before .before .before .before .kind .given .1) (c .before .before .before .before .before .before .before .before .before .before .invert .ensures) (c .before .before .before .before .before .referent-variance .ensures) (c .before .before .before .before .within .ensures) (c .before .before .before .before .before .before .before .before .relate-regions .ensures) (c .before .before .relate .ensures)
 
 pub relate-ref-spec : {M : Type 1} → statement M
 relate-ref-spec =

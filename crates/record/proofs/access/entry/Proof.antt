@@ -1,7 +1,6 @@
 -- `record::access::entry` meets its contract. Assumes nothing.
 use Rattle.record.proofs.AccessLaws.{entry-there, entry-none}
 use borrow.Author.Needs.{needs}
-use native.Mathlib.Omega.{arith}
 use Rattle.record.proofs.access.entry.Statement.{statement}
 use Rattle.record.proofs.access.entry.Tie as tie
 

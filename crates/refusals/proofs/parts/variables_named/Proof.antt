@@ -5,9 +5,8 @@ use native.Mathlib.Omega.{arith}
 use borrow.Author.Tests.{not-true, not-false}
 use Rattle.nll_spec.specs.Syntax.{Job}
 use Rattle.record.specs.Layout.{Layout}
-use Rattle.refusals.proofs.RowLaws.{Testing, testing-start, testing-end, testing-fails, testing-more, variables-row, sized, row-item}
+use Rattle.refusals.proofs.RowLaws.{Testing, testing-start, testing-end, testing-fails, testing-more, variables-row, sized, row-item, only-test}
 use Rattle.nll_spec.specs.WellFormed.{typeNamed, variablesNamed}
-use Rattle.refusals.proofs.RowLaws.{only-test}
 use Rattle.refusals.proofs.parts.variables_named.Statement.{statement}
 use Rattle.refusals.proofs.parts.variables_named.Tie as tie
 

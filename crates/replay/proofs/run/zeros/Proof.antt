@@ -1,11 +1,9 @@
 -- `replay::run::zeros`. The loop's invariant: the first i zeros are put. Assumes nothing.
-use lib.ListN.{length-replicate, getD-replicate}
-use Prim.Native.Nat.{_+_}
+use lib.ListN.{length-replicate, getD-replicate, replicate}
+use Prim.Native.Nat.{_+_, ℕ, _-_}
 use mathlib.Core.Path.{sym, ap}
 use native.Mathlib.Omega.{arith}
 use borrow.Author.Needs.{needs}
-use Prim.Native.Nat.{ℕ, _-_}
-use lib.ListN.{replicate}
 use Rattle.replay.proofs.RunLaws.{Appending, append-start, append-more, appended}
 use Rattle.replay.proofs.run.zeros.Statement.{statement}
 use Rattle.replay.proofs.run.zeros.Tie as tie
