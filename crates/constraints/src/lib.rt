@@ -74,7 +74,7 @@ struct Source {
 }
 
 // Step i of a borrow's source: if it leaves a Ref and ends a supporting prefix, that Ref's region outlives the borrow's.
-fn relate_step(of: Source, kinds: &[u8; 8], names: &[u8; 8], i: usize, site: Site, list: &mut [u16])
+fn relate_step(of: Source, kinds: &[u8; 8], names: &[u8; 8], i: usize, site: Site, list: &mut [u32])
     requires { ⌜ (length (now kinds) ≡ 8) × (length (now names) ≡ 8) ⌝ }
     ensures { λ _. ⌜ Adds (stepConstraints (site .at) (now (kinds .entry)) (now (names .entry)) (of .supporting) (of .region .0) i)
         (now (list .entry)) (now (list .exit)) ⌝ }
@@ -96,7 +96,7 @@ fn relate_step(of: Source, kinds: &[u8; 8], names: &[u8; 8], i: usize, site: Sit
 }
 
 // The steps of a borrow's source.
-fn relate_source(of: Source, kinds: &[u8; 8], names: &[u8; 8], site: Site, list: &mut [u16])
+fn relate_source(of: Source, kinds: &[u8; 8], names: &[u8; 8], site: Site, list: &mut [u32])
     requires { ⌜ (length (now kinds) ≡ 8) × (length (now names) ≡ 8) ⌝ }
     ensures { λ _. ⌜ Adds (sourceConstraints (site .at) (now (kinds .entry)) (now (names .entry)) (of .supporting) (of .region .0) (of .steps))
         (now (list .entry)) (now (list .exit)) ⌝ }
@@ -160,7 +160,7 @@ fn relate_types(
     b: &[u8],
     y: Cursor,
     site: Site,
-    list: &mut [u16],
+    list: &mut [u32],
 )
     requires { ⌜ length (now layout) ≡ 1280 ⌝ }
     ensures { λ _. ⌜ TypesAdd (now (s .entry)) (now (layout .entry)) site how (now (a .entry)) (x .at) (now (b .entry)) (y .at)
@@ -193,7 +193,7 @@ fn relate_second(
     b: &[u8; 512],
     found: PathType,
     site: Site,
-    list: &mut [u16],
+    list: &mut [u32],
 )
     requires { ⌜ length (now layout) ≡ 1280 ⌝ }
     ensures { λ _. ⌜ ((q : Path) (kinds names : List ℕ) → PathSays (now (s .entry)) (now (layout .entry)) (site .head) q (now (b .entry)) kinds names found
@@ -216,7 +216,7 @@ fn relate_found(
     b: &[u8; 512],
     found: PathTypes,
     site: Site,
-    list: &mut [u16],
+    list: &mut [u32],
 )
     requires { ⌜ length (now layout) ≡ 1280 ⌝ }
     ensures { λ _. ⌜ ((p q : Path) (kinds names : List ℕ) → PathTypesSay (now (s .entry)) (now (layout .entry)) (site .head) p q (now (a .entry)) (now (b .entry)) kinds names found
@@ -233,7 +233,7 @@ fn relate_found(
 }
 
 // Two paths, of which one has steps, and the steps of a borrow's source.
-fn relate_stepped(pair: Pair, s: &[u8], layout: &[u16; 1280], site: Site, list: &mut [u16])
+fn relate_stepped(pair: Pair, s: &[u8], layout: &[u16; 1280], site: Site, list: &mut [u32])
     requires { ⌜ length (now layout) ≡ 1280 ⌝ }
     ensures { λ _. ⌜ PairAdds (now (s .entry)) (now (layout .entry)) site pair
         (now (list .entry)) (now (list .exit)) ⌝ }
@@ -253,7 +253,7 @@ fn relate_stepped(pair: Pair, s: &[u8], layout: &[u16; 1280], site: Site, list: 
 }
 
 // The constraints of an assignment or a borrow, at the site's point.
-fn relate_paths(pair: Pair, s: &[u8], layout: &[u16; 1280], site: Site, list: &mut [u16])
+fn relate_paths(pair: Pair, s: &[u8], layout: &[u16; 1280], site: Site, list: &mut [u32])
     requires { ⌜ length (now layout) ≡ 1280 ⌝ }
     ensures { λ _. ⌜ PairAdds (now (s .entry)) (now (layout .entry)) site pair
         (now (list .entry)) (now (list .exit)) ⌝ }
@@ -271,7 +271,7 @@ fn relate_paths(pair: Pair, s: &[u8], layout: &[u16; 1280], site: Site, list: &m
 }
 
 // Adds the constraints of the action at a point of the blocks. A Constraint's is at that point, all others at the next one.
-pub fn constrain(s: &[u8], layout: &[u16; 1280], site: Site, list: &mut [u16])
+pub fn constrain(s: &[u8], layout: &[u16; 1280], site: Site, list: &mut [u32])
     requires { ⌜ length (now layout) ≡ 1280 ⌝ }
     ensures { λ _. ⌜ Constrains (now (s .entry)) (now (layout .entry)) site
         (now (list .entry)) (now (list .exit)) ⌝ }

@@ -11,8 +11,7 @@ use Rattle.nll_spec.specs.Regions.{everyEnd}
 use Rattle.nll_spec.specs.Meaning.{Next}
 use Rattle.nll_spec.proofs.Tests.{contains-one}
 use Rattle.graph.specs.Tables.{rowStart, rowEnd, Edges}
-use Rattle.constraint_list.specs.Listed.{constraint}
-use Rattle.infer.specs.Ran.{Setting, Given, Names}
+use Rattle.infer.specs.Ran.{Setting, Given, Names, constraint}
 use Rattle.infer.specs.declared.EndRule.the-variants.{EveryEnd}
 use Rattle.dfs.proofs.ChainLaws.{chained-none}
 

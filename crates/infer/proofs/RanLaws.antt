@@ -8,7 +8,7 @@ use native.Mathlib.Nat.{not-suc-le-zero, mul-le-mul-right, suc-mul}
 use native.Mathlib.Decide.{ℕ-discrete, decLt}
 use native.Mathlib.Numerals.{add-one}
 use native.Mathlib.Omega.{arith}
-use lib.ListN.{getD}
+use lib.ListN.{length, getD}
 use lib.Dec.{T, ltb, ltb→lt, lt→ltb}
 use borrow.Author.Tests.{ne-eqb, eqb-false, not-true}
 use Rattle.nll_spec.specs.Lists.{Member}
@@ -111,6 +111,14 @@ carry {s} {last} {ws} {grew} {ws′} {grew′} ran c m = go (ℕ-discrete (getD 
     go (yes e) =
         inl (met-stays s (setsOf s ws) (setsOf s ws′) c (λ q h. ⊎-elim (λ k. k) (λ k. absurd (k e)) (ran .marked (c .sub) q h)) (sets-kept s ws ws′ (ran .kept) (c .sup)) m)
 
+-- a bit that is not there after a run was not there before
+missed : {s : Setting} {last ws grew ws′ grew′ : List ℕ} {cs : List Outlives} → Ran s last cs ws grew ws′ grew′ → (j : ℕ) → has ws′ j ≡ false → has ws j ≡ false
+missed {ws = ws} ran j e = go (has ws j) refl
+  where
+    go : (b : Bool) → has ws j ≡ b → has ws j ≡ false
+    go false q = q
+    go true q = absurd (true≢false (sym (ran .kept j q) ∙ e))
+
 pub ran-append : {s : Setting} {last ws grew ws₁ grew₁ ws₂ grew₂ : List ℕ} {cs ds : List Outlives} → Ran s last cs ws grew ws₁ grew₁ → Ran s last ds ws₁ grew₁ ws₂ grew₂
     → Ran s last (cs ++ ds) ws grew ws₂ grew₂
 ran-append {s} {last} {ws} {grew} {ws₁} {grew₁} {ws₂} {grew₂} {cs} {ds} x y =
@@ -124,19 +132,12 @@ ran-append {s} {last} {ws} {grew} {ws₁} {grew₁} {ws₂} {grew₂} {cs} {ds} 
       marked = λ r q h. ⊎-elim (λ k. ⊎-elim (λ i. inl i) (λ i. inr (y .still r i)) (x .marked r q k)) (λ k. inr k) (y .marked r q h);
       earned = λ r m. ⊎-elim
           (λ k. ⊎-elim (λ i. inl i) (λ i. inr (i .0, i .1, i .2, y .kept (bitAt (s .width) r (i .0)) (i .3))) (x .earned r k))
-          (λ k. inr (k .0, k .1, missed (bitAt (s .width) r (k .0)) (k .2), k .3))
+          (λ k. inr (k .0, k .1, missed x (bitAt (s .width) r (k .0)) (k .2), k .3))
           (y .earned r m);
       met = λ ready c m. ⊎-elim (first ready c) (second ready c) (member-append cs ds m);
       within = λ sets w met. y .within sets (x .within sets w (λ c m. met c (member-left cs ds m))) (λ c m. met c (member-right cs ds m));
     }
   where
-    missed : (j : ℕ) → has ws₁ j ≡ false → has ws j ≡ false
-    missed j e = go (has ws j) refl
-      where
-        go : (b : Bool) → has ws j ≡ b → has ws j ≡ false
-        go false q = q
-        go true q = absurd (true≢false (sym (x .kept j q) ∙ e))
-
     first : AllReady s last ws grew (cs ++ ds) → (c : Outlives) → Member c cs → Met s (setsOf s ws₂) c ⊎ Marked grew₂ (c .sub)
     first ready c m = ⊎-elim (λ k. carry y c k) (λ k. inr (y .still (c .sub) k)) (x .met (λ d n. ready d (member-left cs ds n)) c m)
 
@@ -147,6 +148,33 @@ ran-append {s} {last} {ws} {grew} {ws₁} {grew₁} {ws₂} {grew₂} {cs} {ds} 
 
     second : AllReady s last ws grew (cs ++ ds) → (c : Outlives) → Member c ds → Met s (setsOf s ws₂) c ⊎ Marked grew₂ (c .sub)
     second ready c m = y .met (λ d n. later d (ready d (member-right cs ds n))) c m
+
+-- The marks of two rows in one.
+pub record Joined (a b ab : List ℕ) : Type 0 where
+  pub as-long : length ab ≡ length a
+  pub left : (r : RegionName) → Marked a r → Marked ab r
+  pub right : (r : RegionName) → Marked b r → Marked ab r
+  pub either : (r : RegionName) → Marked ab r → Marked a r ⊎ Marked b r
+
+-- some of the constraints are run again, from no marks on
+pub ran-again : {s : Setting} {last last′ ws grew ws₁ grew₁ ws₂ none next grew₂ : List ℕ} {cs ds : List Outlives} → Ran s last cs ws grew ws₁ grew₁ → Ran s last′ ds ws₁ none ws₂ next
+    → ((r : RegionName) → Marked none r → ⊥) → ((c : Outlives) → Member c ds → Member c cs) → Joined grew₁ next grew₂ → Ran s last cs ws grew ws₂ grew₂
+ran-again {s} x y blank among j =
+    record {
+      as-long = y .as-long ∙ x .as-long;
+      as-many = j .as-long ∙ x .as-many;
+      fits = λ wf. y .fits (x .fits wf);
+      kept = λ k e. y .kept k (x .kept k e);
+      others = λ k h. y .others k h ∙ x .others k h;
+      still = λ r m. j .left r (x .still r m);
+      marked = λ r q h. ⊎-elim (λ k. ⊎-elim (λ i. inl i) (λ i. inr (j .left r i)) (x .marked r q k)) (λ k. inr (j .right r k)) (y .marked r q h);
+      earned = λ r m. ⊎-elim
+          (λ k. ⊎-elim (λ i. inl i) (λ i. inr (i .0, i .1, i .2, y .kept (bitAt (s .width) r (i .0)) (i .3))) (x .earned r k))
+          (λ k. ⊎-elim (λ i. absurd (blank r i)) (λ i. inr (i .0, i .1, missed x (bitAt (s .width) r (i .0)) (i .2), i .3)) (y .earned r k))
+          (j .either r m);
+      met = λ ready c m. ⊎-elim (λ k. ⊎-elim (λ i. inl i) (λ i. inr (j .right (c .sub) i)) (carry y c k)) (λ k. inr (j .left (c .sub) k)) (x .met ready c m);
+      within = λ sets w met. y .within sets (x .within sets w met) (λ c m. met c (among c m));
+    }
 
 -- what is handed in to the next run
 pub given-kept : {s : Setting} {shape : Shape} {rule : declared.EndRule} {first succ chain last ws grew ws′ grew′ : List ℕ} {cs : List Outlives}
@@ -226,7 +254,7 @@ found-mark grew (suc n) e = go (anyMarked grew n) refl (found-mark grew n)
     go true q f = let w = f q in (w .0, omega (arith, w .1), w .2)
     go false q f = (n, omega arith, marked-is grew n (ap (λ (b : Bool). b || isMarked grew n) (sym q) ∙ e))
 
-no-marks : (grew : List ℕ) (n : ℕ) → anyMarked grew n ≡ false → (r : RegionName) → r < n → getD grew r 0 ≡ 0
+pub no-marks : (grew : List ℕ) (n : ℕ) → anyMarked grew n ≡ false → (r : RegionName) → r < n → getD grew r 0 ≡ 0
 unfolding anyMarked
 no-marks grew zero e r l = absurd (omega arith)
 no-marks grew (suc n) e r l = go (anyMarked grew n) (isMarked grew n) refl refl (ℕ-discrete (getD grew r 0) 0) (ℕ-discrete r n) (no-marks grew n)

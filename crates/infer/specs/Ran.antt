@@ -119,6 +119,10 @@ pub record Names (s : Setting) (c : Outlives) : Type 0 where
 abbrev pub AllNamed : Setting → List Outlives → Type 0
 AllNamed s cs = (c : Outlives) → Member c cs → Names s c
 
+-- "a outlives b at p"
+abbrev pub constraint : RegionName → RegionName → Point → Outlives
+constraint a b p = record { sup = a; sub = b; point = p }
+
 -- The constraints cs are run, in every setting that is given and has their names.
 pub record Runs (shape : Shape) (rule : declared.EndRule) (first succ chain last : List ℕ) (cs : List Outlives) (ws grew ws′ grew′ : List ℕ) : Type 0 where
   pub ran : (s : Setting) → Given s shape rule first succ chain ws grew → AllNamed s cs → Ran s last cs ws grew ws′ grew′

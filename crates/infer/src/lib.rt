@@ -1,20 +1,20 @@
 // "S outlives T at p": the points that a walk from p through T reaches are put into S, and, where it comes to a point without successors, so are the
 // declared ends that the end rule passes on.
 // The points that follow point p are succ[first[p]..first[p + 1]]. Region r's set starts at word r * width.
-use constraint_list::Entry;
+use constraint_list::Constraint;
 use dfs::reach;
 ghost use mathlib.Core.Path.{_≡_};
 ghost use mathlib.Core.Bool.{true};
 ghost use mathlib.Core.List.{[], _∷_};
 ghost use Prim.Native.Nat.{_+_, _-_, _/_, _<_, _≤_};
-ghost use lib.ListN.{length};
+ghost use lib.ListN.{length, getD};
 ghost use Rattle.nll_spec.specs.Regions.{passesEnd};
 ghost use Rattle.nll_spec.specs.Output.{wordBits};
 ghost use Rattle.bit_set.specs.Bits.{bothFit};
 ghost use Rattle.dfs.specs.Walk.{inCode, Chained};
 ghost use Rattle.infer.specs.Search.{ruleOf, passes, withRun, Gets, In, Below, Spread, isSubset, hasEnds, addsNothing, inBounds, isCovered, Covered};
-ghost use Rattle.constraint_list.specs.Listed.{constraint, constraintsOf, pointOf, constraintsIn};
-ghost use Rattle.infer.specs.Ran.{Setting, Given, Names, Ran, Runs, anyMarked};
+ghost use Rattle.constraint_list.specs.Listed.{outlivesOf, constraintsIn, Draws};
+ghost use Rattle.infer.specs.Ran.{Setting, Given, Names, Ran, Runs, constraint, anyMarked};
 
 // A region's number.
 pub struct RegionVariable(pub u8);
@@ -263,8 +263,16 @@ fn wide16(x: u16) -> usize
     x as usize
 }
 
-// Runs the constraints that an entry says, at point p.
-fn run_entry(
+// The mark of a region, or 0 if it has no place among the marks.
+fn mark(grew: &[u8; 128], region: u8) -> u8
+    ensures { λ r. ⌜ (region < 128 → r ≡ getD (now (grew .entry)) region 0) ⌝ }
+{
+    let r = wide8(region);
+    if r < 128 { grew[r] } else { 0 }
+}
+
+// Runs a constraint, and puts it into the list `hot` if by it the outer region is marked.
+fn run_one(
     words: &mut [u32],
     first: &[u16; 1025],
     succ: &[u16; 1536],
@@ -273,76 +281,37 @@ fn run_entry(
     rule: EndRule,
     last: &[u8; 128],
     grew: &mut [u8; 128],
-    e: Entry,
-    p: usize,
+    hot: &mut [u32],
+    c: Constraint,
 )
-    ensures { λ _. ⌜ Runs shape rule (now (first .entry)) (now (succ .entry)) (now (chain .entry)) (now (last .entry)) (constraintsOf e p)
-        (now (words .entry)) (now (grew .entry)) (now (words .exit)) (now (grew .exit)) ⌝ }
+    ensures { λ _. ⌜ Runs shape rule (now (first .entry)) (now (succ .entry)) (now (chain .entry)) (now (last .entry)) (outlivesOf c ∷ [])
+        (now (words .entry)) (now (grew .entry)) (now (words .exit)) (now (grew .exit))
+        × Draws (outlivesOf c ∷ []) (now (hot .entry)) (now (hot .exit)) ⌝ }
 {
-    match e {
-        Entry::At(_) => {}
-        Entry::One { sup: a, sub: b } => {
-            let sup = RegionVariable(a);
-            let sub = RegionVariable(b);
-            outlives(
-                words,
-                first,
-                succ,
-                chain,
-                shape,
-                rule,
-                last,
-                grew,
-                sup,
-                sub,
-                p,
-            )
-        }
-        Entry::Both { sup: a, sub: b } => {
-            let sup = RegionVariable(a);
-            let sub = RegionVariable(b);
-            outlives(
-                words,
-                first,
-                succ,
-                chain,
-                shape,
-                rule,
-                last,
-                grew,
-                sup,
-                sub,
-                p,
-            );
-            outlives(
-                words,
-                first,
-                succ,
-                chain,
-                shape,
-                rule,
-                last,
-                grew,
-                sub,
-                sup,
-                p,
-            )
-        }
+    let before = mark(grew, c.sup);
+    let sup = RegionVariable(c.sup);
+    let sub = RegionVariable(c.sub);
+    let point = wide16(c.point);
+    outlives(
+        words,
+        first,
+        succ,
+        chain,
+        shape,
+        rule,
+        last,
+        grew,
+        sup,
+        sub,
+        point,
+    );
+    if mark(grew, c.sup) == before {
+        return;
     }
+    constraint_list::add(hot, c);
 }
 
-// The point said last after an entry, where it was p before.
-fn point_after(e: Entry, p: usize) -> usize
-    ensures { λ r. ⌜ r ≡ pointOf e p ⌝ }
-{
-    match e {
-        Entry::At(q) => wide16(q),
-        Entry::One { sup: _, sub: _ } => p,
-        Entry::Both { sup: _, sub: _ } => p,
-    }
-}
-
-// Runs each constraint of the list once.
+// Runs each constraint of the list once. Those by which regions are marked come into the list `hot`, as far as it has room.
 pub fn run(
     words: &mut [u32],
     first: &[u16; 1025],
@@ -352,18 +321,18 @@ pub fn run(
     rule: EndRule,
     last: &[u8; 128],
     grew: &mut [u8; 128],
-    list: &[u16],
+    hot: &mut [u32],
+    list: &[u32],
 )
     ensures { λ _. ⌜ Runs shape rule (now (first .entry)) (now (succ .entry)) (now (chain .entry)) (now (last .entry)) (constraintsIn (now (list .entry)))
-        (now (words .entry)) (now (grew .entry)) (now (words .exit)) (now (grew .exit)) ⌝ }
+        (now (words .entry)) (now (grew .entry)) (now (words .exit)) (now (grew .exit))
+        × Draws (constraintsIn (now (list .entry))) (now (hot .entry)) (now (hot .exit)) ⌝ }
 {
-    let count = constraint_list::used(list);
-    let mut p = 0;
+    let count = constraint_list::count(list);
     let mut i = 0;
     while i < count {
-        let e = constraint_list::get(list, i);
-        run_entry(words, first, succ, chain, shape, rule, last, grew, e, p);
-        p = point_after(e, p);
+        let c = constraint_list::get(list, i);
+        run_one(words, first, succ, chain, shape, rule, last, grew, hot, c);
         i += 1;
     }
 }

@@ -1,17 +1,27 @@
 -- Marks of regions: all taken away, and those of a round put to them. Assumes nothing.
 use mathlib.Core.Path.{_≡_, refl, sym, ap, _∙_}
-use mathlib.Core.Bool.{Bool, cond}
+use mathlib.Core.Logic.{_⊎_, inl, inr}
+use mathlib.Core.Bool.{Bool, false, cond}
 use mathlib.Core.List.{List}
 use Prim.Native.Nat.{ℕ, _+_, _<_}
 use native.Mathlib.Omega.{arith}
-use native.Mathlib.Decide.{ℕ-discrete}
-use lib.ListN.{length, getD, set, length-set}
+use native.Mathlib.Decide.{ℕ-discrete, decLt}
+use lib.ListN.{length, getD, set, length-set, length-replicate, getD-replicate, List·getD-eq-default}
 use lib.Seq.{getD-set-same, getD-set-other}
 use lib.Dec.{eqb}
 use borrow.Author.Tests.{eq-eqb, ne-eqb}
 use Rattle.nll_spec.specs.Syntax.{RegionName}
 use Rattle.graph.specs.Search.{Marked}
-use Rattle.regionck.specs.Rounds.{Cleared, Noted}
+use Rattle.infer.specs.Ran.{anyMarked}
+use Rattle.infer.proofs.RanLaws.{Joined, no-marks}
+use Rattle.regionck.specs.Rounds.{noMarks, Cleared, Noted}
+
+pub blank : (r : RegionName) → getD noMarks r 0 ≡ 0
+blank r = go (decLt r 128)
+  where
+    go : Dec (r < 128) → getD noMarks r 0 ≡ 0
+    go (yes l) = getD-replicate {A = ℕ} 128 r 0 0 l
+    go (no l) = List·getD-eq-default noMarks 0 {n = r} (rw length-replicate (omega (arith, l)))
 
 pub cleared-none : (marks : List ℕ) → length marks ≡ 128 → Cleared marks 0
 cleared-none marks e = record { sized = e; none = λ r l. absurd (omega arith) }
@@ -49,3 +59,36 @@ noted-more grew old marks n x h z e =
         ∙ ap (λ (b : Bool). cond b (getD marks n 0) 1) (eq-eqb (getD grew n 0) 0 (ap (λ (k : ℕ). getD grew k 0) (sym q) ∙ m))
         ∙ ap (λ (k : ℕ). getD marks k 0) (sym q) ∙ z .others r m
     others r m (no q) = getD-set-other marks n r x 0 q ∙ z .others r m
+
+-- the marks of both
+pub noted-joined : {grew old marks : List ℕ} → length old ≡ 128 → length grew ≡ 128 → Noted grew old marks 128 → Joined old grew marks
+noted-joined {grew} {old} {marks} o g z =
+    record {
+      as-long = z .sized ∙ sym o;
+      left = λ r m. kept r m (ℕ-discrete (getD grew r 0) 0);
+      right = now;
+      either = λ r m. which r m (ℕ-discrete (getD grew r 0) 0);
+    }
+  where
+    now : (r : RegionName) → Marked grew r → Marked marks r
+    now r m = go (decLt r 128)
+      where
+        go : Dec (r < 128) → Marked marks r
+        go (yes l) e = let x : _≡_ {A = ℕ} 1 0 = sym (z .marked r l m) ∙ e in omega arith
+        go (no l) e = m (List·getD-eq-default grew 0 {n = r} (omega (arith, l, g)))
+
+    kept : (r : RegionName) → Marked old r → Dec (getD grew r 0 ≡ 0) → Marked marks r
+    kept r m (yes e) q = m (sym (z .others r e) ∙ q)
+    kept r m (no e) q = now r e q
+
+    which : (r : RegionName) → Marked marks r → Dec (getD grew r 0 ≡ 0) → Marked old r ⊎ Marked grew r
+    which r m (yes e) = inl (λ q. m (z .others r e ∙ q))
+    which r m (no e) = inr e
+
+-- of which the second has none
+pub quiet-joined : {grew old : List ℕ} → length grew ≡ 128 → anyMarked grew 128 ≡ false → Joined old grew old
+quiet-joined {grew} g e = record { as-long = refl; left = λ r m. m; right = λ r m. absurd (m (none r (decLt r 128))); either = λ r m. inl m }
+  where
+    none : (r : RegionName) → Dec (r < 128) → getD grew r 0 ≡ 0
+    none r (yes l) = no-marks grew 128 e r l
+    none r (no l) = List·getD-eq-default grew 0 {n = r} (omega (arith, l, g))

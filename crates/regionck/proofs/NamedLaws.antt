@@ -1,4 +1,4 @@
--- The constraints of an accepted job name its regions and points of its blocks: `all-named`, `named-at`. Assumes nothing.
+-- The constraints of an accepted job name its regions and points of its blocks: `all-named`. Assumes nothing.
 use mathlib.Core.Path.{_≡_, refl, sym, ap, _∙_, subst}
 use mathlib.Core.Logic.{_⊎_, inl, inr, ⊎-elim}
 use mathlib.Core.Bool.{Bool, true, false, _&&_, cond}
@@ -163,6 +163,19 @@ point-in j ok p l (Use q) e m = absurd (no-member m)
 point-in j ok p l (Drop q) e m = absurd (no-member m)
 point-in j ok p l (StorageDead v) e m = absurd (no-member m)
 
+-- ---- The constraints of points are the job's
+
+own-at : (j : Job) (p : Point) → T (isWalked (graphOf j) p) → {c : Outlives} → Member c (constraintsAt j p (actionAt (graphOf j) p)) → Member c (constraintsOf j (graphOf j))
+unfolding constraintsOf
+own-at j p w m =
+    member-gather (λ (q : Point). constraintsAt j q (actionAt (graphOf j) q)) (select (isWalked (graphOf j)) (below (graphOf j .code))) p
+    (contains-select (isWalked (graphOf j)) (below (graphOf j .code)) p (contains-below (graphOf j .code) p (walked-is-code j p w)) w) m
+
+pub own-below : (j : Job) (n : ℕ) (c : Outlives) → Member c (constraintsBelow j n) → Member c (constraintsOf j (graphOf j))
+own-below j n c m =
+    let (p, at, m′) = gather-member (λ (p : Point). constraintsAt j p (actionAt (graphOf j) p)) (select (isWalked (graphOf j)) (below n)) m in
+    own-at j p (select-contains (isWalked (graphOf j)) (below n) p at .1) m′
+
 -- ---- The names of a constraint
 
 module _ (ends : EndRule) (j : Job) (accepted : refusal j ≡ 0) where
@@ -175,14 +188,5 @@ module _ (ends : EndRule) (j : Job) (accepted : refusal j ≡ 0) where
       let (a, b) = both-named ends j ok c m in
       record { sup = a; sub = b; point = point-in j ok p (walked-is-code j p (w .1)) (actionAt (graphOf j) p) refl m′ }
 
-  pub named-at : (p : Point) → T (isWalked (graphOf j) p) → AllNamed (settingOf ends j) (constraintsAt j p (actionAt (graphOf j) p))
-  unfolding constraintsOf
-  named-at p w c m =
-      all-named c
-      (member-gather (λ (q : Point). constraintsAt j q (actionAt (graphOf j) q)) (select (isWalked (graphOf j)) (below (graphOf j .code))) p
-      (contains-select (isWalked (graphOf j)) (below (graphOf j .code)) p (contains-below (graphOf j .code) p (walked-is-code j p w)) w) m)
-
   pub named-below : (n : ℕ) → AllNamed (settingOf ends j) (constraintsBelow j n)
-  named-below n c m =
-      let (p, at, m′) = gather-member (λ (p : Point). constraintsAt j p (actionAt (graphOf j) p)) (select (isWalked (graphOf j)) (below n)) m in
-      named-at p (select-contains (isWalked (graphOf j)) (below n) p at .1) c m′
+  named-below n c m = all-named c (own-below j n c m)

@@ -1,34 +1,35 @@
 -- A round: the constraints of the points of walked blocks, collected in a list and run. Assumes nothing.
 use mathlib.Core.Path.{_≡_, refl, sym, ap, _∙_, subst}
+use mathlib.Core.Logic.{⊎-elim}
 use mathlib.Core.Bool.{Bool, true, false, cond}
 use mathlib.Core.List.{List, [], _++_, append-nil, append-assoc}
 use Prim.Native.Nat.{ℕ, _+_, _*_, _≤_, _<_}
 use native.Mathlib.Omega.{arith}
 use native.Mathlib.Decide.{decLt}
-use lib.ListN.{length}
+use lib.ListN.{length, length-replicate}
 use Rattle.nll_spec.specs.Lists.{Member}
 use Rattle.nll_spec.specs.Syntax.{Job, Point}
 use Rattle.nll_spec.specs.Output.{wordBits}
 use Rattle.nll_spec.specs.WellFormed.{refusal}
 use Rattle.nll_spec.specs.Graph.{graphOf, actionAt, isWalked}
 use Rattle.nll_spec.specs.Constraints.{Outlives, constraintsAt, constraintsOf}
-use Rattle.nll_spec.specs.Regions.{everyEnd}
 use Rattle.nll_spec.proofs.GraphLaws.{code-count}
 use Rattle.nll_spec.proofs.Members.{member-right}
 use Rattle.bit_set.specs.Bits.{has}
 use Rattle.record.specs.Layout.{Layout}
 use Rattle.record.specs.declared.Head.{Head}
-use Rattle.constraint_list.specs.Listed.{usedIn, roomIn, constraintsIn, firstIn, Sound, Fits, Added, Adds}
+use Rattle.constraint_list.specs.Listed.{countIn, roomIn, constraintsIn, firstIn, Adds, Draws}
 use Rattle.constraint_list.proofs.ListLaws.{adds-none, first-none}
 use Rattle.infer.specs.Search.{ruleOf}
-use Rattle.infer.specs.Ran.{Ran, Runs}
+use Rattle.infer.specs.Ran.{Setting, Given, Ran, Runs, anyMarked}
 use Rattle.infer.specs.declared.EndRule as declared
 use Rattle.infer.specs.declared.Shape.{Shape}
-use Rattle.infer.proofs.RanLaws.{true-T, no-member, ran-none, ran-append, given-kept}
+use Rattle.infer.proofs.RanLaws.{no-member, ran-none, ran-append, ran-again, given-kept}
 use Rattle.constraints.specs.Constraining.{Constrains}
-use Rattle.regionck.specs.Rounds.{settingOf, noMarks, walkedAt, constraintsBelow, Known, PointAdds, Holding, RunsBelow, RoundRuns}
+use Rattle.regionck.specs.Rounds.{settingOf, noMarks, walkedAt, constraintsBelow, Known, PointAdds, Holding, RunsBelow, OwnKept, Settles, RoundRuns, Noted}
 use Rattle.constraints.proofs.ListLaws.{select-below}
-use Rattle.regionck.proofs.NamedLaws.{named-at, named-below}
+use Rattle.regionck.proofs.NamedLaws.{own-below, all-named, named-below}
+use Rattle.regionck.proofs.MarkLaws.{blank, noted-joined, quiet-joined}
 use Rattle.constraints.proofs.FewLaws.{few-constraints}
 
 -- ---- A point
@@ -60,10 +61,9 @@ module _ {s t : List ℕ} {h : Head} {walked : List ℕ} {p : Point} where
 -- ---- The points that a list has
 
 module _ {s t : List ℕ} {h : Head} {walked : List ℕ} {code : ℕ} where
-  pub held-none : {ls : List ℕ} {from : ℕ} → usedIn ls ≡ 0 → Sound ls → from ≤ code → Holding s t h walked code ls from from
-  held-none {ls} {from} e sound l = record {
+  pub held-none : {ls : List ℕ} {from : ℕ} → countIn ls ≡ 0 → from ≤ code → Holding s t h walked code ls from from
+  held-none {ls} {from} e l = record {
     within = l;
-    sound = λ j k. sound;
     holds = λ j k. ap (λ (n : ℕ). constraintsBelow j from ++ firstIn ls n) e ∙ ap (λ (cs : List Outlives). constraintsBelow j from ++ cs) (first-none ls) ∙ append-nil (constraintsBelow j from);
   }
 
@@ -76,32 +76,18 @@ module _ {s t : List ℕ} {h : Head} {walked : List ℕ} {code : ℕ} where
         go true = few-constraints (k .layout) (k .accepted) p (omega (arith, l, k .points))
         go false = omega arith
 
-    -- they have numbers
-    fits-at : (c : Outlives) → Member c (walkedAt j p) → Fits c
-    fits-at c m = go (isWalked (graphOf j) p) refl m
-      where
-        go : (b : Bool) → isWalked (graphOf j) p ≡ b → Member c (cond b (constraintsAt j p (actionAt (graphOf j) p)) []) → Fits c
-        go true e m =
-            let x = named-at everyEnd j (k .accepted) p (true-T _ e) c m in
-            record { sup = omega (arith, x .sup, k .layout .regions, k .layout .regionLimit); sub = omega (arith, x .sub, k .layout .regions, k .layout .regionLimit); point = omega (arith, x .point, code-count j, k .layout .few) }
-        go false e m = absurd (no-member m)
-
-  pub held-more : {ls ls′ : List ℕ} {from p : ℕ} → PointAdds s t h walked p ls ls′ → Holding s t h walked code ls from p → 528 ≤ roomIn ls → p < code → Holding s t h walked code ls′ from (p + 1)
+  pub held-more : {ls ls′ : List ℕ} {from p : ℕ} → PointAdds s t h walked p ls ls′ → Holding s t h walked code ls from p → 264 ≤ roomIn ls → p < code → Holding s t h walked code ls′ from (p + 1)
   held-more {ls} {ls′} {from} {p} y x room l = record {
     within = omega arith;
-    sound = λ j k. added j k .sound;
     holds = λ j k.
-        ap (λ (cs : List Outlives). constraintsBelow j from ++ cs) (added j k .says)
+        ap (λ (cs : List Outlives). constraintsBelow j from ++ cs) (y .adds j code k l .adds (omega (arith, few-at j k l, room)))
         ∙ sym (append-assoc (constraintsBelow j from) (constraintsIn ls) (walkedAt j p))
         ∙ ap (λ (cs : List Outlives). cs ++ walkedAt j p) (x .holds j k)
         ∙ sym (select-below (λ (q : ℕ). constraintsAt j q (actionAt (graphOf j) q)) (isWalked (graphOf j)) p);
   }
-    where
-      added : (j : Job) → Known s t h walked code j → Added (walkedAt j p) ls ls′
-      added j k = y .adds j code k l .adds (x .sound j k) (fits-at j k l) (omega (arith, few-at j k l, room))
 
 -- a list without room has the constraints of a point
-pub some-point : {from p room : ℕ} → from ≤ p → (p ≡ from → 528 ≤ room) → room < 528 → from < p
+pub some-point : {from p room : ℕ} → from ≤ p → (p ≡ from → 264 ≤ room) → room < 264 → from < p
 some-point {from} {p} l k r = go (decLt from p)
   where
     go : Dec (from < p) → from < p
@@ -131,9 +117,77 @@ module _ (s t : List ℕ) (h : Head) (walked : List ℕ) (shape : Shape) (rule :
   pub below-code : {ws′ grew : List ℕ} (n : ℕ) → n ≡ shape .code → RunsBelow s t h walked shape rule first succ chain last ws ws′ grew n → RunsBelow s t h walked shape rule first succ chain last ws ws′ grew (shape .code)
   below-code {ws′} {grew} n e x = subst (λ (k : ℕ). RunsBelow s t h walked shape rule first succ chain last ws ws′ grew k) e x
 
-  pub below-all : {ws′ grew : List ℕ} → RunsBelow s t h walked shape rule first succ chain last ws ws′ grew (shape .code) → RoundRuns s t h walked shape rule first succ chain last ws ws′ grew
+  -- then those of a list are run more often
+  pub below-all : {hot ls ws₁ grew₁ ws₂ grew₂ : List ℕ} → RunsBelow s t h walked shape rule first succ chain last ws ws₁ grew₁ (shape .code) → OwnKept s t h walked (shape .code) hot ls
+      → Settles shape rule first succ chain (constraintsIn ls) ws₁ grew₁ ws₂ grew₂ → RoundRuns s t h walked shape rule first succ chain last hot ws ws₂ grew₂
   unfolding constraintsOf
-  below-all {ws′} {grew} x =
+  below-all {hot} {ls} {ws₁} {grew₁} x own y =
       record {
-        ran = λ j layout accepted w g. subst (λ (k : ℕ). Ran (settingOf (ruleOf rule) j) last (constraintsBelow j k) ws noMarks ws′ grew) (g .code) (x .ran j layout accepted w g);
+        ran = λ j layout accepted w o g.
+            y .ran (settingOf (ruleOf rule) j) last (constraintsOf j (graphOf j)) ws g (all-named (ruleOf rule) j accepted) (own .kept j (record { layout = layout; accepted = accepted; reached = w; points = g .code }) o)
+            (subst (λ (k : ℕ). Ran (settingOf (ruleOf rule) j) last (constraintsBelow j k) ws noMarks ws₁ grew₁) (g .code) (x .ran j layout accepted w g));
       }
+
+-- ---- Lists whose constraints are the job's
+
+module _ {s t : List ℕ} {h : Head} {walked : List ℕ} {code : ℕ} where
+  pub own-same : {ls : List ℕ} → OwnKept s t h walked code ls ls
+  own-same = record { kept = λ j k o. o }
+
+  pub own-then : {ls ls₁ ls₂ : List ℕ} → OwnKept s t h walked code ls ls₁ → OwnKept s t h walked code ls₁ ls₂ → OwnKept s t h walked code ls ls₂
+  own-then x y = record { kept = λ j k o. y .kept j k (x .kept j k o) }
+
+  -- nothing comes to it
+  pub own-fewer : {ls ls₁ : List ℕ} → Draws [] ls ls₁ → OwnKept s t h walked code ls ls₁
+  own-fewer x = record { kept = λ j k o c m. ⊎-elim (o c) (λ z. absurd (no-member z)) (x .drawn c m) }
+
+  -- constraints of points come to it
+  pub own-drawn : {ls hot hot₁ : List ℕ} {n m : ℕ} → Holding s t h walked code ls n m → Draws (constraintsIn ls) hot hot₁ → OwnKept s t h walked code hot hot₁
+  own-drawn {ls} {n = n} {m = m} held x = record {
+    kept = λ j k o c z. ⊎-elim (o c)
+        (λ y. own-below j m c (subst (λ (cs : List Outlives). Member c cs) (held .holds j k) (member-right (constraintsBelow j n) (constraintsIn ls) y)))
+        (x .drawn c z);
+  }
+
+-- ---- Constraints that are run more often
+
+given-again : {s : Setting} {shape : Shape} {rule : declared.EndRule} {first succ chain ws ws′ marks : List ℕ} → Given s shape rule first succ chain ws marks → length ws′ ≡ length ws
+    → Given s shape rule first succ chain ws′ marks
+given-again g e =
+    record {
+      edges = g .edges;
+      code = g .code;
+      points = g .points;
+      width = g .width;
+      linked = g .linked;
+      ends = g .ends;
+      wide = g .wide;
+      narrow = g .narrow;
+      few = g .few;
+      room = rw e (g .room);
+      marks = g .marks;
+    }
+
+module _ {shape : Shape} {rule : declared.EndRule} {first succ chain : List ℕ} {cs : List Outlives} {ws grew : List ℕ} where
+  pub settles-none : Settles shape rule first succ chain cs ws grew ws grew
+  settles-none = record { ran = λ s last ds ws₀ g named among x. x }
+
+  pub settles-more : {last ws₁ grew₁ ws₂ next grew₂ : List ℕ} → Settles shape rule first succ chain cs ws grew ws₁ grew₁ → Runs shape rule first succ chain last cs ws₁ noMarks ws₂ next
+      → (length grew₁ ≡ 128 → Noted next grew₁ grew₂ 128) → Settles shape rule first succ chain cs ws grew ws₂ grew₂
+  settles-more {last} {ws₁} {grew₁} {ws₂} {next} {grew₂} x y noted = record {
+    ran = λ s last′ ds ws₀ g named among z.
+        let a = x .ran s last′ ds ws₀ g named among z in
+        let b = y .ran s (given-again g (a .as-long)) (λ c m. named c (among c m)) in
+        let e = a .as-many ∙ length-replicate {A = ℕ} 128 0 in
+        ran-again a b (λ r m. m (blank r)) among (noted-joined e (b .as-many ∙ length-replicate {A = ℕ} 128 0) (noted e));
+  }
+
+  -- a run that marks no region
+  pub settles-quiet : {last ws₁ grew₁ ws₂ next : List ℕ} → Settles shape rule first succ chain cs ws grew ws₁ grew₁ → Runs shape rule first succ chain last cs ws₁ noMarks ws₂ next → anyMarked next 128 ≡ false
+      → Settles shape rule first succ chain cs ws grew ws₂ grew₁
+  settles-quiet {last} {ws₁} {grew₁} {ws₂} {next} x y e = record {
+    ran = λ s last′ ds ws₀ g named among z.
+        let a = x .ran s last′ ds ws₀ g named among z in
+        let b = y .ran s (given-again g (a .as-long)) (λ c m. named c (among c m)) in
+        ran-again a b (λ r m. m (blank r)) among (quiet-joined (b .as-many ∙ length-replicate {A = ℕ} 128 0) e);
+  }

@@ -31,21 +31,17 @@ use Rattle.bit_set.proofs.BitLaws.{words-ext, has-out}
 use Rattle.bit_set.proofs.RowLaws.{run-has}
 use Rattle.bit_set.proofs.MissingLaws.{missing-lt}
 use Rattle.record.specs.declared.Head.{Head}
+use Rattle.constraint_list.specs.Listed.{countIn, firstIn}
+use Rattle.constraint_list.proofs.ListLaws.{first-none}
 use Rattle.infer.specs.Search.{ruleOf}
 use Rattle.infer.specs.Ran.{Setting, bitAt, setsOf as setsIn, Words, AllReady, Ran, Rounds, Quiet, Given, AllNamed, anyMarked}
 use Rattle.infer.specs.declared.EndRule as declared
 use Rattle.infer.specs.declared.Shape.{Shape}
 use Rattle.dfs.specs.Walk.{Chained}
-use Rattle.infer.proofs.RanLaws.{true-T, sets-has, sets-below, has-sets, first-ready, next-ready, quiet-none, quiet-same, found-mark, rounds-none, rounds-more, rounds-unused, solved}
-use Rattle.regionck.specs.Rounds.{settingOf, noMarks, RoundRuns, Cleared, Noted, Seeded, leastSets, Solved}
+use Rattle.infer.proofs.RanLaws.{true-T, no-member, sets-has, sets-below, has-sets, first-ready, next-ready, quiet-none, quiet-same, found-mark, rounds-none, rounds-more, rounds-unused, solved}
+use Rattle.regionck.specs.Rounds.{settingOf, noMarks, Known, Own, OwnKept, RoundRuns, Cleared, Noted, Seeded, leastSets, Solved}
 use Rattle.regionck.proofs.NamedLaws.{all-named}
-
-blank : (r : RegionName) → getD noMarks r 0 ≡ 0
-blank r = go (decLt r 128)
-  where
-    go : Dec (r < 128) → getD noMarks r 0 ≡ 0
-    go (yes l) = getD-replicate {A = ℕ} 128 r 0 0 l
-    go (no l) = List·getD-eq-default noMarks 0 {n = r} (rw length-replicate (omega (arith, l)))
+use Rattle.regionck.proofs.MarkLaws.{blank}
 
 missed : (a b : List ℕ) → ((k : ℕ) → has a k ≡ true → has b k ≡ true) → (k : ℕ) → has b k ≡ false → has a k ≡ false
 missed a b kept k e = go (has a k) refl
@@ -229,9 +225,9 @@ module _ (s t : List ℕ) (h : Head) (first succ chain walked : List ℕ) (shape
         size : length (take (j .regions * wordCount (pointCount j)) ws₀) ≤ j .regions * wordCount (pointCount j)
         size = rw length-take (omega arith)
 
-    more : {ws last marks ws′ grew marks′ : List ℕ} {left : ℕ} → Going ends j ws₀ ws last marks left → RoundRuns s t h walked shape rule first succ chain last ws ws′ grew → anyMarked grew 128 ≡ true → Noted grew marks marks′ 128
+    more : {hot ws last marks ws′ grew marks′ : List ℕ} {left : ℕ} → Going ends j ws₀ ws last marks left → Own j hot → RoundRuns s t h walked shape rule first succ chain last hot ws ws′ grew → anyMarked grew 128 ≡ true → Noted grew marks marks′ 128
         → Going ends j ws₀ ws′ grew marks′ (left - 1)
-    more {ws} {last} {marks} {ws′} {grew} {marks′} {left} g y m noted =
+    more {hot} {ws} {last} {marks} {ws′} {grew} {marks′} {left} g own y m noted =
         record {
           rounds = rounds-more e cs (g .rounds) ran;
           ready = next-ready e ran (g .ready) noMarks;
@@ -240,11 +236,11 @@ module _ (s t : List ℕ) (h : Head) (first succ chain walked : List ℕ) (shape
         }
       where
         ran : Ran e last cs ws noMarks ws′ grew
-        ran = y .ran j (x .layout) (x .accepted) (x .reached) (given ws (g .rounds .as-long))
+        ran = y .ran j (x .layout) (x .accepted) (x .reached) own (given ws (g .rounds .as-long))
 
-    module _ {ws last marks ws′ grew : List ℕ} {left : ℕ} (g : Going ends j ws₀ ws last marks left) (y : RoundRuns s t h walked shape rule first succ chain last ws ws′ grew) (m : anyMarked grew 128 ≡ false) where
+    module _ {hot ws last marks ws′ grew : List ℕ} {left : ℕ} (g : Going ends j ws₀ ws last marks left) (own : Own j hot) (y : RoundRuns s t h walked shape rule first succ chain last hot ws ws′ grew) (m : anyMarked grew 128 ≡ false) where
       ran : Ran e last cs ws noMarks ws′ grew
-      ran = y .ran j (x .layout) (x .accepted) (x .reached) (given ws (g .rounds .as-long))
+      ran = y .ran j (x .layout) (x .accepted) (x .reached) own (given ws (g .rounds .as-long))
 
       quiet : Quiet e grew
       quiet = quiet-none e grew few-regions m
@@ -352,16 +348,30 @@ module _ (s t : List ℕ) (h : Head) (first succ chain walked : List ℕ) (shape
 
   -- ---- The loop
 
+  -- what the job is known by
+  known : (j : Job) → Seeded s t h first succ walked shape ws₀ j → Known s t h walked (shape .code) j
+  known j x = record { layout = x .layout; accepted = x .accepted; reached = x .reached; points = x .code }
+
+  -- The constraints of the list are the job's.
+  pub record Kept (hot : List ℕ) : Type 0 where
+    pub own : (j : Job) → Seeded s t h first succ walked shape ws₀ j → Own j hot
+
+  pub kept-none : {hot : List ℕ} → countIn hot ≡ 0 → Kept hot
+  kept-none {hot} e = record { own = λ j x c m. absurd (no-member (subst (λ (cs : List Outlives). Member c cs) (ap (firstIn hot) e ∙ first-none hot) m)) }
+
+  pub kept-more : {hot hot′ : List ℕ} → Kept hot → OwnKept s t h walked (shape .code) hot hot′ → Kept hot′
+  kept-more k y = record { own = λ j x. y .kept j (known j x) (k .own j x) }
+
   pub going-start : {marks : List ℕ} → Cleared marks 128 → GoingOn ws₀ (replicate 128 1) marks 131073
   going-start z = record { going = λ j x ch. start j x ch z }
 
-  pub going-more : {ws last marks ws′ grew marks′ : List ℕ} {left : ℕ} → GoingOn ws last marks left → RoundRuns s t h walked shape rule first succ chain last ws ws′ grew → anyMarked grew 128 ≡ true → Noted grew marks marks′ 128
-      → GoingOn ws′ grew marks′ (left - 1)
-  going-more g y m noted = record { going = λ j x ch. more j x ch (g .going j x ch) y m noted }
+  pub going-more : {hot ws last marks ws′ grew marks′ : List ℕ} {left : ℕ} → GoingOn ws last marks left → Kept hot → RoundRuns s t h walked shape rule first succ chain last hot ws ws′ grew → anyMarked grew 128 ≡ true
+      → Noted grew marks marks′ 128 → GoingOn ws′ grew marks′ (left - 1)
+  going-more g k y m noted = record { going = λ j x ch. more j x ch (g .going j x ch) (k .own j x) y m noted }
 
-  pub going-done : {ws last marks ws′ grew : List ℕ} {left : ℕ} → GoingOn ws last marks left → RoundRuns s t h walked shape rule first succ chain last ws ws′ grew → anyMarked grew 128 ≡ false
+  pub going-done : {hot ws last marks ws′ grew : List ℕ} {left : ℕ} → GoingOn ws last marks left → Kept hot → RoundRuns s t h walked shape rule first succ chain last hot ws ws′ grew → anyMarked grew 128 ≡ false
       → (j : Job) → Seeded s t h first succ walked shape ws₀ j → Chained chain first succ → Solved (ruleOf rule) j ws₀ ws′ marks
-  going-done g y m j x ch = done j x ch (g .going j x ch) y m
+  going-done g k y m j x ch = done j x ch (g .going j x ch) (k .own j x) y m
 
   -- the rounds do not run out
   pub going-out : {ws last marks : List ℕ} {left : ℕ} → left ≡ 0 → GoingOn ws last marks left → (j : Job) → Seeded s t h first succ walked shape ws₀ j → Chained chain first succ → Solved (ruleOf rule) j ws₀ ws marks

@@ -4,7 +4,7 @@ use mathlib.Core.Bool.{cond}
 use mathlib.Core.List.{List, [], _++_}
 use Prim.Native.Nat.{ℕ, _≤_, _<_}
 use lib.ListN.{length, getD, replicate}
-use Rattle.nll_spec.specs.Lists.{gather, select, below}
+use Rattle.nll_spec.specs.Lists.{gather, select, below, Member}
 use Rattle.nll_spec.specs.Fixpoint.{Table}
 use Rattle.nll_spec.specs.Syntax.{Job, Point, RegionName}
 use Rattle.nll_spec.specs.Decode.{pointCount}
@@ -20,10 +20,10 @@ use Rattle.record.specs.declared.Head.{Head}
 use Rattle.graph.specs.Tables.{Edges}
 use Rattle.graph.specs.Search.{Marked}
 use Rattle.infer.specs.Search.{ruleOf}
-use Rattle.infer.specs.Ran.{Setting, Words, Given, Ran}
+use Rattle.infer.specs.Ran.{Setting, Words, Given, AllNamed, Ran}
 use Rattle.infer.specs.declared.EndRule as declared
 use Rattle.infer.specs.declared.Shape.{Shape}
-use Rattle.constraint_list.specs.Listed.{constraintsIn, Sound, Adds}
+use Rattle.constraint_list.specs.Listed.{constraintsIn, Adds}
 
 -- what the constraints of a job are run in
 abbrev pub settingOf : EndRule → Job → Setting
@@ -59,7 +59,6 @@ pub record PointAdds (s t : List ℕ) (h : Head) (walked : List ℕ) (p : Point)
 -- The list has the constraints of the points from the first on, up to the second.
 pub record Holding (s t : List ℕ) (h : Head) (walked : List ℕ) (code : ℕ) (ls : List ℕ) (from to : Point) : Type 0 where
   pub within : to ≤ code
-  pub sound : (j : Job) → Known s t h walked code j → Sound ls
   pub holds : (j : Job) → Known s t h walked code j → constraintsBelow j from ++ constraintsIn ls ≡ constraintsBelow j to
 
 -- The list has the constraints of `from` and of the points after it, up to r.
@@ -72,9 +71,22 @@ pub record RunsBelow (s t : List ℕ) (h : Head) (walked : List ℕ) (shape : Sh
   pub ran : (j : Job) → Layout s t h j → refusal j ≡ 0 → WalkedIn j walked → Given (settingOf (ruleOf rule) j) shape rule first succ chain ws noMarks
       → Ran (settingOf (ruleOf rule) j) last (constraintsBelow j n) ws noMarks ws′ grew
 
--- The same of all constraints of a job.
-pub record RoundRuns (s t : List ℕ) (h : Head) (walked : List ℕ) (shape : Shape) (rule : declared.EndRule) (first succ chain last ws ws′ grew : List ℕ) : Type 0 where
-  pub ran : (j : Job) → Layout s t h j → refusal j ≡ 0 → WalkedIn j walked → Given (settingOf (ruleOf rule) j) shape rule first succ chain ws noMarks
+-- Each constraint of the list is one of the job's.
+abbrev pub Own : Job → List ℕ → Type 0
+Own j ls = (c : Outlives) → Member c (constraintsIn ls) → Member c (constraintsOf j (graphOf j))
+
+-- So it is of the list ls′ if it is of ls.
+pub record OwnKept (s t : List ℕ) (h : Head) (walked : List ℕ) (code : ℕ) (ls ls′ : List ℕ) : Type 0 where
+  pub kept : (j : Job) → Known s t h walked code j → Own j ls → Own j ls′
+
+-- The constraints cs are run more often: a run of constraints with cs among them is one still.
+pub record Settles (shape : Shape) (rule : declared.EndRule) (first succ chain : List ℕ) (cs : List Outlives) (ws grew ws′ grew′ : List ℕ) : Type 0 where
+  pub ran : (s : Setting) (last : List ℕ) (ds : List Outlives) (ws₀ : List ℕ) → Given s shape rule first succ chain ws₀ noMarks → AllNamed s ds
+      → ((c : Outlives) → Member c cs → Member c ds) → Ran s last ds ws₀ noMarks ws grew → Ran s last ds ws₀ noMarks ws′ grew′
+
+-- All constraints of a job are run, from no marks on, if those of `hot` are its own.
+pub record RoundRuns (s t : List ℕ) (h : Head) (walked : List ℕ) (shape : Shape) (rule : declared.EndRule) (first succ chain last hot ws ws′ grew : List ℕ) : Type 0 where
+  pub ran : (j : Job) → Layout s t h j → refusal j ≡ 0 → WalkedIn j walked → Own j hot → Given (settingOf (ruleOf rule) j) shape rule first succ chain ws noMarks
       → Ran (settingOf (ruleOf rule) j) last (constraintsOf j (graphOf j)) ws noMarks ws′ grew
 
 -- The first n regions have no mark.

@@ -14,7 +14,7 @@ ghost use lib.Dec.{eqb};
 ghost use Rattle.nll_spec.specs.Syntax.{Job};
 ghost use Rattle.infer.specs.Search.{ruleOf};
 ghost use Rattle.dfs.specs.Walk.{Chained};
-ghost use Rattle.regionck.specs.Rounds.{Holding, Cleared, Noted, Seeded, Solved};
+ghost use Rattle.regionck.specs.Rounds.{Cleared, Noted, Seeded, Solved};
 
 // Each round but the last puts a point into a region's set, and 128 sets of 1024 points hold no more.
 const ROUNDS: u32 = 131073;
@@ -41,16 +41,14 @@ fn marked(grew: u8, grown: u8) -> u8
 
 // Marks in grown, by 1, each region that grew.
 fn note(grew: &[u8; 128], grown: &mut [u8; 128])
-    requires { ⌜ length (now grown) ≡ 128 ⌝ }
-    ensures { λ _. ⌜ Noted (now (grew .entry)) (now (grown .entry)) (now (grown .exit)) 128 ⌝ }
+    ensures { λ _. ⌜ (length (now (grown .entry)) ≡ 128 → Noted (now (grew .entry)) (now (grown .entry)) (now (grown .exit)) 128) ⌝ }
 {
     for r in 0..128 {
         grown[r] = marked(grew[r], grown[r]);
     }
 }
 
-// Runs rounds until no set grows. `grown` marks, by 1, the regions whose sets grew. The list has the constraints of the points before `to`, and those of the
-// others are derived anew in each round.
+// Runs rounds until no set grows. `grown` marks, by 1, the regions whose sets grew. The constraints for which the list has room are derived once.
 fn solve(
     s: &[u8],
     layout: &[u16; 1280],
@@ -63,14 +61,15 @@ fn solve(
     rule: EndRule,
     words: &mut [u32],
     grown: &mut [u8; 128],
-    list: &[u16],
-    to: usize,
+    list: &mut [u32],
 )
-    requires { ⌜ (length (now layout) ≡ 1280) × (length (now grown) ≡ 128) × Holding (now s) (now layout) head (now walked) (shape .code) (now list) 0 to ⌝ }
+    requires { ⌜ (length (now layout) ≡ 1280) × (length (now grown) ≡ 128) × (265 ≤ length (now list)) ⌝ }
     ensures { λ _. ⌜ (length (now (grown .exit)) ≡ 128) × ((j : Job) → Seeded (now (s .entry)) (now (layout .entry)) head (now (first .entry)) (now (succ .entry)) (now (walked .entry)) shape (now (words .entry)) j
         → Chained (now (chain .entry)) (now (first .entry)) (now (succ .entry)) → Solved (ruleOf rule) j (now (words .entry)) (now (words .exit)) (now (grown .exit))) ⌝ }
 {
     clear(grown);
+    let to = collect(s, layout, head, walked, shape.code, 0, list);
+    let mut hot = [0; 257];
     let mut last = [1; 128];
     let mut left = ROUNDS;
     while left != 0 {
@@ -86,6 +85,7 @@ fn solve(
             succ,
             chain,
             &last,
+            &mut hot,
             list,
             to,
         );
@@ -97,95 +97,6 @@ fn solve(
     }
 }
 
-// The same with a long list.
-fn solve_large(
-    s: &[u8],
-    layout: &[u16; 1280],
-    head: Head,
-    first: &[u16; 1025],
-    succ: &[u16; 1536],
-    walked: &[u32; 32],
-    shape: Shape,
-    rule: EndRule,
-    words: &mut [u32],
-    grown: &mut [u8; 128],
-)
-    requires { ⌜ (length (now layout) ≡ 1280) × (length (now grown) ≡ 128) ⌝ }
-    ensures { λ _. ⌜ (length (now (grown .exit)) ≡ 128) × ((j : Job) → Seeded (now (s .entry)) (now (layout .entry)) head (now (first .entry)) (now (succ .entry)) (now (walked .entry)) shape (now (words .entry)) j
-        → Solved (ruleOf rule) j (now (words .entry)) (now (words .exit)) (now (grown .exit))) ⌝ }
-{
-    let chain = dfs::chains(first, succ, shape.code);
-    let mut list = [0; 65536];
-    let to = collect(s, layout, head, walked, shape.code, 0, &mut list);
-    solve(
-        s,
-        layout,
-        head,
-        first,
-        succ,
-        &chain,
-        walked,
-        shape,
-        rule,
-        words,
-        grown,
-        &list,
-        to,
-    );
-}
-
-// The same with a list that is lent, if it has room for all constraints.
-fn solve_by(
-    s: &[u8],
-    layout: &[u16; 1280],
-    head: Head,
-    first: &[u16; 1025],
-    succ: &[u16; 1536],
-    walked: &[u32; 32],
-    shape: Shape,
-    rule: EndRule,
-    words: &mut [u32],
-    grown: &mut [u8; 128],
-    list: &mut [u16],
-)
-    requires { ⌜ (length (now layout) ≡ 1280) × (length (now grown) ≡ 128) × (530 ≤ length (now list)) ⌝ }
-    ensures { λ _. ⌜ (length (now (grown .exit)) ≡ 128) × ((j : Job) → Seeded (now (s .entry)) (now (layout .entry)) head (now (first .entry)) (now (succ .entry)) (now (walked .entry)) shape (now (words .entry)) j
-        → Solved (ruleOf rule) j (now (words .entry)) (now (words .exit)) (now (grown .exit))) ⌝ }
-{
-    let to = collect(s, layout, head, walked, shape.code, 0, list);
-    if to < shape.code {
-        solve_large(
-            s,
-            layout,
-            head,
-            first,
-            succ,
-            walked,
-            shape,
-            rule,
-            words,
-            grown,
-        );
-    } else {
-        let chain = dfs::chains(first, succ, shape.code);
-        solve(
-            s,
-            layout,
-            head,
-            first,
-            succ,
-            &chain,
-            walked,
-            shape,
-            rule,
-            words,
-            grown,
-            list,
-            to,
-        );
-    }
-}
-
 // The same for at most 256 points, with a list of a size for so many.
 fn solve_small(
     s: &[u8],
@@ -193,6 +104,7 @@ fn solve_small(
     head: Head,
     first: &[u16; 1025],
     succ: &[u16; 1536],
+    chain: &[u32; 32],
     walked: &[u32; 32],
     shape: Shape,
     rule: EndRule,
@@ -201,16 +113,17 @@ fn solve_small(
 )
     requires { ⌜ (length (now layout) ≡ 1280) × (length (now grown) ≡ 128) ⌝ }
     ensures { λ _. ⌜ (length (now (grown .exit)) ≡ 128) × ((j : Job) → Seeded (now (s .entry)) (now (layout .entry)) head (now (first .entry)) (now (succ .entry)) (now (walked .entry)) shape (now (words .entry)) j
-        → Solved (ruleOf rule) j (now (words .entry)) (now (words .exit)) (now (grown .exit))) ⌝ }
+        → Chained (now (chain .entry)) (now (first .entry)) (now (succ .entry)) → Solved (ruleOf rule) j (now (words .entry)) (now (words .exit)) (now (grown .exit))) ⌝ }
 {
     if shape.code <= 64 {
-        let mut list = [0; 1026];
-        solve_by(
+        let mut list = [0; 513];
+        solve(
             s,
             layout,
             head,
             first,
             succ,
+            chain,
             walked,
             shape,
             rule,
@@ -219,13 +132,14 @@ fn solve_small(
             &mut list,
         );
     } else {
-        let mut list = [0; 4098];
-        solve_by(
+        let mut list = [0; 4097];
+        solve(
             s,
             layout,
             head,
             first,
             succ,
+            chain,
             walked,
             shape,
             rule,
@@ -253,6 +167,7 @@ pub fn regionck(
     ensures { λ _. ⌜ (length (now (grown .exit)) ≡ 128) × ((j : Job) → Seeded (now (s .entry)) (now (layout .entry)) head (now (first .entry)) (now (succ .entry)) (now (walked .entry)) shape (now (words .entry)) j
         → Solved (ruleOf rule) j (now (words .entry)) (now (words .exit)) (now (grown .exit))) ⌝ }
 {
+    let chain = dfs::chains(first, succ, shape.code);
     if shape.code <= 256 {
         solve_small(
             s,
@@ -260,6 +175,7 @@ pub fn regionck(
             head,
             first,
             succ,
+            &chain,
             walked,
             shape,
             rule,
@@ -267,17 +183,20 @@ pub fn regionck(
             grown,
         );
     } else {
-        solve_large(
+        let mut list = [0; 12289];
+        solve(
             s,
             layout,
             head,
             first,
             succ,
+            &chain,
             walked,
             shape,
             rule,
             words,
             grown,
+            &mut list,
         );
     }
 }

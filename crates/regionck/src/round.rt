@@ -1,20 +1,25 @@
 // One round of the constraints.
+use super::note;
 use constraints::constrain;
 use infer::EndRule;
 use infer::Shape;
 use record::Head;
 use relate::Site;
 ghost use mathlib.Core.Path.{_≡_};
-ghost use mathlib.Core.List.{List};
+ghost use mathlib.Core.List.{List, []};
 ghost use Prim.Native.Nat.{ℕ, _≤_};
 ghost use lib.ListN.{length};
-ghost use Rattle.regionck.specs.Rounds.{PointAdds, Collects, Holding, RunsBelow, RoundRuns};
+ghost use Rattle.constraint_list.specs.Listed.{constraintsIn, Draws};
+ghost use Rattle.regionck.specs.Rounds.{PointAdds, Collects, Holding, RunsBelow, OwnKept, Settles, RoundRuns};
 
-// No action's constraints take more numbers of a list.
-const MOST: usize = 528;
+// No action makes more constraints.
+const MOST: usize = 264;
+
+// How often constraints are run before a round of all is due.
+const TIMES: u32 = 65536;
 
 // Adds the constraints of a point of the blocks, if its block is walked.
-fn point(s: &[u8], layout: &[u16; 1280], head: Head, walked: &[u32; 32], p: usize, list: &mut [u16])
+fn point(s: &[u8], layout: &[u16; 1280], head: Head, walked: &[u32; 32], p: usize, list: &mut [u32])
     requires { ⌜ length (now layout) ≡ 1280 ⌝ }
     ensures { λ _. ⌜ PointAdds (now (s .entry)) (now (layout .entry)) head (now (walked .entry)) p (now (list .entry)) (now (list .exit)) ⌝ }
 {
@@ -36,9 +41,9 @@ pub fn collect(
     walked: &[u32; 32],
     code: usize,
     from: usize,
-    list: &mut [u16],
+    list: &mut [u32],
 ) -> usize
-    requires { ⌜ (length (now layout) ≡ 1280) × (from ≤ code) × (530 ≤ length (now list)) ⌝ }
+    requires { ⌜ (length (now layout) ≡ 1280) × (from ≤ code) × (265 ≤ length (now list)) ⌝ }
     ensures { λ r. ⌜ Collects (now (s .entry)) (now (layout .entry)) head (now (walked .entry)) code from (now (list .exit)) r ⌝ }
 {
     constraint_list::clear(list);
@@ -67,24 +72,93 @@ fn rest(
     chain: &[u32; 32],
     last: &[u8; 128],
     grew: &mut [u8; 128],
+    hot: &mut [u32],
     from: usize,
 )
     requires { ⌜ (length (now layout) ≡ 1280) × (from ≤ shape .code) ⌝ }
     ensures { λ _. ⌜ ((ws : List ℕ) → RunsBelow (now (s .entry)) (now (layout .entry)) head (now (walked .entry)) shape rule (now (first .entry)) (now (succ .entry)) (now (chain .entry))
         (now (last .entry)) ws (now (words .entry)) (now (grew .entry)) from
         → RunsBelow (now (s .entry)) (now (layout .entry)) head (now (walked .entry)) shape rule (now (first .entry)) (now (succ .entry)) (now (chain .entry))
-        (now (last .entry)) ws (now (words .exit)) (now (grew .exit)) (shape .code)) ⌝ }
+        (now (last .entry)) ws (now (words .exit)) (now (grew .exit)) (shape .code))
+        × OwnKept (now (s .entry)) (now (layout .entry)) head (now (walked .entry)) (shape .code) (now (hot .entry)) (now (hot .exit)) ⌝ }
 {
     let code = shape.code;
-    let mut list = [0; 2050];
+    if code <= from {
+        return;
+    }
+    let mut list = [0; 1025];
     let mut p = from;
     while p < code {
         p = collect(s, layout, head, walked, code, p, &mut list);
-        infer::run(words, first, succ, chain, shape, rule, last, grew, &list);
+        infer::run(
+            words,
+            first,
+            succ,
+            chain,
+            shape,
+            rule,
+            last,
+            grew,
+            hot,
+            &list,
+        );
     }
 }
 
-// Runs the constraints of each point of walked blocks. The list has those of the points before `to`.
+// Runs the constraints of the list until by them no set grows. `grew` marks, by 1, the regions whose sets grew. Nothing is done if it has no mark before.
+fn settle(
+    words: &mut [u32],
+    first: &[u16; 1025],
+    succ: &[u16; 1536],
+    chain: &[u32; 32],
+    shape: Shape,
+    rule: EndRule,
+    grew: &mut [u8; 128],
+    list: &[u32],
+)
+    ensures { λ _. ⌜ Settles shape rule (now (first .entry)) (now (succ .entry)) (now (chain .entry)) (constraintsIn (now (list .entry)))
+        (now (words .entry)) (now (grew .entry)) (now (words .exit)) (now (grew .exit)) ⌝ }
+{
+    if !infer::any_marked(grew) {
+        return;
+    }
+    let mut none = [0; 1];
+    let mut last = [1; 128];
+    let mut left = TIMES;
+    while left != 0 {
+        let mut next = [0; 128];
+        infer::run(
+            words,
+            first,
+            succ,
+            chain,
+            shape,
+            rule,
+            &last,
+            &mut next,
+            &mut none,
+            list,
+        );
+        if !infer::any_marked(&next) {
+            return;
+        }
+        note(&next, grew);
+        last = next;
+        left -= 1;
+    }
+}
+
+// Empties the list if it has no room for a constraint of each region.
+fn make_room(list: &mut [u32])
+    ensures { λ _. ⌜ Draws [] (now (list .entry)) (now (list .exit)) ⌝ }
+{
+    if constraint_list::room(list) < 128 {
+        constraint_list::clear(list);
+    }
+}
+
+// Runs the constraints of each point of walked blocks; then those by which regions were marked, now or in earlier rounds, until they are met. The list has the
+// constraints of the points before `to`, and `hot` those by which regions were marked.
 pub fn round(
     s: &[u8],
     layout: &[u16; 1280],
@@ -97,14 +171,17 @@ pub fn round(
     succ: &[u16; 1536],
     chain: &[u32; 32],
     last: &[u8; 128],
-    list: &[u16],
+    hot: &mut [u32],
+    list: &[u32],
     to: usize,
 ) -> [u8; 128]
     requires { ⌜ (length (now layout) ≡ 1280) × Holding (now s) (now layout) head (now walked) (shape .code) (now list) 0 to ⌝ }
     ensures { λ r. ⌜ RoundRuns (now (s .entry)) (now (layout .entry)) head (now (walked .entry)) shape rule (now (first .entry)) (now (succ .entry)) (now (chain .entry))
-        (now (last .entry)) (now (words .entry)) (now (words .exit)) r ⌝ }
+        (now (last .entry)) (now (hot .entry)) (now (words .entry)) (now (words .exit)) r
+        × OwnKept (now (s .entry)) (now (layout .entry)) head (now (walked .entry)) (shape .code) (now (hot .entry)) (now (hot .exit)) ⌝ }
 {
     let mut grew = [0; 128];
+    make_room(hot);
     infer::run(
         words,
         first,
@@ -114,11 +191,9 @@ pub fn round(
         rule,
         last,
         &mut grew,
+        hot,
         list,
     );
-    if shape.code <= to {
-        return grew;
-    }
     rest(
         s,
         layout,
@@ -132,7 +207,9 @@ pub fn round(
         chain,
         last,
         &mut grew,
+        hot,
         to,
     );
+    settle(words, first, succ, chain, shape, rule, &mut grew, hot);
     grew
 }

@@ -55,7 +55,7 @@ enum Both {
 }
 
 // The first outlives the second. A bound gives no constraint.
-pub fn require_outlives(sup: Region, sub: Region, site: Site, list: &mut [u16])
+pub fn require_outlives(sup: Region, sub: Region, site: Site, list: &mut [u32])
     ensures { λ _. ⌜ Adds (requireOutlives (site .at) (regionOf sup) (regionOf sub))
         (now (list .entry)) (now (list .exit)) ⌝ }
 {
@@ -74,7 +74,7 @@ pub fn require_outlives(sup: Region, sub: Region, site: Site, list: &mut [u16])
 }
 
 // Co: the second outlives the first. Contra: the first outlives the second. In: both.
-fn relate_regions(variance: Variance, a: Region, b: Region, site: Site, list: &mut [u16])
+fn relate_regions(variance: Variance, a: Region, b: Region, site: Site, list: &mut [u32])
     ensures { λ _. ⌜ Adds (relateRegions (site .at) (varianceOf variance) (regionOf a) (regionOf b))
         (now (list .entry)) (now (list .exit)) ⌝ }
 {
@@ -110,7 +110,7 @@ fn relate_types(
     two: Types,
     v: Variance,
     site: Site,
-    list: &mut [u16],
+    list: &mut [u32],
 ) -> Both
     requires { ⌜ length (now layout) ≡ 1280 ⌝ }
     ensures { λ r. ⌜ TypesRelate (now (s .entry)) (now (layout .entry)) site
@@ -161,7 +161,7 @@ fn relate_first(
     two: Rows,
     v: Variance,
     site: Site,
-    list: &mut [u16],
+    list: &mut [u32],
 ) -> Both
     requires { ⌜ (length (now layout) ≡ 1280) × (two .a .count ≡ 0 → ⊥) ⌝ }
     ensures { λ r. ⌜ FirstRelates (now (s .entry)) (now (layout .entry)) site
@@ -204,7 +204,7 @@ fn relate_arguments(
     two: Rows,
     v: Variance,
     site: Site,
-    list: &mut [u16],
+    list: &mut [u32],
 ) -> Both
     requires { ⌜ length (now layout) ≡ 1280 ⌝ }
     ensures { λ r. ⌜ ArgumentsRelate (now (s .entry)) (now (layout .entry)) site
@@ -254,7 +254,7 @@ pub fn relate(
     y: Cursor,
     variance: Variance,
     site: Site,
-    list: &mut [u16],
+    list: &mut [u32],
 )
     requires { ⌜ length (now layout) ≡ 1280 ⌝ }
     ensures { λ _. ⌜ Relates (now (s .entry)) (now (layout .entry)) site
@@ -280,7 +280,7 @@ pub fn relate_ref(
     y: Cursor,
     variance: Variance,
     site: Site,
-    list: &mut [u16],
+    list: &mut [u32],
 )
     requires { ⌜ length (now layout) ≡ 1280 ⌝ }
     ensures { λ _. ⌜ RelatesRef (region .0) (now (s .entry)) (now (layout .entry)) site

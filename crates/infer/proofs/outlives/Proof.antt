@@ -4,7 +4,7 @@ use Prim.Native.Nat.{_*_}
 use mathlib.Core.Path.{sym, _∙_}
 use mathlib.Core.Bool.{true, false, true≢false}
 use native.Mathlib.Omega.{arith}
-use Rattle.constraint_list.specs.Listed.{constraint}
+use Rattle.infer.specs.Ran.{constraint}
 use Rattle.infer.proofs.OneLaws.{Bounds, bounds-in, start-fits, given-bounds, quiet-tests, absent-test, here-test, spread-got, ran-quiet, ran-absent, ran-covered, ran-nothing, ran-still, ran-grew}
 use borrow.Author.Needs.{needs}
 use Rattle.infer.proofs.outlives.Statement.{statement}

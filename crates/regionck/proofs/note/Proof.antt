@@ -2,6 +2,7 @@
 use Prim.Native.Nat.{_-_, _≤_}
 use native.Mathlib.Omega.{arith}
 use mathlib.Core.Path.{_≡_}
+use lib.ListN.{length}
 use Rattle.regionck.specs.Rounds.{Noted}
 use Rattle.regionck.proofs.MarkLaws.{noted-none, noted-more}
 use borrow.Author.Needs.{needs}
@@ -9,13 +10,13 @@ use Rattle.regionck.proofs.note.Statement.{statement}
 use Rattle.regionck.proofs.note.Tie as tie
 
 abbrev Inv-loop : tie.InvT-loop
-Inv-loop grew grown₀ r₀ grown r = (r ≤ 128) × Noted grew grown₀ grown r
+Inv-loop grew grown₀ r₀ grown r = (r ≤ 128) × (length grown₀ ≡ 128 → Noted grew grown₀ grown r)
 
 abbrev μ-loop : tie.MeasureT-loop
 μ-loop grew grown₀ r₀ grown r = 128 - r
 
 loop-holds : tie.Need-loop-holds Inv-loop μ-loop
-loop-holds c = (search needs, noted-none (c .args .grew .now) (c .args .grown .now) (c .pre))
+loop-holds c = (search needs, noted-none (c .args .grew .now) (c .args .grown .now))
 
 element-copy-out-marked : tie.Need-element-copy-out-marked Inv-loop μ-loop
 element-copy-out-marked c = search needs
@@ -38,12 +39,12 @@ loop-less c = search needs
 loop-again : tie.Need-loop-again Inv-loop μ-loop
 loop-again c = let a = c .before .before .before .before .before .args in
     let l = c .before .before .before .before .loop in
-    (omega arith, noted-more (a .grew .now) (a .grown .now) (l .grown) (l .r) (c .marked .result) (omega arith) (l .inv .1) (c .marked .ensures))
+    (omega arith, λ k. noted-more (a .grew .now) (a .grown .now) (l .grown) (l .r) (c .marked .result) (omega arith) (l .inv .1 k) (c .marked .ensures))
 
 returns : tie.Need-returns Inv-loop μ-loop
 returns c = let l = c .before .loop in
     let e : l .r ≡ 128 = omega arith in
-    rw (← e) (l .inv .1)
+    λ k. rw (← e) (l .inv .1 k)
 
 pub note-spec : {M : Type 1} → statement M
 note-spec =

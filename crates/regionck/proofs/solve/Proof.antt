@@ -1,30 +1,38 @@
--- `regionck::solve`. The loop's invariant: some rounds were run, and fewer than `left` bits of the regions are 0. Assumes nothing.
-use mathlib.Core.Path.{_≡_, sym, _∙_}
+-- `regionck::solve`. The loop's invariant: some rounds were run, fewer than `left` bits of the regions are 0, and the constraints of `hot` are the job's. Assumes
+-- nothing.
+use mathlib.Core.Path.{_≡_, refl, sym, _∙_}
 use native.Mathlib.Omega.{arith}
 use lib.ListN.{length}
 use borrow.Author.Tests.{not-true, not-false}
-use Rattle.regionck.proofs.SolvedLaws.{GoingOn, going-start, going-more, going-done, going-out}
+use Rattle.regionck.proofs.SolvedLaws.{GoingOn, Kept, kept-none, kept-more, going-start, going-more, going-done, going-out}
 use borrow.Author.Needs.{needs}
 use Rattle.regionck.proofs.solve.Statement.{statement}
 use Rattle.regionck.proofs.solve.Tie as tie
 
 abbrev Inv-loop : tie.InvT-loop
-Inv-loop s layout head first succ chain walked shape rule words₀ grown₀ list to last₀ left₀ words grown last left =
-    (length words ≡ length words₀) × (length grown ≡ 128) × GoingOn s layout head first succ chain walked shape rule words₀ words last grown left
+Inv-loop s layout head first succ chain walked shape rule words₀ grown₀ list to hot₀ last₀ left₀ words grown hot last left =
+    (length words ≡ length words₀) × (length grown ≡ 128) × (length hot ≡ 257) × Kept s layout head first succ chain walked shape rule words₀ hot
+    × GoingOn s layout head first succ chain walked shape rule words₀ words last grown left
 
 abbrev μ-loop : tie.MeasureT-loop
-μ-loop s layout head first succ chain walked shape rule words₀ grown₀ list to last₀ left₀ words grown last left =
+μ-loop s layout head first succ chain walked shape rule words₀ grown₀ list to hot₀ last₀ left₀ words grown hot last left =
     left
 
 clear-requires : tie.Need-clear-requires Inv-loop μ-loop
 clear-requires c κs = search needs
 
+collect-requires : tie.Need-collect-requires Inv-loop μ-loop
+collect-requires c κs = search needs
+
 loop-holds : tie.Need-loop-holds Inv-loop μ-loop
-loop-holds c = let a = c .before .before .before .before .before .args in
-    (search needs, c .clear .ensures .sized, going-start (a .s .now) (a .layout .now) (a .head) (a .first .now) (a .succ .now) (a .chain .now) (a .walked .now) (a .shape) (a .rule) (a .words .now) (c .clear .ensures))
+loop-holds c = let a = c .before .before .before .before .before .before .before .before .before .args in
+    (search needs, c .before .before .before .before .clear .ensures .sized, search needs, kept-none (a .s .now) (a .layout .now) (a .head) (a .first .now) (a .succ .now) (a .chain .now) (a .walked .now) (a .shape) (a .rule) (a .words .now) refl, going-start (a .s .now) (a .layout .now) (a .head) (a .first .now) (a .succ .now) (a .chain .now) (a .walked .now) (a .shape) (a .rule) (a .words .now) (c .before .before .before .before .clear .ensures))
+
+slice-aggregate-round : tie.Need-slice-aggregate-round Inv-loop μ-loop
+slice-aggregate-round c = search needs
 
 round-requires : tie.Need-round-requires Inv-loop μ-loop
-round-requires c κs = (c .before .before .before .before .before .before .before .before .before .pre .0, c .before .before .before .before .before .before .before .before .before .pre .2)
+round-requires c κs = (c .before .before .before .before .before .before .before .before .before .before .before .before .before .before .before .pre .0, c .before .before .before .before .before .before .before .before .collect .ensures .holding)
 
 any-marked-requires : tie.Need-any-marked-requires Inv-loop μ-loop
 any-marked-requires c κs = search needs
@@ -32,10 +40,13 @@ any-marked-requires c κs = search needs
 same-length : tie.Need-same-length Inv-loop μ-loop
 same-length c = search needs
 
+same-length-2 : tie.Need-same-length-2 Inv-loop μ-loop
+same-length-2 c = search needs
+
 returns : tie.Need-returns Inv-loop μ-loop
-returns c = let a = c .before .before .before .before .before .before .before .before .before .before .before .before .before .before .before .args in
-    let l = c .before .before .before .before .before .before .before .before .before .loop in
-    (l .inv .1, going-done (a .s .now) (a .layout .now) (a .head) (a .first .now) (a .succ .now) (a .chain .now) (a .walked .now) (a .shape) (a .rule) (a .words .now) (l .inv .2) (c .before .before .before .before .before .round .ensures) (sym (c .before .any-marked .ensures) ∙ not-true _ (c .if1 .taken)))
+returns c = let a = c .before .before .before .before .before .before .before .before .before .before .before .before .before .before .before .before .before .before .before .before .before .before .args in
+    let l = c .before .before .before .before .before .before .before .before .before .before .before .before .loop in
+    (l .inv .1, going-done (a .s .now) (a .layout .now) (a .head) (a .first .now) (a .succ .now) (a .chain .now) (a .walked .now) (a .shape) (a .rule) (a .words .now) (l .inv .4) (l .inv .3) (c .before .before .before .before .before .before .round .ensures .0) (sym (c .before .any-marked .ensures) ∙ not-true _ (c .if1 .taken)))
 
 note-requires : tie.Need-note-requires Inv-loop μ-loop
 note-requires c κs = search needs
@@ -47,17 +58,22 @@ loop-less : tie.Need-loop-less Inv-loop μ-loop
 loop-less c = search needs
 
 loop-again : tie.Need-loop-again Inv-loop μ-loop
-loop-again c = let a = c .before .before .before .before .before .before .before .before .before .before .before .before .before .before .before .before .before .before .args in
-    let l = c .before .before .before .before .before .before .before .before .before .before .before .before .loop in
-    (search needs, c .note .ensures .sized, going-more (a .s .now) (a .layout .now) (a .head) (a .first .now) (a .succ .now) (a .chain .now) (a .walked .now) (a .shape) (a .rule) (a .words .now) (l .inv .2) (c .before .before .before .before .before .before .before .before .round .ensures) (sym (c .before .before .before .before .any-marked .ensures) ∙ not-false _ (c .before .before .before .if1 .left)) (c .note .ensures))
+loop-again c = let a = c .before .before .before .before .before .before .before .before .before .before .before .before .before .before .before .before .before .before .before .before .before .before .before .before .before .args in
+    let l = c .before .before .before .before .before .before .before .before .before .before .before .before .before .before .before .loop in
+    let noted = c .note .ensures (l .inv .1) in
+    let r = c .before .before .before .before .before .before .before .before .before .round .ensures in
+    (search needs, noted .sized, search needs, kept-more (a .s .now) (a .layout .now) (a .head) (a .first .now) (a .succ .now) (a .chain .now) (a .walked .now) (a .shape) (a .rule) (a .words .now) (l .inv .3) (r .1), going-more (a .s .now) (a .layout .now) (a .head) (a .first .now) (a .succ .now) (a .chain .now) (a .walked .now) (a .shape) (a .rule) (a .words .now) (l .inv .4) (l .inv .3) (r .0) (sym (c .before .before .before .before .any-marked .ensures) ∙ not-false _ (c .before .before .before .if1 .left)) noted)
 
-same-length-2 : tie.Need-same-length-2 Inv-loop μ-loop
-same-length-2 c = search needs
+same-length-3 : tie.Need-same-length-3 Inv-loop μ-loop
+same-length-3 c = search needs
+
+same-length-4 : tie.Need-same-length-4 Inv-loop μ-loop
+same-length-4 c = search needs
 
 returns-2 : tie.Need-returns-2 Inv-loop μ-loop
-returns-2 c = let a = c .before .before .before .before .before .before .before .args in
+returns-2 c = let a = c .before .before .before .before .before .before .before .before .before .before .before .args in
     let l = c .before .loop in
-    (l .inv .1, going-out (a .s .now) (a .layout .now) (a .head) (a .first .now) (a .succ .now) (a .chain .now) (a .walked .now) (a .shape) (a .rule) (a .words .now) (omega arith) (l .inv .2))
+    (l .inv .1, going-out (a .s .now) (a .layout .now) (a .head) (a .first .now) (a .succ .now) (a .chain .now) (a .walked .now) (a .shape) (a .rule) (a .words .now) (omega arith) (l .inv .4))
 
 pub solve-spec : {M : Type 1} → statement M
 solve-spec =
@@ -66,14 +82,18 @@ solve-spec =
     Inv-loop
     μ-loop
     clear-requires
+    collect-requires
     loop-holds
+    slice-aggregate-round
     round-requires
     any-marked-requires
     same-length
+    same-length-2
     returns
     note-requires
     sub-left
     loop-less
     loop-again
-    same-length-2
+    same-length-3
+    same-length-4
     returns-2)

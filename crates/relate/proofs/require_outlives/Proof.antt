@@ -28,7 +28,7 @@ same-length : tie.Need-same-length
 same-length c = search needs
 
 returns-3 : tie.Need-returns-3
-returns-3 c = laws.both-free _ (c .before .before .before .before .before .before .before .before .sup .given .1) (c .before .before .before .before .before .sub .given .1) (c .before .before .add .ensures)
+returns-3 c = laws.both-free _ (c .before .before .before .before .before .before .before .before .sup .given .1) (c .before .before .before .before .before .sub .given .1) (c .before .before .add .ensures .0)
 
 pub require-outlives-spec : {M : Type 1} → statement M
 require-outlives-spec =

@@ -12,7 +12,7 @@ use Rattle.regionck.proofs.round.collect.Tie as tie
 
 abbrev Inv-loop : tie.InvT-loop
 Inv-loop s layout head walked code from list₀ p₀ list p =
-    (from ≤ p) × (p ≤ code) × (length list ≡ length list₀) × (p ≡ from → 528 ≤ roomIn list) × Holding s layout head walked code list from p
+    (from ≤ p) × (p ≤ code) × (length list ≡ length list₀) × (p ≡ from → 264 ≤ roomIn list) × Holding s layout head walked code list from p
 
 abbrev μ-loop : tie.MeasureT-loop
 μ-loop s layout head walked code from list₀ p₀ list p = code - p
@@ -21,8 +21,8 @@ clear-requires : tie.Need-clear-requires Inv-loop μ-loop
 clear-requires c κs = search needs
 
 loop-holds : tie.Need-loop-holds Inv-loop μ-loop
-loop-holds c = let (used, sound) = c .before .before .clear .ensures .1 (omega arith) in
-    (omega arith, omega arith, search needs, λ e. omega (arith, used), held-none used sound (omega arith))
+loop-holds c = let none = c .before .before .clear .ensures .1 in
+    (omega arith, omega arith, search needs, λ e. omega (arith, none), held-none none (omega arith))
 
 room-requires : tie.Need-room-requires Inv-loop μ-loop
 room-requires c κs = search needs

@@ -1,0 +1,82 @@
+-- `regionck::round::settle`. The loop's invariant: the constraints of the list were run more often. Assumes nothing.
+use mathlib.Core.Path.{_≡_, sym, _∙_}
+use native.Mathlib.Omega.{arith}
+use lib.ListN.{length}
+use borrow.Author.Tests.{not-true}
+use Rattle.constraint_list.specs.Listed.{constraintsIn}
+use Rattle.regionck.specs.Rounds.{Settles}
+use Rattle.regionck.proofs.RoundLaws.{settles-none, settles-more, settles-quiet}
+use borrow.Author.Needs.{needs}
+use Rattle.regionck.proofs.round.settle.Statement.{statement}
+use Rattle.regionck.proofs.round.settle.Tie as tie
+
+abbrev Inv-loop : tie.InvT-loop
+Inv-loop words₀ first succ chain shape rule grew₀ list none₀ last₀ left₀ words grew none last left =
+    (length words ≡ length words₀) × (length none ≡ 1) × Settles shape rule first succ chain (constraintsIn list) words₀ grew₀ words grew
+
+abbrev μ-loop : tie.MeasureT-loop
+μ-loop words₀ first succ chain shape rule grew₀ list none₀ last₀ left₀ words grew none last left =
+    left
+
+any-marked-requires : tie.Need-any-marked-requires Inv-loop μ-loop
+any-marked-requires c κs = search needs
+
+returns : tie.Need-returns Inv-loop μ-loop
+returns c = settles-none
+
+loop-holds : tie.Need-loop-holds Inv-loop μ-loop
+loop-holds c = (search needs, search needs, settles-none)
+
+slice-aggregate-run : tie.Need-slice-aggregate-run Inv-loop μ-loop
+slice-aggregate-run c = search needs
+
+run-requires : tie.Need-run-requires Inv-loop μ-loop
+run-requires c κs = search needs
+
+any-marked-requires-2 : tie.Need-any-marked-requires-2 Inv-loop μ-loop
+any-marked-requires-2 c κs = search needs
+
+same-length : tie.Need-same-length Inv-loop μ-loop
+same-length c = search needs
+
+returns-2 : tie.Need-returns-2 Inv-loop μ-loop
+returns-2 c = settles-quiet (c .before .before .before .before .before .before .before .before .before .before .before .before .loop .inv .2) (c .before .before .before .before .before .before .run .ensures .0) (sym (c .before .any-marked2 .ensures) ∙ not-true _ (c .if2 .taken))
+
+note-requires : tie.Need-note-requires Inv-loop μ-loop
+note-requires c κs = search needs
+
+sub-left : tie.Need-sub-left Inv-loop μ-loop
+sub-left c = search needs
+
+loop-less : tie.Need-loop-less Inv-loop μ-loop
+loop-less c = search needs
+
+loop-again : tie.Need-loop-again Inv-loop μ-loop
+loop-again c = (search needs, search needs, settles-more (c .before .before .before .before .before .before .before .before .before .before .before .before .before .before .before .loop .inv .2) (c .before .before .before .before .before .before .before .before .before .run .ensures .0) (c .note .ensures))
+
+same-length-2 : tie.Need-same-length-2 Inv-loop μ-loop
+same-length-2 c = search needs
+
+returns-3 : tie.Need-returns-3 Inv-loop μ-loop
+returns-3 c = c .before .loop .inv .2
+
+pub settle-spec : {M : Type 1} → statement M
+settle-spec =
+    tie.close
+    (tie.spec
+    Inv-loop
+    μ-loop
+    any-marked-requires
+    returns
+    loop-holds
+    slice-aggregate-run
+    run-requires
+    any-marked-requires-2
+    same-length
+    returns-2
+    note-requires
+    sub-left
+    loop-less
+    loop-again
+    same-length-2
+    returns-3)
