@@ -286,6 +286,63 @@ fn by_tables(
     mask(region, 4 * code, scope);
 }
 
+// The same for at most 128 points.
+fn compute_small(
+    s: &[u8],
+    layout: &[u16; 1280],
+    first: &[u16; 1025],
+    succ: &[u16; 1536],
+    words: &[u32],
+    width: usize,
+    table: &[u16; 1024],
+    count: usize,
+    code: usize,
+    scope: &mut [u32],
+)
+    requires { ⌜ (length (now layout) ≡ 1280) × (length (now table) ≡ 1024) × (width ≤ 32) × (count ≤ 128) × (code ≤ 128) × (4 * code ≤ length (now scope)) ⌝ }
+    ensures { λ _. ⌜ ((h : heads.Head) → code ≡ h .code → ScopeSays (now (s .entry)) (now (layout .entry)) h (now (first .entry)) (now (succ .entry)) (now (words .entry)) width (now (table .entry)) count (now (scope .exit))) ⌝ }
+{
+    if code <= 32 {
+        let mut leaves = [0; 128];
+        let mut pass = [0; 128];
+        let mut region = [0; 128];
+        by_tables(
+            s,
+            layout,
+            first,
+            succ,
+            words,
+            width,
+            table,
+            count,
+            code,
+            &mut leaves,
+            &mut pass,
+            &mut region,
+            scope,
+        );
+    } else {
+        let mut leaves = [0; 512];
+        let mut pass = [0; 512];
+        let mut region = [0; 512];
+        by_tables(
+            s,
+            layout,
+            first,
+            succ,
+            words,
+            width,
+            table,
+            count,
+            code,
+            &mut leaves,
+            &mut pass,
+            &mut region,
+            scope,
+        );
+    }
+}
+
 // The same by tables of a size for so many points.
 fn compute(
     s: &[u8],
@@ -303,10 +360,7 @@ fn compute(
     ensures { λ _. ⌜ ((h : heads.Head) → code ≡ h .code → ScopeSays (now (s .entry)) (now (layout .entry)) h (now (first .entry)) (now (succ .entry)) (now (words .entry)) width (now (table .entry)) count (now (scope .exit))) ⌝ }
 {
     if code <= 128 {
-        let mut leaves = [0; 512];
-        let mut pass = [0; 512];
-        let mut region = [0; 512];
-        by_tables(
+        compute_small(
             s,
             layout,
             first,
@@ -316,9 +370,6 @@ fn compute(
             table,
             count,
             code,
-            &mut leaves,
-            &mut pass,
-            &mut region,
             scope,
         );
     } else {
