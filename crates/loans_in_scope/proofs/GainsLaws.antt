@@ -4,19 +4,18 @@ use mathlib.Core.Logic.{_⊎_, inl, inr}
 use mathlib.Core.Bool.{Bool, true, false, _&&_, _||_, or-true, true≢false}
 use mathlib.Core.List.{List}
 use Prim.Native.Nat.{ℕ, _+_, _-_, _*_, _/_, _%_, _^_, _≤_, _<_}
-use native.Mathlib.Nat.{zero-div}
 use native.Mathlib.Omega.{arith}
 use native.Mathlib.Decide.{ℕ-discrete, decLt}
 use lib.ListN.{length, getD, set, length-set}
 use lib.Seq.{getD-set-same, getD-set-other}
 use lib.Dec.{eqb}
 use lib.Bits.{bitAnd}
-use lib.Pow.{shr-shr}
 use Rattle.nll_spec.specs.Syntax.{Point}
 use Rattle.nll_spec.specs.Output.{wordBits}
 use Rattle.bit_set.specs.Bits.{has, withBit, joined}
 use Rattle.bit_set.proofs.BitLaws.{digit, length-with, has-with, has-with-other}
 use Rattle.bit_set.proofs.SetLaws.{length-joined, has-joined, has-joined-other}
+use Rattle.bit_slice.proofs.ShiftLaws.{shift-done}
 use Rattle.graph.specs.Tables.{rowStart, rowEnd, upTo}
 use Rattle.flow.specs.Flows.{bitAt}
 use Rattle.flow.proofs.RunningLaws.{digit-and, has-word}
@@ -161,9 +160,6 @@ module _ (w from i : ℕ) (ws : List ℕ) where
   pub word-none : Gains (WordTo w from from i) ws ws
   word-none = gains-none ws (λ p k e. absurd (omega (arith, e .1, e .2)))
 
-  pub word-first : w ≡ w / 2 ^ (from - from)
-  word-first = let e : from - from ≡ 0 = omega arith in let y : w / 1 ≡ w = omega arith in sym (ap (λ (x : ℕ). w / 2 ^ x) e ∙ y)
-
   module _ {p rest : ℕ} (l : from ≤ p) (r : rest ≡ w / 2 ^ (p - from)) where
     pub word-more : {u v : List ℕ} → Gains (WordTo w from p i) ws u → Gains (If (Cell p i) (eqb (rest % 2) 1)) u v → Gains (WordTo w from (p + 1) i) ws v
     word-more a b =
@@ -180,21 +176,13 @@ module _ (w from i : ℕ) (ws : List ℕ) where
         go q k e (yes m) = inr ((m, e .0), sym (same q m) ∙ e .3)
         go q k e (no m) = inl (e .0, e .1, omega (arith, m, e .2), e .3)
 
-    pub word-rest : rest / 2 ≡ w / 2 ^ (p + 1 - from)
-    word-rest = let e : p - from + 1 ≡ p + 1 - from = omega arith in ap (λ (x : ℕ). x / 2) r ∙ shr-shr w (p - from) 1 ∙ ap (λ (x : ℕ). w / 2 ^ x) e
-
     -- nothing is left of the word
     pub word-done : {u : List ℕ} (to : ℕ) → p ≤ to → rest ≡ 0 → Gains (WordTo w from p i) ws u → Gains (WordTo w from to i) ws u
     word-done to m z a = gains-as a (λ q k e. (e .0, e .1, omega (arith, e .2), e .3)) (λ q k e. (e .0, e .1, below q e (decLt q p), e .3))
       where
-        gone : (q : ℕ) → p ≤ q → eqb (w / 2 ^ (q - from) % 2) 1 ≡ false
-        gone q n =
-            let e : (p - from) + (q - p) ≡ q - from = omega (arith, l) in
-            ap (λ (x : ℕ). eqb (x % 2) 1) (ap (λ (x : ℕ). w / 2 ^ x) (sym e) ∙ sym (shr-shr w (p - from) (q - p)) ∙ ap (λ (x : ℕ). x / 2 ^ (q - p)) (sym r ∙ z) ∙ zero-div (2 ^ (q - p)))
-
         below : (q : ℕ) {k : ℕ} (e : WordTo w from to i q k) → Dec (q < p) → q < p
         below q e (yes n) = n
-        below q e (no n) = absurd (true≢false (sym (e .3) ∙ gone q (omega (arith, n))))
+        below q e (no n) = absurd (true≢false (sym (e .3) ∙ shift-done w from l r z q (omega (arith, n))))
 
   pub word-all : {u : List ℕ} {p : ℕ} (to : ℕ) → p ≤ to → to ≤ p → Gains (WordTo w from p i) ws u → Gains (WordTo w from to i) ws u
   word-all {u} {p} to m n a = let e : p ≡ to = omega arith in subst (λ (x : ℕ). Gains (WordTo w from x i) ws u) e a

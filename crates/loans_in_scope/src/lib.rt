@@ -13,7 +13,7 @@ use repr::Path;
 use repr::RegionName;
 ghost use mathlib.Core.Path.{_≡_};
 ghost use Prim.Native.Nat.{_+_, _*_, _<_, _≤_, min};
-ghost use lib.ListN.{length, getD};
+ghost use lib.ListN.{length};
 ghost use Rattle.nll_spec.specs.Syntax.{Job};
 ghost use Rattle.nll_spec.specs.Decode.{codeCount};
 ghost use Rattle.nll_spec.specs.Graph.{graphOf, actionAt};
@@ -93,16 +93,6 @@ fn put(sets: &mut [u32], p: usize, i: usize, comes: bool)
     }
 }
 
-// Word k; 0 past the words.
-fn word_at(words: &[u32], k: usize) -> u32
-    ensures { λ r. ⌜ r ≡ getD (now (words .entry)) k 0 ⌝ }
-{
-    if words.len() <= k {
-        return 0;
-    }
-    words[k]
-}
-
 // Puts number i into the sets of the points from `from` on and below `to` that a word has: its first bit is for point `from`.
 fn put_word(w: u32, from: usize, to: usize, i: usize, sets: &mut [u32])
     requires { ⌜ (from ≤ to) × (to ≤ 1024) × (4 * to ≤ length (now sets)) × (i < 128) ⌝ }
@@ -141,7 +131,7 @@ fn put_region(
     let start = wide8(region.0) * width;
     let mut k = 0;
     while 32 * k < code {
-        let w = word_at(words, start + k);
+        let w = bit_slice::word_at(words, start + k);
         put_word(w, 32 * k, least(32 * k + 32, code), i, sets);
         k += 1;
     }

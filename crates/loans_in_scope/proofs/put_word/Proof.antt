@@ -1,8 +1,9 @@
 -- `loans_in_scope::put_word`. The loop's invariant: `rest` has the bits from point p on, and the points before it have been put. Assumes nothing.
 use mathlib.Core.Path.{_≡_}
 use Prim.Native.Nat.{_-_, _/_, _^_, _≤_}
+use Rattle.bit_slice.proofs.ShiftLaws.{shift-none, shift-more}
 use Rattle.loans_in_scope.specs.Gains.{Gains, WordTo}
-use Rattle.loans_in_scope.proofs.GainsLaws.{word-none, word-first, word-more, word-rest, word-done, word-all}
+use Rattle.loans_in_scope.proofs.GainsLaws.{word-none, word-more, word-done, word-all}
 use native.Mathlib.Omega.{arith}
 use borrow.Author.Needs.{needs}
 use Rattle.loans_in_scope.proofs.put_word.Statement.{statement}
@@ -15,7 +16,7 @@ abbrev μ-loop : tie.MeasureT-loop
 μ-loop w from to i sets₀ rest₀ p₀ sets rest p = to - p
 
 loop-holds : tie.Need-loop-holds Inv-loop μ-loop
-loop-holds c = let a = c .before .args in (omega arith, c .before .pre .0, word-first (a .w) (a .from) (a .i) (a .sets .now), word-none (a .w) (a .from) (a .i) (a .sets .now))
+loop-holds c = let a = c .before .args in (omega arith, c .before .pre .0, shift-none (a .w) (a .from), word-none (a .w) (a .from) (a .i) (a .sets .now))
 
 same-length : tie.Need-same-length Inv-loop μ-loop
 same-length c = search needs
@@ -33,7 +34,7 @@ loop-less : tie.Need-loop-less Inv-loop μ-loop
 loop-less c = search needs
 
 loop-again : tie.Need-loop-again Inv-loop μ-loop
-loop-again c = let a = c .before .before .before .before .before .before .before .before .args in let l = c .before .before .before .before .before .before .loop in (omega (arith, l .inv .0), omega arith, word-rest (a .w) (a .from) (a .i) (a .sets .now) (l .inv .0) (l .inv .2), word-more (a .w) (a .from) (a .i) (a .sets .now) (l .inv .0) (l .inv .2) (l .inv .3) (c .before .before .put .ensures))
+loop-again c = let a = c .before .before .before .before .before .before .before .before .args in let l = c .before .before .before .before .before .before .loop in (omega (arith, l .inv .0), omega arith, shift-more (a .w) (a .from) (l .inv .0) (l .inv .2), word-more (a .w) (a .from) (a .i) (a .sets .now) (l .inv .0) (l .inv .2) (l .inv .3) (c .before .before .put .ensures))
 
 same-length-2 : tie.Need-same-length-2 Inv-loop μ-loop
 same-length-2 c = search needs

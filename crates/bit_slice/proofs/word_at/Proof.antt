@@ -1,9 +1,9 @@
--- `loans_in_scope::word_at`. Assumes nothing.
+-- `bit_slice::word_at`. Assumes nothing.
 use mathlib.Core.Path.{sym}
 use lib.ListN.{List·getD-eq-default}
 use borrow.Author.Needs.{needs}
-use Rattle.loans_in_scope.proofs.word_at.Statement.{statement}
-use Rattle.loans_in_scope.proofs.word_at.Tie as tie
+use Rattle.bit_slice.proofs.word_at.Statement.{statement}
+use Rattle.bit_slice.proofs.word_at.Tie as tie
 
 returns : tie.Need-returns
 returns c = sym (List·getD-eq-default (c .before .args .words .now) 0 (c .if1 .taken))
