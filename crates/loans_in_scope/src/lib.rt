@@ -197,7 +197,7 @@ fn keep(
     put(pass, p, i, kept);
 }
 
-// The same for each loan.
+// The same for each loan of the table.
 fn keep_each(
     s: &[u8],
     table: &[u16; 1024],
@@ -217,7 +217,7 @@ fn keep_each(
     }
 }
 
-// Puts each number of the set of point p into that of the same point.
+// Puts each loan whose region has point p into its set.
 fn keep_row(region: &[u32], p: usize, pass: &mut [u32])
     requires { ⌜ (p < 1024) × (4 * p + 4 ≤ length (now region)) × (4 * p + 4 ≤ length (now pass)) ⌝ }
     ensures { λ _. ⌜ Gains (Onto (now (region .entry)) (p + 1) p p) (now (pass .entry)) (now (pass .exit)) ⌝ }
