@@ -1,2 +1,4 @@
 pub mod LentLaws
+pub mod SomeLaws
+pub mod ShiftLaws
 mod Cited

@@ -1,1 +1,2 @@
 pub mod Union
+pub mod Some

@@ -1,11 +1,13 @@
 // A view of a set that holds the lent words, and thin functions over it. The work is bit_set's, whose functions take plain slices.
-// What takes or makes a view is proved by a walk of its code; `is_set` and `insert_bits_from_slice` have plain parameters, so that their callers need none.
+// What takes or makes a view is proved by a walk of its code; `is_set`, `some_set`, `word_at` and `insert_bits_from_slice` have plain parameters, so that their callers need none.
 // No function requires anything: a number past the words is in no set, and a run past the words changes nothing.
 ghost use mathlib.Core.Path.{_≡_};
 ghost use Prim.Native.Nat.{_+_, _*_};
+ghost use lib.ListN.{getD};
 ghost use Rattle.nll_spec.specs.Output.{wordBits};
 ghost use Rattle.bit_set.specs.Bits.{has, joined, grows};
 ghost use Rattle.bit_slice.specs.Union.{JoinsAll};
+ghost use Rattle.bit_slice.specs.Some.{SomeSet};
 
 pub struct BitSlice<'a> {
     pub words: &'a [u32],
@@ -63,6 +65,34 @@ pub fn is_set(words: &[u32], start: usize, bit: usize) -> bool
         return false;
     }
     member(&words[start..], bit)
+}
+
+// Whether one of the n words from start on has a number, or lies past the words.
+pub fn some_set(words: &[u32], start: usize, n: usize) -> bool
+    ensures { λ r. ⌜ SomeSet (now (words .entry)) start n r ⌝ }
+{
+    if words.len() < n {
+        return true;
+    }
+    if words.len() - n < start {
+        return true;
+    }
+    for k in 0..n {
+        if words[start + k] != 0 {
+            return true;
+        }
+    }
+    false
+}
+
+// Word k; 0 past the words.
+pub fn word_at(words: &[u32], k: usize) -> u32
+    ensures { λ r. ⌜ r ≡ getD (now (words .entry)) k 0 ⌝ }
+{
+    if words.len() <= k {
+        return 0;
+    }
+    words[k]
 }
 
 // Puts the numbers of the run of n words from src in another slice into the run from dst, and says whether that changed it.

@@ -2,10 +2,8 @@
 use mathlib.Core.Path.{_≡_, refl, sym, ap, subst, _∙_}
 use mathlib.Core.Bool.{Bool, true, false, cond}
 use mathlib.Core.List.{List, [], _∷_, _++_, map, map-append, map-map, append-nil}
-use Prim.Native.Nat.{ℕ, zero, suc, _+_, _-_, _*_, _/_, _%_, _^_, _≤_, _<_}
+use Prim.Native.Nat.{ℕ, zero, suc, _+_, _-_, _*_, _≤_, _<_}
 use native.Mathlib.Omega.{arith}
-use native.Mathlib.Decide.{decLt}
-use native.Mathlib.Nat.{zero-div}
 use native.Mathlib.Numerals.{add-one}
 use lib.ListN.{length, getD, set, take, length-set}
 use lib.Seq.{take-suc-set}
@@ -19,12 +17,13 @@ use Rattle.nll_spec.specs.Loans.{loansOf, loanNumber}
 use Rattle.nll_spec.specs.Access.{inScopeAt}
 use Rattle.nll_spec.specs.Output.{wordBits}
 use Rattle.bit_set.specs.Bits.{has}
+use Rattle.bit_slice.specs.Some.{SomeSet}
 use Rattle.env.specs.Prefixes.{ShortestOf}
 use Rattle.loans.specs.Table.{entryOf}
 use Rattle.loans.specs.Loans.{loanOf}
 use Rattle.loans.specs.declared.Loan.{Loan}
 use Rattle.loans.proofs.ListLaws.{count-split, select-append}
-use Rattle.borrowck.specs.Scope.{isIn, inScope, SomeSet, SomeIn, Gathered}
+use Rattle.borrowck.specs.Scope.{isIn, inScope, SomeIn, Gathered}
 use Rattle.borrowck.specs.Faults.{Scoped, Known}
 
 pub apart : true ≡ false → ⊥
@@ -132,37 +131,9 @@ module _ {table : List ℕ} {many : ℕ} {scope : List ℕ} {p : Point} {from : 
 
 -- ---- Whether there is one
 
--- The first k words from start on are 0.
-pub record Blank (words : List ℕ) (start k : ℕ) : Type 0 where
-  pub before : (m : ℕ) → m < k → getD words (start + m) 0 ≡ 0
-
-module _ {words : List ℕ} {start : ℕ} where
-  pub blank-none : Blank words start 0
-  blank-none = record { before = λ m l. absurd (omega arith) }
-
-  pub blank-more : {k : ℕ} → Blank words start k → getD words (start + k) 0 ≡ 0 → Blank words start (k + 1)
-  blank-more {k} w e = record { before = λ m l. go m l (decLt m k) }
-    where
-      go : (m : ℕ) → m < k + 1 → Dec (m < k) → getD words (start + m) 0 ≡ 0
-      go m l (yes o) = w .before m o
-      go m l (no o) = let z : m ≡ k = omega arith in rw z e
-
-  pub some-set : SomeSet words start true
-  some-set = record { none = λ e. absurd (apart e) }
-
-  pub none-set : {k : ℕ} → Blank words start k → 4 ≤ k → SomeSet words start false
-  none-set w l = record { none = λ e m o. w .before m (omega arith) }
-
--- a word that is 0 has no number
-blank-bit : (words : List ℕ) (i : ℕ) → getD words (i / wordBits) 0 ≡ 0 → has words i ≡ false
-blank-bit words i e = rw (e, zero-div (2 ^ (i % wordBits)))
-
 module _ {scope : List ℕ} {p : Point} where
-  pub some-in : {b : Bool} → p < 1024 → SomeSet scope (4 * p) b → SomeIn scope p b
-  some-in l w = record {
-    here = λ e. l;
-    none = λ e h i o. blank-bit scope (128 * p + i) (let k : (128 * p + i) / wordBits ≡ 4 * p + i / 32 = omega arith in rw k (w .none e (i / 32) (omega arith)));
-  }
+  pub some-in : {b : Bool} → p < 1024 → SomeSet scope (4 * p) 4 b → SomeIn scope p b
+  some-in l w = record { here = λ e. l; none = λ e h i o. let k : wordBits * (4 * p) + i ≡ 128 * p + i = omega arith in subst (λ (m : ℕ). has scope m ≡ false) k (w .none e i (omega arith)) }
 
   pub some-past : 1024 ≤ p → SomeIn scope p false
   some-past l = record { here = λ e. absurd (apart (sym e)); none = λ e h i o. absurd (omega arith) }

@@ -3,7 +3,7 @@ use mathlib.Core.Path.{_≡_}
 use mathlib.Core.Bool.{Bool, true, false}
 use mathlib.Core.List.{List, map}
 use Prim.Native.Nat.{ℕ, _+_, _-_, _*_, _≤_, _<_}
-use lib.ListN.{getD, take}
+use lib.ListN.{take}
 use Rattle.nll_spec.specs.Lists.{select, countFrom}
 use Rattle.nll_spec.specs.Syntax.{Point}
 use Rattle.bit_set.specs.Bits.{has}
@@ -22,10 +22,6 @@ isIn scope p i = has scope (128 * p + i)
 -- the loans in scope at p from number `from` on and below `to`
 abbrev pub inScope : List ℕ → List ℕ → Point → ℕ → ℕ → List Loan
 inScope table scope p from to = map (entryOf table) (select (isIn scope p) (countFrom from (to - from)))
-
--- Where the answer is no, the four words are 0.
-pub record SomeSet (words : List ℕ) (start : ℕ) (r : Bool) : Type 0 where
-  pub none : r ≡ false → (k : ℕ) → k < 4 → getD words (start + k) 0 ≡ 0
 
 -- Where the answer is no, no loan is in scope at p.
 pub record SomeIn (scope : List ℕ) (p : Point) (r : Bool) : Type 0 where

@@ -4,29 +4,13 @@ use loans::loan_at;
 ghost use mathlib.Core.Path.{_≡_};
 ghost use Prim.Native.Nat.{_≤_, _<_};
 ghost use lib.ListN.{length};
-ghost use Rattle.borrowck.specs.Scope.{SomeSet, SomeIn, Gathered};
+ghost use Rattle.borrowck.specs.Scope.{SomeIn, Gathered};
 
 // The first count of the loans are in scope; the next part begins at loan next.
 pub struct Part {
     pub loans: [Loan; 16],
     pub count: usize,
     pub next: usize,
-}
-
-// Whether one of the four words from start on has a bit.
-fn some_set(words: &[u32], start: usize) -> bool
-    requires { ⌜ start < 4096 ⌝ }
-    ensures { λ r. ⌜ SomeSet (now (words .entry)) start r ⌝ }
-{
-    for k in 0..4 {
-        if words.len() <= start + k {
-            return true;
-        }
-        if words[start + k] != 0 {
-            return true;
-        }
-    }
-    false
 }
 
 // Whether there may be a loan in scope at point p.
@@ -36,8 +20,7 @@ pub fn some_in_scope(scope: &[u32], p: usize) -> bool
     if 1024 <= p {
         return false;
     }
-    let start = 4 * p;
-    some_set(scope, start)
+    bit_slice::some_set(scope, 4 * p, 4)
 }
 
 // The loans from number from on that are in scope at point p, in the order of the table: as many as a part has room for.

@@ -1,10 +1,10 @@
 -- The rows of liveness by variable: so many words a variable, number p of which is point p.
 use mathlib.Core.Path.{_≡_}
-use mathlib.Core.Bool.{_&&_, _||_}
+use mathlib.Core.Bool.{Bool, _&&_, _||_}
 use mathlib.Core.List.{List}
-use Prim.Native.Nat.{ℕ, _+_, _*_, _<_}
+use Prim.Native.Nat.{ℕ, _+_, _-_, _*_, _/_, _%_, _^_, _<_}
 use lib.ListN.{length}
-use lib.Dec.{eqb, ltb}
+use lib.Dec.{eqb, leb, ltb}
 use Rattle.nll_spec.specs.Syntax.{Job, Point, Variable}
 use Rattle.nll_spec.specs.Fixpoint.{holds}
 use Rattle.nll_spec.specs.Graph.{graphOf, isWalked}
@@ -17,10 +17,18 @@ use Rattle.flow.specs.Flows.{bitAt}
 abbrev pub rowBit : ℕ → Variable → Point → ℕ
 rowBit w v p = wordBits * (v * w) + p
 
--- Point x is put into the row of each of the first n variables that is in the half of its set that begins at `from`.
-pub record Column (w n from : ℕ) (x : Point) (sets rows rows′ : List ℕ) : Type 0 where
+-- variable v is in the half of point x's set that begins at `from`
+abbrev pub inSet : List ℕ → Point → ℕ → Variable → Bool
+inSet sets x from v = has sets (bitAt x (from + v))
+
+-- variable v is in a word, whose first bit is for variable `first`
+abbrev pub inWord : ℕ → Variable → Variable → Bool
+inWord word first v = leb first v && eqb (word / 2 ^ (v - first) % 2) 1
+
+-- Point x is put into the row of each of the first n variables that f gives.
+pub record Column (w n : ℕ) (f : Variable → Bool) (x : Point) (rows rows′ : List ℕ) : Type 0 where
   pub size : length rows′ ≡ length rows
-  pub bits : (v p : ℕ) → p < wordBits * w → has rows′ (rowBit w v p) ≡ (has rows (rowBit w v p) || (eqb p x && (ltb v n && has sets (bitAt x (from + v)))))
+  pub bits : (v p : ℕ) → p < wordBits * w → has rows′ (rowBit w v p) ≡ (has rows (rowBit w v p) || (eqb p x && (ltb v n && f v)))
 
 -- The rows of so many variables have the walked points below n that have the variable in that half of their sets.
 pub record Columns (w many n from : ℕ) (walked sets rows : List ℕ) : Type 0 where

@@ -59,6 +59,61 @@ fn by_tables(
     rows(sets, walked, code, 64, many, width, dropped);
 }
 
+// The same for at most 128 points.
+fn compute_small(
+    s: &[u8],
+    layout: &[u16; 1280],
+    first: &[u16; 1025],
+    succ: &[u16; 1536],
+    walked: &[u32; 32],
+    code: usize,
+    many: usize,
+    width: usize,
+    used: &mut [u32],
+    dropped: &mut [u32],
+)
+    requires { ⌜ (length (now layout) ≡ 1280) × (code ≤ 128) × (code ≤ 32 * width) × (width ≤ 32) × (many ≤ 64) × (64 * width ≤ length (now used)) × (64 * width ≤ length (now dropped)) ⌝ }
+    ensures { λ _. ⌜ ((h : heads.Head) (j : Job) → code ≡ h .code → many ≡ h .variables → Layout (now (s .entry)) (now (layout .entry)) h j
+        → Edges (graphOf j) (now (first .entry)) (now (succ .entry)) → ((p : Point) → p < 1024 → has (now (walked .entry)) p ≡ isWalked (graphOf j) p)
+        → LiveRows j width (now (used .exit)) (now (dropped .exit))) ⌝ }
+{
+    if code <= 32 {
+        let mut sets = [0; 128];
+        let mut pass = [4294967295; 128];
+        by_tables(
+            s,
+            layout,
+            first,
+            succ,
+            walked,
+            code,
+            many,
+            width,
+            &mut sets,
+            &mut pass,
+            used,
+            dropped,
+        );
+    } else {
+        let mut sets = [0; 512];
+        let mut pass = [4294967295; 512];
+        by_tables(
+            s,
+            layout,
+            first,
+            succ,
+            walked,
+            code,
+            many,
+            width,
+            &mut sets,
+            &mut pass,
+            used,
+            dropped,
+        );
+    }
+}
+
 // The same by tables of a size for so many points.
 fn compute(
     s: &[u8],
@@ -78,9 +133,7 @@ fn compute(
         → LiveRows j width (now (used .exit)) (now (dropped .exit))) ⌝ }
 {
     if code <= 128 {
-        let mut sets = [0; 512];
-        let mut pass = [4294967295; 512];
-        by_tables(
+        compute_small(
             s,
             layout,
             first,
@@ -89,8 +142,6 @@ fn compute(
             code,
             many,
             width,
-            &mut sets,
-            &mut pass,
             used,
             dropped,
         );

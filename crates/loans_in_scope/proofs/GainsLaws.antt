@@ -3,7 +3,7 @@ use mathlib.Core.Path.{_≡_, refl, sym, ap, ap₂, _∙_, subst}
 use mathlib.Core.Logic.{_⊎_, inl, inr}
 use mathlib.Core.Bool.{Bool, true, false, _&&_, _||_, or-true, true≢false}
 use mathlib.Core.List.{List}
-use Prim.Native.Nat.{ℕ, _+_, _-_, _*_, _/_, _%_, _≤_, _<_}
+use Prim.Native.Nat.{ℕ, _+_, _-_, _*_, _/_, _%_, _^_, _≤_, _<_}
 use native.Mathlib.Omega.{arith}
 use native.Mathlib.Decide.{ℕ-discrete, decLt}
 use lib.ListN.{length, getD, set, length-set}
@@ -15,10 +15,11 @@ use Rattle.nll_spec.specs.Output.{wordBits}
 use Rattle.bit_set.specs.Bits.{has, withBit, joined}
 use Rattle.bit_set.proofs.BitLaws.{digit, length-with, has-with, has-with-other}
 use Rattle.bit_set.proofs.SetLaws.{length-joined, has-joined, has-joined-other}
+use Rattle.bit_slice.proofs.ShiftLaws.{shift-done}
 use Rattle.graph.specs.Tables.{rowStart, rowEnd, upTo}
 use Rattle.flow.specs.Flows.{bitAt}
 use Rattle.flow.proofs.RunningLaws.{digit-and, has-word}
-use Rattle.loans_in_scope.specs.Gains.{Gains, Tables, Bits, Filled, Cell, If, Cells, Below, Onto, Leaving, Row, Rows, Masked}
+use Rattle.loans_in_scope.specs.Gains.{Gains, Cell, If, Cells, Column, Below, WordTo, Onto, Leaving, Row, Rows, Masked}
 
 -- ---- One after the other
 
@@ -50,6 +51,14 @@ gains-then {F} {G} {H} {ws} {u} {x} a b f g h =
 pub gains-as : {F G : Point → ℕ → Type 0} {ws u : List ℕ} → Gains F ws u → ((p : Point) (i : ℕ) → F p i → G p i) → ((p : Point) (i : ℕ) → G p i → F p i) → Gains G ws u
 gains-as a f g = gains-then a (gains-none _ (λ p i (x : ⊥). x)) f (λ p i x. absurd x) (λ p i x. inl (g p i x))
 
+-- the same where the numbers of a set are known
+pub gains-few : {F G : Point → ℕ → Type 0} {ws u : List ℕ} → Gains F ws u → ((p : Point) (i : ℕ) → i < 128 → F p i → G p i) → ((p : Point) (i : ℕ) → i < 128 → G p i → F p i) → Gains G ws u
+gains-few {F} {G} {ws} a f g = record { as-long = a .as-long; old = a .old; new = λ p i l e. a .new p i l (g p i l e); only = λ p i l e. only p i l (a .only p i l e) }
+  where
+    only : (p : Point) (i : ℕ) → i < 128 → (has ws (bitAt p i) ≡ true) ⊎ F p i → (has ws (bitAt p i) ≡ true) ⊎ G p i
+    only p i l (inl e) = inl e
+    only p i l (inr e) = inr (f p i l e)
+
 -- ---- One number
 
 places : (p q i k : ℕ) → i < 128 → k < 128 → bitAt q k ≡ bitAt p i → (q ≡ p) × (k ≡ i)
@@ -79,67 +88,104 @@ module _ (ws : List ℕ) (p i : ℕ) {comes : Bool} where
   pub gains-not : comes ≡ false → Gains (If (Cell p i) comes) ws ws
   gains-not c = gains-none ws (λ q k e. true≢false (sym (e .1) ∙ c))
 
--- ---- Three tables
+-- ---- Numbers at some places
 
-module _ {f : Point → ℕ → Bits} where
-  pub filled-none : {D : Point → ℕ → Type 0} (t : Tables) → ((p : Point) (i : ℕ) → D p i → ⊥) → Filled D f t t
-  filled-none t n =
-      record {
-        start = gains-none (t .start) (λ p i e. n p i (e .0));
-        pass = gains-none (t .pass) (λ p i e. n p i (e .0));
-        region = gains-none (t .region) (λ p i e. n p i (e .0));
-      }
+-- the places of D that pass a test
+abbrev On : (Point → ℕ → Type 0) → (Point → ℕ → Bool) → Point → ℕ → Type 0
+On D f p i = D p i × (f p i ≡ true)
 
-  pub filled-then : {D E H : Point → ℕ → Type 0} {a b c : Tables} → Filled D f a b → Filled E f b c → ((p : Point) (i : ℕ) → D p i → H p i) → ((p : Point) (i : ℕ) → E p i → H p i)
-      → ((p : Point) (i : ℕ) → H p i → D p i ⊎ E p i) → Filled H f a c
-  filled-then {D} {E} {H} x y d e h =
-      record {
-        start = one (λ p i. f p i .start) (x .start) (y .start);
-        pass = one (λ p i. f p i .pass) (x .pass) (y .pass);
-        region = one (λ p i. f p i .region) (x .region) (y .region);
-      }
+module _ {f : Point → ℕ → Bool} where
+  on-then : {D E H : Point → ℕ → Type 0} {ws u v : List ℕ} → Gains (On D f) ws u → Gains (On E f) u v → ((p : Point) (i : ℕ) → D p i → H p i) → ((p : Point) (i : ℕ) → E p i → H p i)
+      → ((p : Point) (i : ℕ) → H p i → D p i ⊎ E p i) → Gains (On H f) ws v
+  on-then {D} {E} x y d e h = gains-then x y (λ p i k. (d p i (k .0), k .1)) (λ p i k. (e p i (k .0), k .1)) (λ p i k. go p i (h p i (k .0)) (k .1))
     where
-      one : (g : Point → ℕ → Bool) {ws u v : List ℕ} → Gains (λ p i. D p i × (g p i ≡ true)) ws u → Gains (λ p i. E p i × (g p i ≡ true)) u v → Gains (λ p i. H p i × (g p i ≡ true)) ws v
-      one g x y = gains-then x y (λ p i k. (d p i (k .0), k .1)) (λ p i k. (e p i (k .0), k .1)) (λ p i k. go p i (h p i (k .0)) (k .1))
-        where
-          go : (p : Point) (i : ℕ) → D p i ⊎ E p i → g p i ≡ true → (D p i × (g p i ≡ true)) ⊎ (E p i × (g p i ≡ true))
-          go p i (inl k) q = inl (k, q)
-          go p i (inr k) q = inr (k, q)
+      go : (p : Point) (i : ℕ) → D p i ⊎ E p i → f p i ≡ true → On D f p i ⊎ On E f p i
+      go p i (inl k) q = inl (k, q)
+      go p i (inr k) q = inr (k, q)
 
--- the bits, or the places, said otherwise
-pub filled-as : {D E : Point → ℕ → Type 0} {f g : Point → ℕ → Bits} {a b : Tables} → Filled D f a b → ((p : Point) (i : ℕ) → D p i → E p i) → ((p : Point) (i : ℕ) → E p i → D p i)
-    → ((p : Point) (i : ℕ) → D p i → f p i ≡ g p i) → Filled E g a b
-filled-as {D} {E} {f} {g} x d e s =
-    record {
-      start = one (λ b. b .start) (x .start);
-      pass = one (λ b. b .pass) (x .pass);
-      region = one (λ b. b .region) (x .region);
-    }
-  where
-    one : (h : Bits → Bool) {ws u : List ℕ} → Gains (λ p i. D p i × (h (f p i) ≡ true)) ws u → Gains (λ p i. E p i × (h (g p i) ≡ true)) ws u
-    one h x = gains-as x (λ p i k. (d p i (k .0), sym (ap h (s p i (k .0))) ∙ k .1)) (λ p i k. (e p i (k .0), ap h (s p i (e p i (k .0))) ∙ k .1))
+-- the test, or the places, said otherwise
+pub on-as : {D E : Point → ℕ → Type 0} {f g : Point → ℕ → Bool} {ws u : List ℕ} → Gains (On D f) ws u → ((p : Point) (i : ℕ) → D p i → E p i) → ((p : Point) (i : ℕ) → E p i → D p i)
+    → ((p : Point) (i : ℕ) → D p i → f p i ≡ g p i) → Gains (On E g) ws u
+on-as x d e s = gains-as x (λ p i k. (d p i (k .0), sym (s p i (k .0)) ∙ k .1)) (λ p i k. (e p i (k .0), s p i (e p i (k .0)) ∙ k .1))
 
-module _ (f : Point → ℕ → Bits) (t : Tables) (p : ℕ) where
-  pub cells-none : Filled (Cells p 0) f t t
-  cells-none = filled-none t (λ q k e. absurd (omega (arith, e .1)))
+module _ (f : Point → ℕ → Bool) (ws : List ℕ) where
+  pub cells-none : (p : ℕ) → Gains (On (Cells p 0) f) ws ws
+  cells-none p = gains-none ws (λ q k e. absurd (omega (arith, e .0 .1)))
 
-  pub cells-more : {u v : Tables} (i : ℕ) → Filled (Cells p i) f t u → Filled (Cell p i) f u v → Filled (Cells p (i + 1)) f t v
-  cells-more i a b = filled-then a b (λ q k e. (e .0, omega (arith, e .1))) (λ q k e. (e .0, omega (arith, e .1))) (λ q k e. go q k e (ℕ-discrete k i))
+  pub cells-more : {u v : List ℕ} (p i : ℕ) → Gains (On (Cells p i) f) ws u → Gains (On (Cell p i) f) u v → Gains (On (Cells p (i + 1)) f) ws v
+  cells-more p i a b = on-then a b (λ q k e. (e .0, omega (arith, e .1))) (λ q k e. (e .0, omega (arith, e .1))) (λ q k e. go q k e (ℕ-discrete k i))
     where
       go : (q k : ℕ) → Cells p (i + 1) q k → Dec (k ≡ i) → Cells p i q k ⊎ Cell p i q k
       go q k e (yes n) = inr (e .0, n)
       go q k e (no n) = inl (e .0, omega (arith, n, e .1))
 
-module _ (f : Point → ℕ → Bits) (t : Tables) (n : ℕ) where
-  pub below-none : Filled (Below 0 n) f t t
-  below-none = filled-none t (λ q k e. absurd (omega (arith, e .0)))
+  pub points-none : (n : ℕ) → Gains (On (Below 0 n) f) ws ws
+  points-none n = gains-none ws (λ q k e. absurd (omega (arith, e .0 .0)))
 
-  pub below-more : {u v : Tables} (p : ℕ) → Filled (Below p n) f t u → Filled (Cells p n) f u v → Filled (Below (p + 1) n) f t v
-  below-more p a b = filled-then a b (λ q k e. (omega (arith, e .0), e .1)) (λ q k e. (omega (arith, e .0), e .1)) (λ q k e. go q k e (ℕ-discrete q p))
+  pub points-more : {u v : List ℕ} (n p : ℕ) → Gains (On (Below p n) f) ws u → Gains (On (Cells p n) f) u v → Gains (On (Below (p + 1) n) f) ws v
+  points-more n p a b = on-then a b (λ q k e. (omega (arith, e .0), e .1)) (λ q k e. (omega (arith, e .0), e .1)) (λ q k e. go q k e (ℕ-discrete q p))
     where
       go : (q k : ℕ) → Below (p + 1) n q k → Dec (q ≡ p) → Below p n q k ⊎ Cells p n q k
       go q k e (yes m) = inr (m, e .1)
       go q k e (no m) = inl (omega (arith, m, e .0), e .1)
+
+  pub columns-none : (n : ℕ) → Gains (On (Below n 0) f) ws ws
+  columns-none n = gains-none ws (λ q k e. absurd (omega (arith, e .0 .1)))
+
+  pub columns-more : {u v : List ℕ} (n i : ℕ) → Gains (On (Below n i) f) ws u → Gains (On (Column n i) f) u v → Gains (On (Below n (i + 1)) f) ws v
+  columns-more n i a b = on-then a b (λ q k e. (e .0, omega (arith, e .1))) (λ q k e. (e .0, omega (arith, e .1))) (λ q k e. go q k e (ℕ-discrete k i))
+    where
+      go : (q k : ℕ) → Below n (i + 1) q k → Dec (k ≡ i) → Below n i q k ⊎ Column n i q k
+      go q k e (yes m) = inr (e .0, m)
+      go q k e (no m) = inl (e .0, omega (arith, m, e .1))
+
+-- ---- Sets that were empty
+
+module _ {f : Point → ℕ → Bool} {code count : ℕ} {none ws : List ℕ} (empty : (p : Point) (i : ℕ) → i < 128 → has none (bitAt p i) ≡ false) (g : Gains (λ p i. Below code count p i × (f p i ≡ true)) none ws) where
+  pub filled-has : (p i : ℕ) → p < code → i < count → i < 128 → has ws (bitAt p i) ≡ f p i
+  filled-has p i l m n = go (f p i) refl (has ws (bitAt p i)) refl
+    where
+      from : (has none (bitAt p i) ≡ true) ⊎ (Below code count p i × (f p i ≡ true)) → f p i ≡ true
+      from (inl e) = absurd (true≢false (sym e ∙ empty p i n))
+      from (inr e) = e .1
+
+      go : (a : Bool) → f p i ≡ a → (b : Bool) → has ws (bitAt p i) ≡ b → b ≡ a
+      go true e b h = sym h ∙ g .new p i n ((l, m), e)
+      go false e true h = sym (from (g .only p i n h)) ∙ e
+      go false e false h = refl
+
+-- ---- The bits of a word
+
+module _ (w from i : ℕ) (ws : List ℕ) where
+  pub word-none : Gains (WordTo w from from i) ws ws
+  word-none = gains-none ws (λ p k e. absurd (omega (arith, e .1, e .2)))
+
+  module _ {p rest : ℕ} (l : from ≤ p) (r : rest ≡ w / 2 ^ (p - from)) where
+    pub word-more : {u v : List ℕ} → Gains (WordTo w from p i) ws u → Gains (If (Cell p i) (eqb (rest % 2) 1)) u v → Gains (WordTo w from (p + 1) i) ws v
+    word-more a b =
+        gains-then a b (λ q k e. (e .0, e .1, omega (arith, e .2), e .3)) (λ q k e. (e .0 .1, omega (arith, l, e .0 .0), omega (arith, e .0 .0), to q (e .0 .0) (e .1)))
+        (λ q k e. go q k e (ℕ-discrete q p))
+      where
+        same : (q : ℕ) → q ≡ p → eqb (w / 2 ^ (q - from) % 2) 1 ≡ eqb (rest % 2) 1
+        same q m = ap (λ (x : ℕ). eqb (w / 2 ^ (x - from) % 2) 1) m ∙ ap (λ (x : ℕ). eqb (x % 2) 1) (sym r)
+
+        to : (q : ℕ) → q ≡ p → eqb (rest % 2) 1 ≡ true → eqb (w / 2 ^ (q - from) % 2) 1 ≡ true
+        to q m e = same q m ∙ e
+
+        go : (q k : ℕ) → WordTo w from (p + 1) i q k → Dec (q ≡ p) → WordTo w from p i q k ⊎ If (Cell p i) (eqb (rest % 2) 1) q k
+        go q k e (yes m) = inr ((m, e .0), sym (same q m) ∙ e .3)
+        go q k e (no m) = inl (e .0, e .1, omega (arith, m, e .2), e .3)
+
+    -- nothing is left of the word
+    pub word-done : {u : List ℕ} (to : ℕ) → p ≤ to → rest ≡ 0 → Gains (WordTo w from p i) ws u → Gains (WordTo w from to i) ws u
+    word-done to m z a = gains-as a (λ q k e. (e .0, e .1, omega (arith, e .2), e .3)) (λ q k e. (e .0, e .1, below q e (decLt q p), e .3))
+      where
+        below : (q : ℕ) {k : ℕ} (e : WordTo w from to i q k) → Dec (q < p) → q < p
+        below q e (yes n) = n
+        below q e (no n) = absurd (true≢false (sym (e .3) ∙ shift-done w from l r z q (omega (arith, n))))
+
+  pub word-all : {u : List ℕ} {p : ℕ} (to : ℕ) → p ≤ to → to ≤ p → Gains (WordTo w from p i) ws u → Gains (WordTo w from to i) ws u
+  word-all {u} {p} to m n a = let e : p ≡ to = omega arith in subst (λ (x : ℕ). Gains (WordTo w from x i) ws u) e a
 
 -- ---- Numbers that go to the points that follow
 

@@ -1,4 +1,5 @@
 pub mod PathLaws
 pub mod GainsLaws
 pub mod LoanLaws
+pub mod FillLaws
 pub mod ScopeLaws

@@ -1,12 +1,15 @@
--- A loan at a point: its bits by the table of loans are those of the job. Assumes nothing.
-use mathlib.Core.Path.{_≡_, refl, sym, ap, ap₂, _∙_, subst}
-use mathlib.Core.Bool.{Bool, true, false, not, _&&_, _||_, or-false, true≢false}
+-- A loan at the point where it starts and at those of its region, by the table of loans and by the job. Assumes nothing.
+use mathlib.Core.Path.{_≡_, refl, sym, ap, _∙_, subst}
+use mathlib.Core.Logic.{_⊎_, inl, inr}
+use mathlib.Core.Bool.{Bool, true, false, not, _&&_, or-false}
 use mathlib.Core.List.{List}
-use Prim.Native.Nat.{ℕ, _+_, _*_, _≤_, _<_}
+use Prim.Native.Nat.{ℕ, _+_, _-_, _*_, _/_, _%_, _^_, _≤_, _<_, min}
 use native.Mathlib.Nat.{mul-le-mul-right}
 use native.Mathlib.Omega.{arith}
-use lib.ListN.{length}
+use native.Mathlib.Decide.{decLt}
+use lib.ListN.{length, getD}
 use lib.Dec.{T, eqb, leb, ltb, ltb→lt}
+use borrow.Author.Tests.{eqb-true, eq-eqb}
 use Rattle.nll_spec.specs.Types.{isPrefix}
 use Rattle.nll_spec.specs.Lists.{Member, here, select, below}
 use Rattle.nll_spec.specs.Fixpoint.{Table, holds}
@@ -20,6 +23,10 @@ use Rattle.nll_spec.specs.Loans as loans
 use Rattle.nll_spec.proofs.Tests.{and-left, and-right}
 use Rattle.nll_spec.proofs.Members.{place-member, gather-member}
 use Rattle.nll_spec.proofs.GraphLaws.{every-action}
+use Rattle.nll_spec.specs.Output.{wordBits}
+use Rattle.bit_set.specs.Bits.{has}
+use Rattle.bit_set.proofs.RunLaws.{and-true-left}
+use Rattle.flow.proofs.RunningLaws.{has-word}
 use Rattle.repr.specs.Reading.{rest, pathOf}
 use Rattle.repr.specs.Parts.{actionSays}
 use Rattle.repr.specs.declared.Cursor.{Cursor}
@@ -36,11 +43,11 @@ use Rattle.repr.proofs.SpellLaws.{done-back, then}
 use Rattle.loans.specs.Loans.{loanOf}
 use Rattle.loans.specs.Table.{entryOf}
 use Rattle.loans.specs.declared.Loan.{Loan}
-use Rattle.loans_in_scope.specs.Gains.{Gains, Tables, tables, Sized, AsLong, Filled, Cell, If, always, Cells}
-use Rattle.loans_in_scope.specs.Scope.{overwrittenBy, pathsOf, killed, bitsOf, insideOf, entryBits, jobBits, Given, PointFilled, PointsFilled}
+use Rattle.loans_in_scope.specs.Gains.{Gains, Cell, If, Column, WordTo}
+use Rattle.loans_in_scope.specs.Scope.{overwrittenBy, pathsOf, killed, insideOf, RegionTo, RegionsTo, starts, Given, Begins, Begun}
 use Rattle.loans_in_scope.specs.declared.Overwritten.{Overwritten}
 use Rattle.loans_in_scope.specs.declared.Overwritten.the-variants.{At, Nothing}
-use Rattle.loans_in_scope.proofs.GainsLaws.{gains-not, filled-as, cells-none, cells-more, below-none, below-more}
+use Rattle.loans_in_scope.proofs.GainsLaws.{gains-none, gains-then, gains-as, on-as, columns-none, columns-more}
 
 -- ---- What an action overwrites
 
@@ -101,54 +108,12 @@ unfolding pointCount
 code-below j = omega arith
 
 module _ {s t : List ℕ} {h : Head} {words : List ℕ} {width : ℕ} {table : List ℕ} {count : ℕ} {j : Job} {sets : Table} (g : Given s t h words width table count j sets) where
-  inside-is : (i p : ℕ) → i < count → p < codeCount (j .blocks) → insideOf words width (entryOf table i .region .0) p ≡ holds sets (loanNumber (loansOf (graphOf j)) i .region) p
+  pub inside-is : (i p : ℕ) → i < count → p < codeCount (j .blocks) → insideOf words width (entryOf table i .region .0) p ≡ holds sets (loanNumber (loansOf (graphOf j)) i .region) p
   inside-is i p l m =
       let e : entryOf table i .region .0 ≡ loanNumber (loansOf (graphOf j)) i .region = ap (λ (x : loans.Loan). x .region) (g .loans .same i l) in
       let n : i < length (loansOf (graphOf j)) = omega (arith, g .loans .count) in
       let r : loanNumber (loansOf (graphOf j)) i .region < length sets = omega (arith, region-named j (g .names) i n, g .rows) in
       ap (λ (x : ℕ). insideOf words width x p) e ∙ g .says .bits (loanNumber (loansOf (graphOf j)) i .region) p r (omega (arith, code-below j, g .room))
-
-  pub bits-same : (d : Overwritten) (p i : ℕ) → i < count → p < codeCount (j .blocks) → pathsOf s d ≡ overwritten (actionAt (graphOf j) p) → entryBits j s words width table d p i ≡ jobBits j sets p i
-  bits-same d p i l m e =
-      ap (λ (ds : List syntax.Path). bitsOf j ds (insideOf words width (entryOf table i .region .0) p) (loanOf s (entryOf table i)) p) e
-      ∙ ap₂ (λ (b : Bool) (x : loans.Loan). bitsOf j (overwritten (actionAt (graphOf j) p)) b x p) (inside-is i p l m) (g .loans .same i l)
-
--- ---- One loan
-
--- the puts of one loan
-pub entered : (s words : List ℕ) (width : ℕ) (d : Overwritten) (loan : Loan) (p i : ℕ) {start pass region start′ pass′ region′ : List ℕ} {inside dead : Bool}
-    → inside ≡ insideOf words width (loan .region .0) p → ((j : Job) → dead ≡ killed j (pathsOf s d) (loanOf s loan)) → Gains (If (Cell p i) (eqb (loan .point) p && not dead)) start start′
-    → Gains (If (Cell p i) (inside && not dead)) pass pass′ → Gains (If (Cell p i) inside) region region′
-    → (j : Job) → Filled (Cell p i) (always (bitsOf j (pathsOf s d) (insideOf words width (loan .region .0) p) (loanOf s loan) p)) (tables start pass region) (tables start′ pass′ region′)
-entered s words width d loan p i {start} {pass} {region} {start′} {pass′} {region′} {dead = dead} e f x y z j =
-    record {
-      start = subst (λ (b : Bool). Gains (If (Cell p i) (eqb (loan .point) p && not b)) start start′) (f j) x;
-      pass = subst (λ (b : Bool). Gains (If (Cell p i) (insideOf words width (loan .region .0) p && not b)) pass pass′) (f j)
-          (subst (λ (b : Bool). Gains (If (Cell p i) (b && not dead)) pass pass′) e y);
-      region = subst (λ (b : Bool). Gains (If (Cell p i) b) region region′) e z;
-    }
-
--- a loan that neither begins there nor has the point in its region
-pub not-entered : (s words : List ℕ) (width : ℕ) (d : Overwritten) (loan : Loan) (p i : ℕ) (t : Tables) {inside : Bool} → inside ≡ insideOf words width (loan .region .0) p
-    → not (inside || eqb (loan .point) p) ≡ true → (j : Job) → Filled (Cell p i) (always (bitsOf j (pathsOf s d) (insideOf words width (loan .region .0) p) (loanOf s loan) p)) t t
-not-entered s words width d loan p i t {inside} e h j = go (insideOf words width (loan .region .0) p) (eqb (loan .point) p) (ap (λ (b : Bool). not (b || eqb (loan .point) p)) (sym e) ∙ h)
-  where
-    go : (a b : Bool) → not (a || b) ≡ true → Filled (Cell p i) (always (record { start = b && not (killed j (pathsOf s d) (loanOf s loan)); pass = a && not (killed j (pathsOf s d) (loanOf s loan)); region = a })) t t
-    go true b n = absurd (true≢false (sym n))
-    go false true n = absurd (true≢false (sym n))
-    go false false n = record { start = gains-not (t .start) p i refl; pass = gains-not (t .pass) p i refl; region = gains-not (t .region) p i refl }
-
--- ---- The tables' lengths
-
-pub as-long-none : {a : Tables} → AsLong a a
-as-long-none = record { start = refl; pass = refl; region = refl }
-
-pub sized-kept : {n : ℕ} {a b : Tables} → Sized n a → AsLong a b → Sized n b
-sized-kept s k = record { start = omega (arith, s .start, k .start); pass = omega (arith, s .pass, k .pass); region = omega (arith, s .region, k .region) }
-
--- for fewer points
-pub sized-below : {n m : ℕ} {t : Tables} → m ≤ n → Sized n t → Sized m t
-sized-below l s = record { start = omega (arith, s .start); pass = omega (arith, s .pass); region = omega (arith, s .region) }
 
 -- ---- Whether a loan is killed
 
@@ -159,38 +124,103 @@ pub killed-at : (s : List ℕ) {d : Overwritten} {q : Path} → d ≡ At q → (
     → r ≡ killed j (pathsOf s d) (loanOf s loan)
 killed-at s {d} {q} e loan h j = h j ∙ sym (or-false (isPrefix j (pathOf s q) (pathOf s (loan .path)))) ∙ ap (λ (x : Overwritten). killed j (pathsOf s x) (loanOf s loan)) (sym e)
 
--- ---- The loops
+-- ---- The points of a region
 
-module _ (s words : List ℕ) (width : ℕ) (table : List ℕ) (d : Overwritten) (p : ℕ) where
-  pub entries-none : (t : Tables) (j : Job) → Filled (Cells p 0) (entryBits j s words width table d) t t
-  entries-none t j = cells-none (entryBits j s words width table d) t p
+-- number i of the first n points that the set from word start on has, of those below code
+abbrev pub RegionPart : List ℕ → ℕ → ℕ → ℕ → ℕ → Point → ℕ → Type 0
+RegionPart words start code i n p k = (Column code i p k × (p < n)) × (has words (wordBits * start + p) ≡ true)
 
-  pub entries-more : {a b c : Tables} (i : ℕ) → ((j : Job) → Filled (Cells p i) (entryBits j s words width table d) a b) → {x : Loan} → x ≡ entryOf table i
-      → ((j : Job) → Filled (Cell p i) (always (bitsOf j (pathsOf s d) (insideOf words width (x .region .0) p) (loanOf s x) p)) b c) → (j : Job) → Filled (Cells p (i + 1)) (entryBits j s words width table d) a c
-  entries-more {a} {b} {c} i f e y j =
-      cells-more (entryBits j s words width table d) a p i (f j)
-      (filled-as (y j) (λ q k w. w) (λ q k w. w) (λ q k w. rw (w .0, w .1, e)))
+module _ (words : List ℕ) (start code i : ℕ) (ws : List ℕ) where
+  pub region-none : Gains (RegionPart words start code i (32 * 0)) ws ws
+  region-none = gains-none ws (λ p k e. absurd (omega (arith, e .0 .1)))
 
-  pub entries-all : {t : List ℕ} {count : ℕ} {a b : Tables} (i : ℕ) → i ≤ count → count ≤ i
-      → ((h : Head) (j : Job) → Layout s t h j → p < codeCount (j .blocks) → pathsOf s d ≡ overwritten (actionAt (graphOf j) p))
-      → ((j : Job) → Filled (Cells p i) (entryBits j s words width table d) a b) → PointFilled s t words width table count p a b
-  entries-all {t} {count} i l m over f =
-      record {
-        bits = λ h j sets g n.
-            filled-as (f j) (λ q k w. (w .0, omega (arith, w .1))) (λ q k w. (w .0, omega (arith, w .1)))
-            (λ q k w. rw (w .0) (bits-same g d p k (omega (arith, w .1)) n (over h j (g .layout) n)));
-      }
+  pub region-more : {u v : List ℕ} {w to : ℕ} (k : ℕ) → w ≡ getD words (start + k) 0 → to ≡ min (32 * k + 32) code → Gains (RegionPart words start code i (32 * k)) ws u
+      → Gains (WordTo w (32 * k) to i) u v → Gains (RegionPart words start code i (32 * (k + 1))) ws v
+  region-more {w = w} {to} k e m a b =
+      gains-then a b (λ p n x. ((x .0 .0, omega (arith, x .0 .1)), x .1)) (λ p n x. here p n x) (λ p n x. go p n x (decLt p (32 * k)))
+    where
+      bit : (p : ℕ) → 32 * k ≤ p → p < 32 * k + 32 → has words (wordBits * start + p) ≡ eqb (w / 2 ^ (p - 32 * k) % 2) 1
+      bit p l h =
+          let y : wordBits * (start + k) + (p - 32 * k) ≡ wordBits * start + p = omega arith in
+          ap (has words) (sym y) ∙ has-word words (start + k) (p - 32 * k) (omega arith) ∙ ap (λ (x : ℕ). eqb (x / 2 ^ (p - 32 * k) % 2) 1) (sym e)
 
-module _ (s t words : List ℕ) (width : ℕ) (table : List ℕ) (count : ℕ) where
-  pub points-none : {a : Tables} → PointsFilled s t words width table count 0 a a
-  points-none {a} = record { bits = λ h j sets g n. below-none (jobBits j sets) a count }
+      here : (p n : ℕ) → WordTo w (32 * k) to i p n → RegionPart words start code i (32 * (k + 1)) p n
+      here p n (f, l, h, y) =
+          let c : p < code = omega (arith, m) in
+          let d : p < 32 * k + 32 = omega (arith, m) in
+          (((c, f), omega arith), bit p l d ∙ y)
 
-  pub points-more : {a b c : Tables} (p : ℕ) → PointsFilled s t words width table count p a b → PointFilled s t words width table count p b c → PointsFilled s t words width table count (p + 1) a c
-  points-more {a} p x y =
-      record { bits = λ h j sets g n. below-more (jobBits j sets) a count p (x .bits h j sets g (omega arith)) (y .bits h j sets g (omega arith)) }
+      go : (p n : ℕ) → RegionPart words start code i (32 * (k + 1)) p n → Dec (p < 32 * k) → RegionPart words start code i (32 * k) p n ⊎ WordTo w (32 * k) to i p n
+      go p n x (yes l) = inl ((x .0 .0, l), x .1)
+      go p n x (no l) =
+          let d : p < 32 * k + 32 = omega (arith, x .0 .1) in
+          let h : 32 * k ≤ p = omega arith in
+          inr (x .0 .0 .1, h, omega (arith, m, x .0 .0 .0), sym (bit p h d) ∙ x .1)
 
-  pub points-all : {a b : Tables} (p code : ℕ) → p ≤ code → code ≤ p → PointsFilled s t words width table count p a b → PointsFilled s t words width table count code a b
-  points-all {a} {b} p code l m x = let e : p ≡ code = omega arith in subst (λ (n : ℕ). PointsFilled s t words width table count n a b) e x
+  pub region-all : {u : List ℕ} (width r k : ℕ) → start ≡ r * width → code ≤ 32 * k → Gains (RegionPart words start code i (32 * k)) ws u → Gains (RegionTo words width r code i) ws u
+  region-all width r k e l a = gains-as a (λ p n x. (x .0 .0, same p (x .1))) (λ p n x. ((x .0, omega (arith, x .0 .0)), back p (x .1)))
+    where
+      same : (p : ℕ) → has words (wordBits * start + p) ≡ true → insideOf words width r p ≡ true
+      same p h = subst (λ (y : ℕ). has words (wordBits * y + p) ≡ true) e h
+
+      back : (p : ℕ) → insideOf words width r p ≡ true → has words (wordBits * start + p) ≡ true
+      back p h = subst (λ (y : ℕ). has words (wordBits * y + p) ≡ true) (sym e) h
+
+-- ---- Where a loan starts
+
+module _ {s t : List ℕ} (loan : Loan) (n i : ℕ) {ws : List ℕ} where
+  pub begins-not : n ≤ loan .point → Begins s t loan n i ws ws
+  begins-not l = record { bits = λ h j o m. gains-none ws (λ p k e. absurd (omega (arith, e .0 .0, eqb-true (loan .point) p (and-true-left _ _ (e .1))))) }
+
+  pub begins-at : {ws′ : List ℕ} (d : Overwritten) {dead : Bool} → loan .point < n
+      → ((h : Head) (j : Job) → Layout s t h j → loan .point < codeCount (j .blocks) → pathsOf s d ≡ overwritten (actionAt (graphOf j) (loan .point)))
+      → ((j : Job) → dead ≡ killed j (pathsOf s d) (loanOf s loan)) → Gains (If (Cell (loan .point) i) (not dead)) ws ws′ → Begins s t loan n i ws ws′
+  begins-at {ws′} d {dead} l over kill a = record { bits = λ h j o m. gains-as a (to h j o m) (from h j o m) }
+    where
+      same : (h : Head) (j : Job) → Layout s t h j → n ≤ codeCount (j .blocks) → (p : ℕ) → p ≡ loan .point → starts j (overwritten (actionAt (graphOf j) p)) (loanOf s loan) p ≡ not dead
+      same h j o m p e =
+          ap (λ (q : ℕ). starts j (overwritten (actionAt (graphOf j) q)) (loanOf s loan) q) e
+          ∙ ap (λ (b : Bool). b && not (killed j (overwritten (actionAt (graphOf j) (loan .point))) (loanOf s loan))) (eq-eqb (loan .point) (loan .point) refl)
+          ∙ ap (λ (ds : List syntax.Path). not (killed j ds (loanOf s loan))) (sym (over h j o (omega arith)))
+          ∙ ap not (sym (kill j))
+
+      to : (h : Head) (j : Job) → Layout s t h j → n ≤ codeCount (j .blocks) → (p k : ℕ) → If (Cell (loan .point) i) (not dead) p k
+          → Column n i p k × (starts j (overwritten (actionAt (graphOf j) p)) (loanOf s loan) p ≡ true)
+      to h j o m p k e = ((omega (arith, e .0 .0), e .0 .1), same h j o m p (e .0 .0) ∙ e .1)
+
+      from : (h : Head) (j : Job) → Layout s t h j → n ≤ codeCount (j .blocks) → (p k : ℕ) → Column n i p k × (starts j (overwritten (actionAt (graphOf j) p)) (loanOf s loan) p ≡ true)
+          → If (Cell (loan .point) i) (not dead) p k
+      from h j o m p k e =
+          let z : p ≡ loan .point = sym (eqb-true (loan .point) p (and-true-left _ _ (e .1))) in
+          ((z, e .0 .1), sym (same h j o m p z) ∙ e .1)
+
+-- ---- The loans, one after the other
+
+module _ (s t words : List ℕ) (width : ℕ) (table : List ℕ) (n : ℕ) {ws : List ℕ} where
+  pub begun-none : Begun s t table n 0 ws ws
+  begun-none = record { bits = λ h j o m. columns-none _ ws n }
+
+  pub begun-more : {u v : List ℕ} (i : ℕ) {x : Loan} → x ≡ entryOf table i → Begun s t table n i ws u → Begins s t x n i u v → Begun s t table n (i + 1) ws v
+  begun-more i {x} e a b = record {
+    bits = λ h j o m.
+        columns-more (λ p k. starts j (overwritten (actionAt (graphOf j) p)) (loanOf s (entryOf table k)) p) ws n i (a .bits h j o m)
+        (on-as {g = λ p k. starts j (overwritten (actionAt (graphOf j) p)) (loanOf s (entryOf table k)) p} (b .bits h j o m) (λ p k w. w) (λ p k w. w) (λ p k w. rw (w .1, e)));
+  }
+
+  pub begun-all : {u : List ℕ} (i count : ℕ) → i ≤ count → count ≤ i → Begun s t table n i ws u → Begun s t table n count ws u
+  begun-all {u} i count l m a = let e : i ≡ count = omega arith in subst (λ (k : ℕ). Begun s t table n k ws u) e a
+
+  pub regions-none : Gains (RegionsTo words width table n 0) ws ws
+  regions-none = columns-none _ ws n
+
+  pub regions-more : {u v : List ℕ} (i : ℕ) {x : Loan} → x ≡ entryOf table i → Gains (RegionsTo words width table n i) ws u → Gains (RegionTo words width (x .region .0) n i) u v
+      → Gains (RegionsTo words width table n (i + 1)) ws v
+  regions-more i {x} e a b =
+      columns-more (λ p k. insideOf words width (entryOf table k .region .0) p) ws n i a
+      (on-as {g = λ p k. insideOf words width (entryOf table k .region .0) p} b (λ p k w. w) (λ p k w. w) (λ p k w. rw (w .1, e)))
+
+  pub regions-all : {u : List ℕ} (i count : ℕ) → i ≤ count → count ≤ i → Gains (RegionsTo words width table n i) ws u → Gains (RegionsTo words width table n count) ws u
+  regions-all {u} i count l m a = let e : i ≡ count = omega arith in subst (λ (k : ℕ). Gains (RegionsTo words width table n k) ws u) e a
 
 -- a region's number times the words of a set
 pub small-product : (r width : ℕ) → r ≤ 255 → width ≤ 32 → r * width ≤ 8160

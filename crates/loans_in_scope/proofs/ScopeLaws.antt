@@ -29,7 +29,7 @@ use Rattle.flow.proofs.RunningLaws.{has-word}
 use Rattle.graph.proofs.EntryLaws.{edge-next, next-edge}
 use Rattle.loans_in_scope.specs.Gains.{Gains, Tables, tables, Sized, Empty, Filled, Below, Rows, Masked}
 use Rattle.loans_in_scope.specs.Scope.{killed, jobBits, Given, PointsFilled, ScopeSays}
-use Rattle.loans_in_scope.proofs.GainsLaws.{masked-has}
+use Rattle.loans_in_scope.proofs.GainsLaws.{filled-has, masked-has}
 use Rattle.loans_in_scope.proofs.LoanLaws.{successors-of}
 use Rattle.loans_in_scope.proofs.PathLaws.{scope-to, to-scope, scope-same}
 
@@ -57,19 +57,6 @@ zeros-sized n code l = let e = length-replicate {A = ℕ} n 0 in record { start 
 
 pub zeros-empty : (n : ℕ) → Empty (zeros n)
 zeros-empty n = record { start = no-bit n; pass = no-bit n; region = no-bit n }
-
-module _ {f : Point → ℕ → Bool} {code count : ℕ} {none ws : List ℕ} (empty : (p : Point) (i : ℕ) → i < 128 → has none (bitAt p i) ≡ false) (g : Gains (λ p i. Below code count p i × (f p i ≡ true)) none ws) where
-  filled-has : (p i : ℕ) → p < code → i < count → i < 128 → has ws (bitAt p i) ≡ f p i
-  filled-has p i l m n = go (f p i) refl (has ws (bitAt p i)) refl
-    where
-      from : (has none (bitAt p i) ≡ true) ⊎ (Below code count p i × (f p i ≡ true)) → f p i ≡ true
-      from (inl e) = absurd (true≢false (sym e ∙ empty p i n))
-      from (inr e) = e .1
-
-      go : (a : Bool) → f p i ≡ a → (b : Bool) → has ws (bitAt p i) ≡ b → b ≡ a
-      go true e b h = sym h ∙ g .new p i n ((l, m), e)
-      go false e true h = sym (from (g .only p i n h)) ∙ e
-      go false e false h = refl
 
 -- ---- All of it
 

@@ -3,9 +3,10 @@ use mathlib.Core.Path.{_≡_}
 use mathlib.Core.Logic.{_⊎_}
 use mathlib.Core.Bool.{Bool, true, false}
 use mathlib.Core.List.{List}
-use Prim.Native.Nat.{ℕ, _*_, _<_, _≤_}
+use Prim.Native.Nat.{ℕ, _*_, _-_, _/_, _%_, _^_, _<_, _≤_}
 use lib.ListN.{length, getD}
 use lib.Bits.{bitAnd}
+use lib.Dec.{eqb}
 use Rattle.nll_spec.specs.Syntax.{Point}
 use Rattle.bit_set.specs.Bits.{has}
 use Rattle.graph.specs.Tables.{rowStart, rowEnd, upTo}
@@ -40,12 +41,6 @@ pub record Sized (n : ℕ) (t : Tables) : Type 0 where
   pub pass : 4 * n ≤ length (t .pass)
   pub region : 4 * n ≤ length (t .region)
 
--- The tables b are as long as the tables a.
-pub record AsLong (a b : Tables) : Type 0 where
-  pub start : length (b .start) ≡ length (a .start)
-  pub pass : length (b .pass) ≡ length (a .pass)
-  pub region : length (b .region) ≡ length (a .region)
-
 -- No number is in a set of the tables.
 pub record Empty (t : Tables) : Type 0 where
   pub start : (p : Point) (i : ℕ) → i < 128 → has (t .start) (bitAt p i) ≡ false
@@ -66,17 +61,25 @@ Cell p i q k = (q ≡ p) × (k ≡ i)
 abbrev pub If : (Point → ℕ → Type 0) → Bool → Point → ℕ → Type 0
 If D b p i = D p i × (b ≡ true)
 
--- the same bits everywhere
-abbrev pub always : Bits → Point → ℕ → Bits
-always b p i = b
-
 -- the first n numbers of point p
 abbrev pub Cells : Point → ℕ → Point → ℕ → Type 0
 Cells p n q k = (q ≡ p) × (k < n)
 
+-- number i of the points below p
+abbrev pub Column : Point → ℕ → Point → ℕ → Type 0
+Column p i q k = (q < p) × (k ≡ i)
+
 -- the first n numbers of the points below p
 abbrev pub Below : Point → ℕ → Point → ℕ → Type 0
 Below p n q k = (q < p) × (k < n)
+
+-- number i of the points from `from` on and below `to` that a word has: its first bit is for point `from`
+abbrev pub WordTo : ℕ → Point → Point → ℕ → Point → ℕ → Type 0
+WordTo w from to i p k = (k ≡ i) × (from ≤ p) × (p < to) × (eqb (w / 2 ^ (p - from) % 2) 1 ≡ true)
+
+-- No set has a number from n on.
+pub record Within (n : ℕ) (ws : List ℕ) : Type 0 where
+  pub none : (p : Point) (i : ℕ) → n ≤ i → i < 128 → has ws (bitAt p i) ≡ false
 
 -- ---- What follows a point gets its numbers
 

@@ -1,6 +1,6 @@
 -- The loans in scope at each point, in four words a point.
 use mathlib.Core.Path.{_≡_}
-use mathlib.Core.Bool.{Bool, not, _&&_}
+use mathlib.Core.Bool.{Bool, true, not, _&&_}
 use mathlib.Core.List.{List, [], _∷_}
 use Prim.Native.Nat.{ℕ, _*_, _+_, _<_, _≤_}
 use lib.ListN.{length}
@@ -24,10 +24,11 @@ use Rattle.repr.specs.declared.Action.the-variants.{Noop, Init, Borrow, Assign,
 use Rattle.record.specs.Layout.{Layout}
 use Rattle.record.specs.declared.Head.{Head}
 use Rattle.graph.specs.Tables.{Edges}
+use Rattle.flow.specs.Flows.{bitAt}
 use Rattle.loans.specs.Loans.{loanOf, LoansAt}
 use Rattle.loans.specs.Table.{entryOf}
 use Rattle.loans.specs.declared.Loan.{Loan}
-use Rattle.loans_in_scope.specs.Gains.{Bits, Tables, Filled, Cells, Below}
+use Rattle.loans_in_scope.specs.Gains.{Bits, Tables, Gains, Filled, Cells, Column, Below}
 use Rattle.loans_in_scope.specs.declared.Overwritten.{Overwritten}
 use Rattle.loans_in_scope.specs.declared.Overwritten.the-variants.{At, Nothing}
 
@@ -64,9 +65,25 @@ bitsOf j ds inside loan p =
 abbrev pub insideOf : List ℕ → ℕ → ℕ → Point → Bool
 insideOf words width r p = has words (wordBits * (r * width) + p)
 
--- the bits of loan i, where the point overwrites d
-abbrev pub entryBits : Job → List ℕ → List ℕ → ℕ → List ℕ → Overwritten → Point → ℕ → Bits
-entryBits j s words width table d p i = bitsOf j (pathsOf s d) (insideOf words width (entryOf table i .region .0) p) (loanOf s (entryOf table i)) p
+-- number i of the first n points that region r has
+abbrev pub RegionTo : List ℕ → ℕ → ℕ → ℕ → ℕ → Point → ℕ → Type 0
+RegionTo words width r n i p k = Column n i p k × (insideOf words width r p ≡ true)
+
+-- the first c loans at the first n points that their regions have
+abbrev pub RegionsTo : List ℕ → ℕ → List ℕ → ℕ → ℕ → Point → ℕ → Type 0
+RegionsTo words width table n c p i = Below n c p i × (insideOf words width (entryOf table i .region .0) p ≡ true)
+
+-- a loan starts at a point that overwrites ds
+abbrev pub starts : Job → List syntax.Path → loans.Loan → Point → Bool
+starts j ds loan p = eqb (loan .point) p && not (killed j ds loan)
+
+-- the set of a point that overwrites ds has loan i, which is not killed there
+abbrev pub keeps : Job → List ℕ → List ℕ → List ℕ → List syntax.Path → Point → ℕ → Bool
+keeps j s table region ds p i = has region (bitAt p i) && not (killed j ds (loanOf s (entryOf table i)))
+
+-- those of the first n loans at point p
+abbrev pub KeptOf : Job → List ℕ → List ℕ → List ℕ → List syntax.Path → Point → ℕ → Point → ℕ → Type 0
+KeptOf j s table region ds p n q i = Cells p n q i × (keeps j s table region ds q i ≡ true)
 
 -- the bits of loan i of a job with these sets
 abbrev pub jobBits : Job → Table → Point → ℕ → Bits
@@ -85,11 +102,19 @@ pub record Given (s t : List ℕ) (h : Head) (words : List ℕ) (width : ℕ) (t
   pub narrow : width ≤ 32
   pub room : pointCount j ≤ wordBits * width
 
--- The bits of each loan at point p came to the tables.
-pub record PointFilled (s t words : List ℕ) (width : ℕ) (table : List ℕ) (count p : ℕ) (a b : Tables) : Type 0 where
-  pub bits : (h : Head) (j : Job) (sets : Table) → Given s t h words width table count j sets → p < codeCount (j .blocks) → Filled (Cells p count) (jobBits j sets) a b
+-- Loan i came to the set of the point where it starts, if that is one of the first n.
+pub record Begins (s t : List ℕ) (loan : Loan) (n i : ℕ) (ws ws′ : List ℕ) : Type 0 where
+  pub bits : (h : Head) (j : Job) → Layout s t h j → n ≤ codeCount (j .blocks) → Gains (λ p k. Column n i p k × (starts j (overwritten (actionAt (graphOf j) p)) (loanOf s loan) p ≡ true)) ws ws′
 
--- Those at the first n points came to them.
+-- The same for the first c loans of the table.
+pub record Begun (s t table : List ℕ) (n c : ℕ) (ws ws′ : List ℕ) : Type 0 where
+  pub bits : (h : Head) (j : Job) → Layout s t h j → n ≤ codeCount (j .blocks) → Gains (λ p i. Below n c p i × (starts j (overwritten (actionAt (graphOf j) p)) (loanOf s (entryOf table i)) p ≡ true)) ws ws′
+
+-- The loans that may pass point p came to its set.
+pub record Kept (s t table : List ℕ) (count : ℕ) (region : List ℕ) (p : Point) (ws ws′ : List ℕ) : Type 0 where
+  pub bits : (h : Head) (j : Job) → Layout s t h j → p < codeCount (j .blocks) → Gains (KeptOf j s table region (overwritten (actionAt (graphOf j) p)) p count) ws ws′
+
+-- The bits of each loan at the first n points came to the tables.
 pub record PointsFilled (s t words : List ℕ) (width : ℕ) (table : List ℕ) (count n : ℕ) (a b : Tables) : Type 0 where
   pub bits : (h : Head) (j : Job) (sets : Table) → Given s t h words width table count j sets → n ≤ codeCount (j .blocks) → Filled (Below n count) (jobBits j sets) a b
 

@@ -12,7 +12,7 @@ use repr::ActionStep;
 use repr::Path;
 use repr::RegionName;
 ghost use mathlib.Core.Path.{_≡_};
-ghost use Prim.Native.Nat.{_+_, _*_, _<_, _≤_};
+ghost use Prim.Native.Nat.{_+_, _*_, _<_, _≤_, min};
 ghost use lib.ListN.{length};
 ghost use Rattle.nll_spec.specs.Syntax.{Job};
 ghost use Rattle.nll_spec.specs.Decode.{codeCount};
@@ -21,8 +21,8 @@ ghost use Rattle.nll_spec.specs.Loans.{overwritten};
 ghost use Rattle.record.specs.Layout.{Layout};
 ghost use Rattle.record.specs.declared.Head as heads;
 ghost use Rattle.loans.specs.Loans.{loanOf};
-ghost use Rattle.loans_in_scope.specs.Gains.{Gains, tables, Sized, Empty, Filled, Cell, If, always, Onto, Row, Rows, Masked};
-ghost use Rattle.loans_in_scope.specs.Scope.{overwrittenBy, pathsOf, killed, bitsOf, insideOf, PointFilled, PointsFilled, ScopeSays};
+ghost use Rattle.loans_in_scope.specs.Gains.{Gains, tables, Sized, Empty, Cell, If, WordTo, Within, Onto, Row, Rows, Masked};
+ghost use Rattle.loans_in_scope.specs.Scope.{overwrittenBy, pathsOf, killed, RegionTo, RegionsTo, Begins, Begun, keeps, KeptOf, Kept, PointsFilled, ScopeSays};
 
 // The path that an action overwrites.
 enum Overwritten {
@@ -83,15 +83,6 @@ fn is_killed(s: &[u8], d: Overwritten, loan: Loan) -> bool
     }
 }
 
-// Whether the region's set holds p.
-fn is_inside(words: &[u32], width: usize, region: RegionName, p: usize) -> bool
-    requires { ⌜ width ≤ 32 ⌝ }
-    ensures { λ r. ⌜ r ≡ insideOf (now (words .entry)) width (region .0) p ⌝ }
-{
-    let r = wide8(region.0);
-    bit_set::test(words, r * width, p)
-}
-
 // Puts number i into the set of point p, if it comes.
 fn put(sets: &mut [u32], p: usize, i: usize, comes: bool)
     requires { ⌜ (4 * p + 4 ≤ length (now sets)) × (i < 128) ⌝ }
@@ -102,61 +93,162 @@ fn put(sets: &mut [u32], p: usize, i: usize, comes: bool)
     }
 }
 
-// Puts loan i into the sets of point p, which overwrites d: it starts there, may pass, has the point in its region.
-fn enter(
-    s: &[u8],
-    words: &[u32],
-    width: usize,
-    loan: Loan,
-    d: Overwritten,
-    p: usize,
-    i: usize,
-    start: &mut [u32],
-    pass: &mut [u32],
-    region: &mut [u32],
-)
-    requires { ⌜ Sized (p + 1) (tables (now start) (now pass) (now region)) × (width ≤ 32) × (i < 128) ⌝ }
-    ensures { λ _. ⌜ ((j : Job) → Filled (Cell p i) (always (bitsOf j (pathsOf (now (s .entry)) d) (insideOf (now (words .entry)) width (loan .region .0) p) (loanOf (now (s .entry)) loan) p))
-        (tables (now (start .entry)) (now (pass .entry)) (now (region .entry))) (tables (now (start .exit)) (now (pass .exit)) (now (region .exit)))) ⌝ }
+// Puts number i into the sets of the points from `from` on and below `to` that a word has: its first bit is for point `from`.
+fn put_word(w: u32, from: usize, to: usize, i: usize, sets: &mut [u32])
+    requires { ⌜ (from ≤ to) × (to ≤ 1024) × (4 * to ≤ length (now sets)) × (i < 128) ⌝ }
+    ensures { λ _. ⌜ Gains (WordTo w from to i) (now (sets .entry)) (now (sets .exit)) ⌝ }
 {
-    let inside = is_inside(words, width, loan.region, p);
-    let begins = loan.point == p;
-    if !(inside | begins) {
-        return;
+    let mut rest = w;
+    let mut p = from;
+    while p < to {
+        if rest == 0 {
+            return;
+        }
+        put(sets, p, i, rest % 2 == 1);
+        rest = rest / 2;
+        p += 1;
     }
-    let kept = !is_killed(s, d, loan);
-    put(start, p, i, begins & kept);
-    put(pass, p, i, inside & kept);
-    put(region, p, i, inside);
 }
 
-// Puts each loan into the sets of point p.
-fn enter_all(
+fn least(a: usize, b: usize) -> usize
+    ensures { λ r. ⌜ r ≡ min a b ⌝ }
+{
+    if a < b { a } else { b }
+}
+
+// Puts number i into the sets of the first `code` points that the region has.
+fn put_region(
+    words: &[u32],
+    width: usize,
+    region: RegionName,
+    code: usize,
+    i: usize,
+    sets: &mut [u32],
+)
+    requires { ⌜ (width ≤ 32) × (code ≤ 1024) × (4 * code ≤ length (now sets)) × (i < 128) ⌝ }
+    ensures { λ _. ⌜ Gains (RegionTo (now (words .entry)) width (region .0) code i) (now (sets .entry)) (now (sets .exit)) ⌝ }
+{
+    let start = wide8(region.0) * width;
+    let mut k = 0;
+    while 32 * k < code {
+        let w = bit_slice::word_at(words, start + k);
+        put_word(w, 32 * k, least(32 * k + 32, code), i, sets);
+        k += 1;
+    }
+}
+
+// Puts loan i into the set of the point where it starts, if that is one of the first `code` and does not kill it.
+fn begin(s: &[u8], layout: &[u16; 1280], loan: Loan, code: usize, i: usize, start: &mut [u32])
+    requires { ⌜ (length (now layout) ≡ 1280) × (4 * code ≤ length (now start)) × (i < 128) ⌝ }
+    ensures { λ _. ⌜ Begins (now (s .entry)) (now (layout .entry)) loan code i (now (start .entry)) (now (start .exit)) ⌝ }
+{
+    let p = loan.point;
+    if code <= p {
+        return;
+    }
+    let d = overwritten_at(s, layout, p);
+    let kept = !is_killed(s, d, loan);
+    put(start, p, i, kept);
+}
+
+// Puts each loan into the set of the point where it starts, and into the sets of the points of its region.
+fn enter(
     s: &[u8],
     layout: &[u16; 1280],
     words: &[u32],
     width: usize,
     table: &[u16; 1024],
     count: usize,
-    p: usize,
+    code: usize,
     start: &mut [u32],
-    pass: &mut [u32],
     region: &mut [u32],
 )
-    requires { ⌜ (length (now layout) ≡ 1280) × (length (now table) ≡ 1024) × Sized (p + 1) (tables (now start) (now pass) (now region)) × (width ≤ 32) × (count ≤ 128) ⌝ }
-    ensures { λ _. ⌜ PointFilled (now (s .entry)) (now (layout .entry)) (now (words .entry)) width (now (table .entry)) count p
-        (tables (now (start .entry)) (now (pass .entry)) (now (region .entry))) (tables (now (start .exit)) (now (pass .exit)) (now (region .exit))) ⌝ }
+    requires { ⌜ (length (now layout) ≡ 1280) × (length (now table) ≡ 1024) × (4 * code ≤ length (now start)) × (4 * code ≤ length (now region)) × (width ≤ 32) × (count ≤ 128) × (code ≤ 1024) ⌝ }
+    ensures { λ _. ⌜ Begun (now (s .entry)) (now (layout .entry)) (now (table .entry)) code count (now (start .entry)) (now (start .exit))
+        × Gains (RegionsTo (now (words .entry)) width (now (table .entry)) code count) (now (region .entry)) (now (region .exit)) ⌝ }
 {
-    let d = overwritten_at(s, layout, p);
     let mut i = 0;
     while i < count {
         let loan = loan_at(table, i);
-        enter(s, words, width, loan, d, p, i, start, pass, region);
+        begin(s, layout, loan, code, i, start);
+        put_region(words, width, loan.region, code, i, region);
         i += 1;
     }
 }
 
-// Puts each loan into the sets of each point.
+// Puts loan i into the set of point p, which overwrites d, if its region has the point and it is not killed.
+fn keep(
+    s: &[u8],
+    table: &[u16; 1024],
+    region: &[u32],
+    d: Overwritten,
+    p: usize,
+    i: usize,
+    pass: &mut [u32],
+)
+    requires { ⌜ (length (now table) ≡ 1024) × (p < 1024) × (4 * p + 4 ≤ length (now pass)) × (i < 128) ⌝ }
+    ensures { λ _. ⌜ ((j : Job) → Gains (If (Cell p i) (keeps j (now (s .entry)) (now (table .entry)) (now (region .entry)) (pathsOf (now (s .entry)) d) p i)) (now (pass .entry)) (now (pass .exit))) ⌝ }
+{
+    if !bit_set::test(region, 4 * p, i) {
+        return;
+    }
+    let loan = loan_at(table, i);
+    let kept = !is_killed(s, d, loan);
+    put(pass, p, i, kept);
+}
+
+// The same for each loan of the table.
+fn keep_each(
+    s: &[u8],
+    table: &[u16; 1024],
+    count: usize,
+    region: &[u32],
+    d: Overwritten,
+    p: usize,
+    pass: &mut [u32],
+)
+    requires { ⌜ (length (now table) ≡ 1024) × (p < 1024) × (4 * p + 4 ≤ length (now pass)) × (count ≤ 128) ⌝ }
+    ensures { λ _. ⌜ ((j : Job) → Gains (KeptOf j (now (s .entry)) (now (table .entry)) (now (region .entry)) (pathsOf (now (s .entry)) d) p count) (now (pass .entry)) (now (pass .exit))) ⌝ }
+{
+    let mut i = 0;
+    while i < count {
+        keep(s, table, region, d, p, i, pass);
+        i += 1;
+    }
+}
+
+// Puts each loan whose region has point p into its set.
+fn keep_row(region: &[u32], p: usize, pass: &mut [u32])
+    requires { ⌜ (p < 1024) × (4 * p + 4 ≤ length (now region)) × (4 * p + 4 ≤ length (now pass)) ⌝ }
+    ensures { λ _. ⌜ Gains (Onto (now (region .entry)) (p + 1) p p) (now (pass .entry)) (now (pass .exit)) ⌝ }
+{
+    bit_slice::insert_bits_from_slice(pass, 4 * p, region, 4 * p, 4);
+}
+
+// Puts each loan that may pass point p into its set.
+fn keep_all(
+    s: &[u8],
+    layout: &[u16; 1280],
+    table: &[u16; 1024],
+    count: usize,
+    region: &[u32],
+    p: usize,
+    pass: &mut [u32],
+)
+    requires { ⌜ (length (now layout) ≡ 1280) × (length (now table) ≡ 1024) × (p < 1024) × (4 * p + 4 ≤ length (now region)) × (4 * p + 4 ≤ length (now pass)) × (count ≤ 128) × Within count (now region) ⌝ }
+    ensures { λ _. ⌜ Kept (now (s .entry)) (now (layout .entry)) (now (table .entry)) count (now (region .entry)) p (now (pass .entry)) (now (pass .exit)) ⌝ }
+{
+    if !bit_slice::some_set(region, 4 * p, 4) {
+        return;
+    }
+    let d = overwritten_at(s, layout, p);
+    match d {
+        Overwritten::Nothing => keep_row(region, p, pass),
+        Overwritten::At(_) => keep_each(s, table, count, region, d, p, pass),
+    }
+}
+
+// Puts each loan into the sets of each point, which are empty.
 fn fill(
     s: &[u8],
     layout: &[u16; 1280],
@@ -169,24 +261,14 @@ fn fill(
     pass: &mut [u32],
     region: &mut [u32],
 )
-    requires { ⌜ (length (now layout) ≡ 1280) × (length (now table) ≡ 1024) × Sized code (tables (now start) (now pass) (now region)) × (width ≤ 32) × (count ≤ 128) ⌝ }
+    requires { ⌜ (length (now layout) ≡ 1280) × (length (now table) ≡ 1024) × Sized code (tables (now start) (now pass) (now region)) × Empty (tables (now start) (now pass) (now region)) × (width ≤ 32) × (count ≤ 128) × (code ≤ 1024) ⌝ }
     ensures { λ _. ⌜ PointsFilled (now (s .entry)) (now (layout .entry)) (now (words .entry)) width (now (table .entry)) count code
         (tables (now (start .entry)) (now (pass .entry)) (now (region .entry))) (tables (now (start .exit)) (now (pass .exit)) (now (region .exit))) ⌝ }
 {
+    enter(s, layout, words, width, table, count, code, start, region);
     let mut p = 0;
     while p < code {
-        enter_all(
-            s,
-            layout,
-            words,
-            width,
-            table,
-            count,
-            p,
-            start,
-            pass,
-            region,
-        );
+        keep_all(s, layout, table, count, region, p, pass);
         p += 1;
     }
 }
@@ -286,6 +368,63 @@ fn by_tables(
     mask(region, 4 * code, scope);
 }
 
+// The same for at most 128 points.
+fn compute_small(
+    s: &[u8],
+    layout: &[u16; 1280],
+    first: &[u16; 1025],
+    succ: &[u16; 1536],
+    words: &[u32],
+    width: usize,
+    table: &[u16; 1024],
+    count: usize,
+    code: usize,
+    scope: &mut [u32],
+)
+    requires { ⌜ (length (now layout) ≡ 1280) × (length (now table) ≡ 1024) × (width ≤ 32) × (count ≤ 128) × (code ≤ 128) × (4 * code ≤ length (now scope)) ⌝ }
+    ensures { λ _. ⌜ ((h : heads.Head) → code ≡ h .code → ScopeSays (now (s .entry)) (now (layout .entry)) h (now (first .entry)) (now (succ .entry)) (now (words .entry)) width (now (table .entry)) count (now (scope .exit))) ⌝ }
+{
+    if code <= 32 {
+        let mut leaves = [0; 128];
+        let mut pass = [0; 128];
+        let mut region = [0; 128];
+        by_tables(
+            s,
+            layout,
+            first,
+            succ,
+            words,
+            width,
+            table,
+            count,
+            code,
+            &mut leaves,
+            &mut pass,
+            &mut region,
+            scope,
+        );
+    } else {
+        let mut leaves = [0; 512];
+        let mut pass = [0; 512];
+        let mut region = [0; 512];
+        by_tables(
+            s,
+            layout,
+            first,
+            succ,
+            words,
+            width,
+            table,
+            count,
+            code,
+            &mut leaves,
+            &mut pass,
+            &mut region,
+            scope,
+        );
+    }
+}
+
 // The same by tables of a size for so many points.
 fn compute(
     s: &[u8],
@@ -303,10 +442,7 @@ fn compute(
     ensures { λ _. ⌜ ((h : heads.Head) → code ≡ h .code → ScopeSays (now (s .entry)) (now (layout .entry)) h (now (first .entry)) (now (succ .entry)) (now (words .entry)) width (now (table .entry)) count (now (scope .exit))) ⌝ }
 {
     if code <= 128 {
-        let mut leaves = [0; 512];
-        let mut pass = [0; 512];
-        let mut region = [0; 512];
-        by_tables(
+        compute_small(
             s,
             layout,
             first,
@@ -316,9 +452,6 @@ fn compute(
             table,
             count,
             code,
-            &mut leaves,
-            &mut pass,
-            &mut region,
             scope,
         );
     } else {

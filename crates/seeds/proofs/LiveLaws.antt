@@ -1,6 +1,6 @@
 -- What the variables give to the regions' rows. Assumes nothing.
 use mathlib.Core.Path.{_≡_, refl, sym, ap, ap₂, subst, _∙_}
-use mathlib.Core.Bool.{Bool, false, _&&_, _||_}
+use mathlib.Core.Bool.{Bool, true, false, not, _&&_, _||_, true≢false}
 use mathlib.Core.List.{List}
 use Prim.Native.Nat.{ℕ, _+_, _*_, _/_, _%_, _^_, _≤_, _<_}
 use native.Mathlib.Nat.{zero-div}
@@ -21,6 +21,7 @@ use Rattle.record.specs.Access.{entryIn}
 use Rattle.record.specs.declared.Head.{Head}
 use Rattle.record.proofs.AccessLaws.{variable-at}
 use Rattle.bit_set.specs.Bits.{has}
+use Rattle.bit_slice.specs.Some.{SomeSet}
 use Rattle.liveness.specs.Rows.{rowBit}
 use Rattle.bit_set.proofs.BitLaws.{digit}
 use Rattle.seeds.specs.declared.Which.{Which}
@@ -53,6 +54,23 @@ live-adds {s} {t} {h} {w} {v} which live names before after at e f g j l hv hl r
         (ap (λ (u : List ℕ). has u (wordBits * 0 + r)) n
         ∙ has-added (replicate 4 0) 0 (chosen which (j .structs) (variableType j v)) r (rw length-replicate (omega arith))
         ∙ ap (λ (b : Bool). b || contains (chosen which (j .structs) (variableType j v)) r) (zeros-empty 4 (wordBits * 0 + r) (omega arith)))
+
+-- no live point, so that nothing is put
+pub live-none : {n w v k : ℕ} (which : Which) (live ws : List ℕ) {some : Bool} → k ≡ v → SomeSet live (k * w) w some → not some ≡ true → (j : Job) → Adds w n (takes j which w live v) ws ws
+live-none {n} {w} {v} {k} which live ws {some} e x q j =
+    adds-none w n (takes j which w live v) ws (λ r p hr hp. none (leb (length (j .outlives)) r) (contains (chosen which (j .structs) (variableType j v)) r) (at p hp))
+  where
+    no : (b : Bool) → not b ≡ true → b ≡ false
+    no false q = refl
+    no true q = absurd (true≢false (sym q))
+
+    at : (p : ℕ) → p < wordBits * w → has live (rowBit w v p) ≡ false
+    at p hp = subst (λ (u : ℕ). has live (rowBit w u p) ≡ false) e (x .none (no some q) p hp)
+
+    none : (a b : Bool) {c : Bool} → c ≡ false → (a && b && c) ≡ false
+    none true true q = q
+    none true false q = refl
+    none false b q = refl
 
 -- ---- Every variable
 

@@ -45,7 +45,7 @@ fn spread(head: Head, names: &[u32; 4], live: &[u32], v: u8, width: usize, words
     }
 }
 
-// The same for the regions that are taken of the type of variable v.
+// The same for the regions that are taken of the type of variable v, which is not read where the row is empty.
 fn live(
     s: &[u8],
     layout: &[u16; 1280],
@@ -60,6 +60,9 @@ fn live(
     ensures { λ _. ⌜ ((j : Job) → Layout (now (s .entry)) (now (layout .entry)) head j → v < length (j .variables) → 64 * width ≤ length (now (points .entry)) → Room head width (now (words .entry))
         → Adds width (head .regions) (takes j which width (now (points .entry)) v) (now (words .entry)) (now (words .exit))) ⌝ }
 {
+    if !bit_slice::some_set(points, wide(v) * width, width) {
+        return;
+    }
     let mut names = [0; 4];
     let at = variable_at(layout, Variable(v));
     type_regions(s, layout, head, at, which, &mut names);

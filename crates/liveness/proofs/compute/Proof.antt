@@ -1,11 +1,14 @@
--- `liveness::compute`: the tables of either size are as `by_tables` asks. Assumes nothing.
+-- `liveness::compute`: the tables for more than 128 points are as `by_tables` asks. Assumes nothing.
 use Prim.Native.Nat.{ℕ, _*_, _≤_}
-use native.Mathlib.Omega.{arith}
 use lib.ListN.{length-replicate}
 use Rattle.liveness.proofs.FillLaws.{start-blank}
+use native.Mathlib.Omega.{arith}
 use borrow.Author.Needs.{needs}
 use Rattle.liveness.proofs.compute.Statement.{statement}
 use Rattle.liveness.proofs.compute.Tie as tie
+
+compute-small-requires : tie.Need-compute-small-requires
+compute-small-requires c κs = search needs
 
 slice-aggregate-by-tables : tie.Need-slice-aggregate-by-tables
 slice-aggregate-by-tables c = search needs
@@ -15,18 +18,6 @@ slice-aggregate-by-tables-2 c = search needs
 
 by-tables-requires : tie.Need-by-tables-requires
 by-tables-requires c κs = let r = c .before .before .before .before .before .before .before .before .pre in
-    let size : 4 * c .before .before .before .before .before .before .before .before .args .code ≤ 512 = omega (arith, c .before .before .before .before .if1 .taken) in
-    let long = length-replicate {A = ℕ} 512 in
-    (r .0, r .1, r .2, r .3, start-blank 512 _ size, omega (arith, size, long 0), omega (arith, size, long 4294967295), r .4, r .5)
-
-slice-aggregate-by-tables-3 : tie.Need-slice-aggregate-by-tables-3
-slice-aggregate-by-tables-3 c = search needs
-
-slice-aggregate-by-tables-4 : tie.Need-slice-aggregate-by-tables-4
-slice-aggregate-by-tables-4 c = search needs
-
-by-tables-requires-2 : tie.Need-by-tables-requires-2
-by-tables-requires-2 c κs = let r = c .before .before .before .before .before .before .before .before .pre in
     let size : 4 * c .before .before .before .before .before .before .before .before .args .code ≤ 4096 = omega (arith, r .1, r .2) in
     let long = length-replicate {A = ℕ} 4096 in
     (r .0, r .1, r .2, r .3, start-blank 4096 _ size, omega (arith, size, long 0), omega (arith, size, long 4294967295), r .4, r .5)
@@ -53,12 +44,10 @@ pub compute-spec : {M : Type 1} → statement M
 compute-spec =
     tie.close
     (tie.spec
+    compute-small-requires
     slice-aggregate-by-tables
     slice-aggregate-by-tables-2
     by-tables-requires
-    slice-aggregate-by-tables-3
-    slice-aggregate-by-tables-4
-    by-tables-requires-2
     same-length
     same-length-2
     returns

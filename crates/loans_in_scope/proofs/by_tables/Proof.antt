@@ -6,7 +6,7 @@ use Rattle.loans_in_scope.proofs.by_tables.Statement.{statement}
 use Rattle.loans_in_scope.proofs.by_tables.Tie as tie
 
 fill-requires : tie.Need-fill-requires
-fill-requires c κs = let r = c .before .before .before .before .before .before .before .before .before .pre in (r .0, r .1, r .2, r .4, r .5)
+fill-requires c κs = let r = c .before .before .before .before .before .before .before .before .before .pre in (r .0, r .1, r .2, r .3, r .4, r .5, r .6)
 
 flow-requires : tie.Need-flow-requires
 flow-requires c κs = search needs

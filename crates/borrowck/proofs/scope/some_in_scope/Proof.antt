@@ -8,8 +8,8 @@ use Rattle.borrowck.proofs.scope.some_in_scope.Tie as tie
 returns : tie.Need-returns
 returns c = some-past (c .if1 .taken)
 
-mul-start : tie.Need-mul-start
-mul-start c = search needs
+mul-some-set : tie.Need-mul-some-set
+mul-some-set c = search needs
 
 some-set-requires : tie.Need-some-set-requires
 some-set-requires c κs = search needs
@@ -18,4 +18,4 @@ returns-2 : tie.Need-returns-2
 returns-2 c = some-in (omega arith) (c .some-set .ensures)
 
 pub some-in-scope-spec : {M : Type 1} → statement M
-some-in-scope-spec = tie.close (tie.spec returns mul-start some-set-requires returns-2)
+some-in-scope-spec = tie.close (tie.spec returns mul-some-set some-set-requires returns-2)
