@@ -48,7 +48,8 @@ fn note(grew: &[u8; 128], grown: &mut [u8; 128])
     }
 }
 
-// Runs rounds until no set grows. `grown` marks, by 1, the regions whose sets grew. The constraints for which the list has room are derived once.
+// Runs rounds until no set grows. `grown` marks, by 1, the regions whose sets grew. The constraints for which the list has room are derived once; `hot` gets those
+// by which regions were marked.
 fn solve(
     s: &[u8],
     layout: &[u16; 1280],
@@ -62,14 +63,15 @@ fn solve(
     words: &mut [u32],
     grown: &mut [u8; 128],
     list: &mut [u32],
+    hot: &mut [u32],
 )
     requires { ⌜ (length (now layout) ≡ 1280) × (length (now grown) ≡ 128) × (265 ≤ length (now list)) ⌝ }
     ensures { λ _. ⌜ (length (now (grown .exit)) ≡ 128) × ((j : Job) → Seeded (now (s .entry)) (now (layout .entry)) head (now (first .entry)) (now (succ .entry)) (now (walked .entry)) shape (now (words .entry)) j
         → Chained (now (chain .entry)) (now (first .entry)) (now (succ .entry)) → Solved (ruleOf rule) j (now (words .entry)) (now (words .exit)) (now (grown .exit))) ⌝ }
 {
     clear(grown);
+    constraint_list::clear(hot);
     let to = collect(s, layout, head, walked, shape.code, 0, list);
-    let mut hot = [0; 257];
     let mut last = [1; 128];
     let mut left = ROUNDS;
     while left != 0 {
@@ -85,7 +87,7 @@ fn solve(
             succ,
             chain,
             &last,
-            &mut hot,
+            hot,
             list,
             to,
         );
@@ -94,59 +96,6 @@ fn solve(
         }
         note(&last, grown);
         left -= 1;
-    }
-}
-
-// The same for at most 256 points, with a list of a size for so many.
-fn solve_small(
-    s: &[u8],
-    layout: &[u16; 1280],
-    head: Head,
-    first: &[u16; 1025],
-    succ: &[u16; 1536],
-    chain: &[u32; 32],
-    walked: &[u32; 32],
-    shape: Shape,
-    rule: EndRule,
-    words: &mut [u32],
-    grown: &mut [u8; 128],
-)
-    requires { ⌜ (length (now layout) ≡ 1280) × (length (now grown) ≡ 128) ⌝ }
-    ensures { λ _. ⌜ (length (now (grown .exit)) ≡ 128) × ((j : Job) → Seeded (now (s .entry)) (now (layout .entry)) head (now (first .entry)) (now (succ .entry)) (now (walked .entry)) shape (now (words .entry)) j
-        → Chained (now (chain .entry)) (now (first .entry)) (now (succ .entry)) → Solved (ruleOf rule) j (now (words .entry)) (now (words .exit)) (now (grown .exit))) ⌝ }
-{
-    if shape.code <= 64 {
-        let mut list = [0; 513];
-        solve(
-            s,
-            layout,
-            head,
-            first,
-            succ,
-            chain,
-            walked,
-            shape,
-            rule,
-            words,
-            grown,
-            &mut list,
-        );
-    } else {
-        let mut list = [0; 4097];
-        solve(
-            s,
-            layout,
-            head,
-            first,
-            succ,
-            chain,
-            walked,
-            shape,
-            rule,
-            words,
-            grown,
-            &mut list,
-        );
     }
 }
 
@@ -168,22 +117,9 @@ pub fn regionck(
         → Solved (ruleOf rule) j (now (words .entry)) (now (words .exit)) (now (grown .exit))) ⌝ }
 {
     let chain = dfs::chains(first, succ, shape.code);
-    if shape.code <= 256 {
-        solve_small(
-            s,
-            layout,
-            head,
-            first,
-            succ,
-            &chain,
-            walked,
-            shape,
-            rule,
-            words,
-            grown,
-        );
-    } else {
-        let mut list = [0; 12289];
+    if shape.code <= 64 {
+        let mut list = [0; 513];
+        let mut hot = [0; 257];
         solve(
             s,
             layout,
@@ -197,6 +133,25 @@ pub fn regionck(
             words,
             grown,
             &mut list,
+            &mut hot,
+        );
+    } else {
+        let mut list = [0; 4097];
+        let mut hot = [0; 1025];
+        solve(
+            s,
+            layout,
+            head,
+            first,
+            succ,
+            &chain,
+            walked,
+            shape,
+            rule,
+            words,
+            grown,
+            &mut list,
+            &mut hot,
         );
     }
 }

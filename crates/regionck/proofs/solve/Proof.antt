@@ -1,6 +1,6 @@
 -- `regionck::solve`. The loop's invariant: some rounds were run, fewer than `left` bits of the regions are 0, and the constraints of `hot` are the job's. Assumes
 -- nothing.
-use mathlib.Core.Path.{_≡_, refl, sym, _∙_}
+use mathlib.Core.Path.{_≡_, sym, _∙_}
 use native.Mathlib.Omega.{arith}
 use lib.ListN.{length}
 use borrow.Author.Tests.{not-true, not-false}
@@ -8,31 +8,32 @@ use Rattle.regionck.proofs.SolvedLaws.{GoingOn, Kept, kept-none, kept-m
 use borrow.Author.Needs.{needs}
 use Rattle.regionck.proofs.solve.Statement.{statement}
 use Rattle.regionck.proofs.solve.Tie as tie
+use Rattle.regionck.proofs.clear.Reads as clear-reads′
 
 abbrev Inv-loop : tie.InvT-loop
-Inv-loop s layout head first succ chain walked shape rule words₀ grown₀ list to hot₀ last₀ left₀ words grown hot last left =
-    (length words ≡ length words₀) × (length grown ≡ 128) × (length hot ≡ 257) × Kept s layout head first succ chain walked shape rule words₀ hot
+Inv-loop s layout head first succ chain walked shape rule words₀ grown₀ list hot₀ to last₀ left₀ words grown hot last left =
+    (length words ≡ length words₀) × (length grown ≡ 128) × (length hot ≡ length hot₀) × Kept s layout head first succ chain walked shape rule words₀ hot
     × GoingOn s layout head first succ chain walked shape rule words₀ words last grown left
 
 abbrev μ-loop : tie.MeasureT-loop
-μ-loop s layout head first succ chain walked shape rule words₀ grown₀ list to hot₀ last₀ left₀ words grown hot last left =
+μ-loop s layout head first succ chain walked shape rule words₀ grown₀ list hot₀ to last₀ left₀ words grown hot last left =
     left
 
 clear-requires : tie.Need-clear-requires Inv-loop μ-loop
 clear-requires c κs = search needs
 
+clear-requires-2 : tie.Need-clear-requires-2 Inv-loop μ-loop
+clear-requires-2 c κs = search needs
+
 collect-requires : tie.Need-collect-requires Inv-loop μ-loop
 collect-requires c κs = search needs
 
 loop-holds : tie.Need-loop-holds Inv-loop μ-loop
-loop-holds c = let a = c .before .before .before .before .before .before .before .before .before .args in
-    (search needs, c .before .before .before .before .clear .ensures .sized, search needs, kept-none (a .s .now) (a .layout .now) (a .head) (a .first .now) (a .succ .now) (a .chain .now) (a .walked .now) (a .shape) (a .rule) (a .words .now) refl, going-start (a .s .now) (a .layout .now) (a .head) (a .first .now) (a .succ .now) (a .chain .now) (a .walked .now) (a .shape) (a .rule) (a .words .now) (c .before .before .before .before .clear .ensures))
-
-slice-aggregate-round : tie.Need-slice-aggregate-round Inv-loop μ-loop
-slice-aggregate-round c = search needs
+loop-holds c = let a = c .before .before .before .before .before .before .before .before .before .before .before .before .before .before .args in
+    (search needs, c .before .before .before .before .before .before .before .before .clear .ensures .sized, search needs, kept-none (a .s .now) (a .layout .now) (a .head) (a .first .now) (a .succ .now) (a .chain .now) (a .walked .now) (a .shape) (a .rule) (a .words .now) (c .before .before .before .before .before .before .clear2 .ensures .1), going-start (a .s .now) (a .layout .now) (a .head) (a .first .now) (a .succ .now) (a .chain .now) (a .walked .now) (a .shape) (a .rule) (a .words .now) (c .before .before .before .before .before .before .before .before .clear .ensures))
 
 round-requires : tie.Need-round-requires Inv-loop μ-loop
-round-requires c κs = (c .before .before .before .before .before .before .before .before .before .before .before .before .before .before .before .pre .0, c .before .before .before .before .before .before .before .before .collect .ensures .holding)
+round-requires c κs = (c .before .before .before .before .before .before .before .before .before .before .before .before .before .before .before .before .before .before .before .before .pre .0, c .before .before .before .before .before .before .before .before .collect .ensures .holding)
 
 any-marked-requires : tie.Need-any-marked-requires Inv-loop μ-loop
 any-marked-requires c κs = search needs
@@ -43,10 +44,13 @@ same-length c = search needs
 same-length-2 : tie.Need-same-length-2 Inv-loop μ-loop
 same-length-2 c = search needs
 
+same-length-3 : tie.Need-same-length-3 Inv-loop μ-loop
+same-length-3 c = search needs
+
 returns : tie.Need-returns Inv-loop μ-loop
-returns c = let a = c .before .before .before .before .before .before .before .before .before .before .before .before .before .before .before .before .before .before .before .before .before .before .args in
-    let l = c .before .before .before .before .before .before .before .before .before .before .before .before .loop in
-    (l .inv .1, going-done (a .s .now) (a .layout .now) (a .head) (a .first .now) (a .succ .now) (a .chain .now) (a .walked .now) (a .shape) (a .rule) (a .words .now) (l .inv .4) (l .inv .3) (c .before .before .before .before .before .before .round .ensures .0) (sym (c .before .any-marked .ensures) ∙ not-true _ (c .if1 .taken)))
+returns c = let a = c .before .before .before .before .before .before .before .before .before .before .before .before .before .before .before .before .before .before .before .before .before .before .before .before .before .before .before .before .args in
+    let l = c .before .before .before .before .before .before .before .before .before .before .before .before .before .loop in
+    (l .inv .1, going-done (a .s .now) (a .layout .now) (a .head) (a .first .now) (a .succ .now) (a .chain .now) (a .walked .now) (a .shape) (a .rule) (a .words .now) (l .inv .4) (l .inv .3) (c .before .before .before .before .before .before .before .round .ensures .0) (sym (c .before .any-marked .ensures) ∙ not-true _ (c .if1 .taken)))
 
 note-requires : tie.Need-note-requires Inv-loop μ-loop
 note-requires c κs = search needs
@@ -58,20 +62,23 @@ loop-less : tie.Need-loop-less Inv-loop μ-loop
 loop-less c = search needs
 
 loop-again : tie.Need-loop-again Inv-loop μ-loop
-loop-again c = let a = c .before .before .before .before .before .before .before .before .before .before .before .before .before .before .before .before .before .before .before .before .before .before .before .before .before .args in
-    let l = c .before .before .before .before .before .before .before .before .before .before .before .before .before .before .before .loop in
+loop-again c = let a = c .before .before .before .before .before .before .before .before .before .before .before .before .before .before .before .before .before .before .before .before .before .before .before .before .before .before .before .before .before .before .before .args in
+    let l = c .before .before .before .before .before .before .before .before .before .before .before .before .before .before .before .before .loop in
     let noted = c .note .ensures (l .inv .1) in
-    let r = c .before .before .before .before .before .before .before .before .before .round .ensures in
+    let r = c .before .before .before .before .before .before .before .before .before .before .round .ensures in
     (search needs, noted .sized, search needs, kept-more (a .s .now) (a .layout .now) (a .head) (a .first .now) (a .succ .now) (a .chain .now) (a .walked .now) (a .shape) (a .rule) (a .words .now) (l .inv .3) (r .1), going-more (a .s .now) (a .layout .now) (a .head) (a .first .now) (a .succ .now) (a .chain .now) (a .walked .now) (a .shape) (a .rule) (a .words .now) (l .inv .4) (l .inv .3) (r .0) (sym (c .before .before .before .before .any-marked .ensures) ∙ not-false _ (c .before .before .before .if1 .left)) noted)
-
-same-length-3 : tie.Need-same-length-3 Inv-loop μ-loop
-same-length-3 c = search needs
 
 same-length-4 : tie.Need-same-length-4 Inv-loop μ-loop
 same-length-4 c = search needs
 
+same-length-5 : tie.Need-same-length-5 Inv-loop μ-loop
+same-length-5 c = search needs
+
+same-length-6 : tie.Need-same-length-6 Inv-loop μ-loop
+same-length-6 c = search needs
+
 returns-2 : tie.Need-returns-2 Inv-loop μ-loop
-returns-2 c = let a = c .before .before .before .before .before .before .before .before .before .before .before .args in
+returns-2 c = let a = c .before .before .before .before .before .before .before .before .before .before .before .before .before .before .before .before .args in
     let l = c .before .loop in
     (l .inv .1, going-out (a .s .now) (a .layout .now) (a .head) (a .first .now) (a .succ .now) (a .chain .now) (a .walked .now) (a .shape) (a .rule) (a .words .now) (omega arith) (l .inv .4))
 
@@ -82,18 +89,20 @@ solve-spec =
     Inv-loop
     μ-loop
     clear-requires
+    clear-requires-2
     collect-requires
     loop-holds
-    slice-aggregate-round
     round-requires
     any-marked-requires
     same-length
     same-length-2
+    same-length-3
     returns
     note-requires
     sub-left
     loop-less
     loop-again
-    same-length-3
     same-length-4
+    same-length-5
+    same-length-6
     returns-2)
