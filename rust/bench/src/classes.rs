@@ -2,7 +2,7 @@
 
 use generate::jobs::{dense, slow, Size, LARGE, LARGEST, MEDIUM, SMALL, TINY};
 use generate::rng::Rng;
-use generate::worst::{self, Clock};
+use generate::worst::{self, Clock, Relay};
 use original::Order;
 
 pub struct Class {
@@ -69,6 +69,9 @@ pub fn slowest() -> Vec<(String, Vec<u8>)> {
     let apart = |assignments, steps| Clock { apart: true, steps, ..Clock::of(assignments) };
     for clock in [apart(20, 1), apart(100, 1), apart(450, 1), apart(450, 6), apart(600, 6), apart(740, 6)] {
         found.push((format!("{clock:?}"), worst::clock(&clock)));
+    }
+    for relay in [Relay::of(60, 300, false), Relay::of(60, 300, true), Relay::of(90, 440, false), Relay::of(90, 440, true)] {
+        found.push((format!("{relay:?}"), worst::relay(&relay)));
     }
     found.extend([2, 8, 32].map(|nodes| (format!("dense {nodes}"), dense(&mut Rng::new(1), nodes))));
     found.extend([2, 8, 32].map(|nodes| (format!("slow {nodes}"), slow(&mut Rng::new(1), nodes))));

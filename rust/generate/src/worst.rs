@@ -151,6 +151,50 @@ fn related(steps: usize, half: usize) -> (Vec<StructDecl>, [(Ty, Path); 2]) {
     (structs, [0, 1].map(|index| (variable(index), path(RELATED[index], vec![1; steps]))))
 }
 
+// ---- Many rounds of few changes
+
+/// A job in which a point goes through a chain of regions, one further in each round: each region outlives the one before it by a
+/// Constraint, and these stand in the order against that of the rounds. After them come points of which the first region of the chain
+/// holds every other one, and the others those between, as in a clock: each goes once through the chain before the next one does.
+#[derive(Clone, Copy, Debug)]
+pub struct Relay {
+    /// The regions of the chain but the first.
+    pub hops: usize,
+    /// Each relates 97 pairs of regions: of other regions, both ways.
+    pub assignments: usize,
+    /// The points after the chain.
+    pub ticks: usize,
+    /// Whether the assignments have other regions outlive those of the chain instead.
+    pub fed: bool,
+}
+
+impl Relay {
+    /// As many points after the chain as there is room for.
+    pub fn of(hops: usize, assignments: usize, fed: bool) -> Relay {
+        Relay { hops, assignments, ticks: MAX_POINTS - 24 - hops - assignments, fed }
+    }
+}
+
+pub fn relay(relay: &Relay) -> Vec<u8> {
+    let (to, from, lower, upper, both) = (0, 1, 2, 3, 4);
+    let init = |variable, source| Action::Init(Path::variable(variable), vec![Path::variable(source)]);
+    let mut actions = vec![Action::Constraint { sup: 0, sub: relay.hops }];
+    actions.extend(vec![Action::Assign(Path::variable(to), Path::variable(from)); relay.assignments]);
+    actions.extend((0..relay.hops).rev().map(|hop| Action::Constraint { sup: hop + 1, sub: hop }));
+    actions.push(Action::Init(Path::variable(both), vec![Path::variable(lower), Path::variable(upper)]));
+    actions.extend((1..relay.ticks).map(|tick| if tick % 2 == 1 { init(upper, lower) } else { init(lower, upper) }));
+    let chain = relay.hops + 1;
+    let other = |index: usize| chain + index % (REGIONS - chain);
+    let source = |index: usize| if relay.fed { index % chain } else { other(index + 5) };
+    let variables =
+        vec![large_type(MAX_NODES, other), large_type(MAX_NODES, source), holding(1..chain), holding(0..1), Ty::Unit];
+    let mut structs = regions_and_a_type();
+    if relay.fed {
+        structs.iter_mut().flat_map(|decl| &mut decl.params).for_each(|param| param.variance = Variance::Co);
+    }
+    record(&Job { structs, regions: REGIONS, outlives: vec![], variables, blocks: in_a_row(&actions) })
+}
+
 // ---- Many loans, much that is live, sets that go far
 
 /// 128 loans that are in scope at all points after them, and as many operands as fit, none of which conflicts. Loans and operands
@@ -304,6 +348,7 @@ mod tests {
         let of = |assignments, steps| clock(&Clock { apart: assignments > 1, steps, ..Clock::of(assignments) });
         let clocks = [1, 2, 100, 450, 600].map(|assignments| [1, 2, 6].map(|steps| of(assignments, steps)));
         let mut records: Vec<Vec<u8>> = clocks.concat();
+        records.extend([false, true].map(|fed| relay(&Relay::of(60, 300, fed))));
         records.extend((0..7).map(loans));
         records.extend(deep());
         records.extend([far(), live()]);

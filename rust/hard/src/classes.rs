@@ -2,7 +2,7 @@
 
 use generate::jobs::{dense, LARGE, LARGEST, MEDIUM, SMALL, TINY};
 use generate::rng::Rng;
-use generate::worst::{self, Clock};
+use generate::worst::{self, Clock, Relay};
 use generate::{boundary, exhaustive, short};
 use model::decode::MAX_LENGTH;
 use model::encode::with_length;
@@ -48,7 +48,15 @@ fn drawn(name: &'static str, count: u64, seed: u64, record: impl Fn(u64) -> Vec<
 /// Records that take long, short enough for the model.
 fn much_work() -> Vec<Vec<u8>> {
     let clock = |assignments, ticks, apart, steps| worst::clock(&Clock { assignments, ticks, apart, steps });
-    let mut found = vec![clock(1, 120, false, 1), clock(2, 60, true, 1), clock(3, 30, true, 1), clock(2, 30, true, 6), clock(60, 20, false, 2)];
+    let mut found = vec![
+        clock(1, 120, false, 1),
+        clock(2, 60, true, 1),
+        clock(3, 30, true, 1),
+        clock(2, 30, true, 6),
+        clock(60, 20, false, 2),
+    ];
+    let relay = |hops, assignments, ticks, fed| worst::relay(&Relay { hops, assignments, ticks, fed });
+    found.extend([relay(12, 3, 20, false), relay(12, 3, 20, true), relay(90, 1, 8, true)]);
     found.extend((0..7).map(worst::loans));
     found.extend([worst::far(), worst::live()]);
     found.extend((2..5).map(|nodes| dense(&mut Rng::new(1), nodes)));
