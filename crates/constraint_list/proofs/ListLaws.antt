@@ -3,7 +3,7 @@ use mathlib.Core.Path.{_≡_, refl, sym, ap, ap₂, _∙_, subst}
 use mathlib.Core.Logic.{_⊎_, inl, inr, ⊎-elim}
 use mathlib.Core.Bool.{false}
 use mathlib.Core.List.{List, [], _∷_, _++_, append-nil, append-assoc}
-use Prim.Native.Nat.{ℕ, zero, suc, _+_, _-_, _/_, _*_, _%_, _≤_, _<_, min}
+use Prim.Native.Nat.{ℕ, zero, suc, _+_, _-_, _/_, _*_, _%_, _≤_, _<_}
 use native.Mathlib.Omega.{arith}
 use native.Mathlib.Numerals.{add-one}
 use lib.ListN.{length, getD, set, length-set, length-append, List·getD-eq-default}
@@ -11,7 +11,7 @@ use lib.Seq.{getD-set-same, getD-set-other}
 use Rattle.nll_spec.specs.Lists.{Member}
 use Rattle.nll_spec.specs.Constraints.{Outlives}
 use Rattle.nll_spec.proofs.Members.{every-member, member-left, member-right, member-append}
-use Rattle.constraint_list.specs.Listed.{outlivesOf, outlivesFrom, countIn, roomIn, firstIn, constraintsIn, Adds, Draws}
+use Rattle.constraint_list.specs.Listed.{outlivesFrom, countIn, roomIn, firstIn, constraintsIn, Adds, Draws}
 
 -- ---- A constraint and its number
 

@@ -1,16 +1,16 @@
 -- The laws of `isCovered` and `Covered`: a walk that the words show to stay within the outer set puts nothing new. Assumes nothing.
-use mathlib.Core.Path.{_≡_, refl, sym, ap, _∙_, subst}
+use mathlib.Core.Path.{_≡_, sym, ap, _∙_}
 use mathlib.Core.Logic.{inl, inr}
-use mathlib.Core.Bool.{Bool, true, false, _&&_, true≢false}
+use mathlib.Core.Bool.{Bool, true, false, true≢false}
 use mathlib.Core.List.{List}
 use Prim.Native.Nat.{ℕ, _+_, _-_, _*_, _/_, _%_, _^_, _≤_, _<_, max}
 use native.Mathlib.Nat.{le-max-right, div-eq-of-lt}
-use native.Mathlib.Decide.{ℕ-discrete, decLt}
+use native.Mathlib.Decide.{ℕ-discrete}
 use native.Mathlib.Omega.{arith}
 use lib.ListN.{length, getD}
 use lib.Bits.{bitOr}
 use lib.Dec.{eqb, ltb}
-use borrow.Author.Tests.{eqb-true, eq-eqb, ne-eqb}
+use borrow.Author.Tests.{eqb-true, eq-eqb}
 use Rattle.nll_spec.specs.Regions.{EndRule}
 use Rattle.nll_spec.specs.Output.{wordBits}
 use Rattle.bit_set.specs.Bits.{has, bothFit, orWord}
@@ -18,7 +18,7 @@ use Rattle.bit_set.proofs.BitLaws.{digit, digit-lt, digit-or, place}
 use Rattle.bit_set.proofs.RunLaws.{and-true-left, and-true-right, both-into, both-from}
 use Rattle.graph.specs.Tables.{Edge, rowEnd}
 use Rattle.dfs.proofs.ChainLaws.{up-to-le}
-use Rattle.dfs.specs.Walk.{inCode, Chained, Reach, here, step, Leaf}
+use Rattle.dfs.specs.Walk.{inCode, Chained, Reach, here, step}
 use Rattle.infer.specs.Search.{Gets, isCovered, Covered}
 use Rattle.dfs.proofs.SearchLaws.{reach-held}
 

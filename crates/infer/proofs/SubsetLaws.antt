@@ -1,6 +1,6 @@
 -- The laws of `isSubset`, `hasRun` and `addsNothing`: where nothing is put, what a constraint puts into its outer set is there. Assumes nothing.
 use mathlib.Core.Path.{_≡_, refl, sym, ap, ap₂, _∙_}
-use mathlib.Core.Logic.{_⊎_, inl, inr}
+use mathlib.Core.Logic.{inl, inr}
 use mathlib.Core.Bool.{Bool, true, false, not, _&&_, _||_, true≢false}
 use mathlib.Core.List.{List}
 use Prim.Native.Nat.{ℕ, zero, suc, _+_, _-_, _*_, _≤_, _<_}
@@ -11,10 +11,9 @@ use lib.ListN.{length, getD}
 use lib.Dec.{eqb, leb, ltb}
 use Rattle.nll_spec.specs.Regions.{EndRule, everyEnd, heldEnds, passesEnd}
 use Rattle.nll_spec.specs.Output.{wordBits}
-use Rattle.bit_set.specs.Bits.{has, fits, orWord, orGrows, bothFit}
+use Rattle.bit_set.specs.Bits.{has, orWord, orGrows, bothFit}
 use Rattle.bit_set.proofs.RunLaws.{and-true-left, and-true-right, fits-sub, both-into, both-from, both-fit, joined-yes}
 use Rattle.bit_set.proofs.SetLaws.{new-grows}
-use Rattle.dfs.specs.Walk.{inCode}
 use Rattle.infer.specs.Search.{Gets, isSubset, hasRun, hasEnds, addsNothing}
 use Rattle.dfs.proofs.SearchLaws.{reach-held, code-below}
 

@@ -4,7 +4,7 @@ use mathlib.Core.Logic.{_⊎_}
 use mathlib.Core.Bool.{Bool, true, false, not, _&&_, _||_, cond}
 use mathlib.Core.List.{List}
 use Prim.Native.Nat.{ℕ, zero, suc, _+_, _-_, _*_, _/_, _^_, _≤_, _<_}
-use lib.ListN.{length, getD, set}
+use lib.ListN.{length, getD}
 use lib.Dec.{eqb, leb, ltb}
 use lib.Bits.{bitOr}
 use Rattle.nll_spec.specs.Regions.{EndRule, everyEnd, heldEnds, passesEnd}

@@ -1,5 +1,5 @@
 -- A round: the constraints of the points of walked blocks, collected in a list and run. Assumes nothing.
-use mathlib.Core.Path.{_≡_, refl, sym, ap, _∙_, subst}
+use mathlib.Core.Path.{_≡_, sym, ap, _∙_, subst}
 use mathlib.Core.Logic.{⊎-elim}
 use mathlib.Core.Bool.{Bool, true, false, cond}
 use mathlib.Core.List.{List, [], _++_, append-nil, append-assoc}
@@ -10,13 +10,11 @@ use lib.ListN.{length, length-replicate}
 use Rattle.nll_spec.specs.Lists.{Member}
 use Rattle.nll_spec.specs.Syntax.{Job, Point}
 use Rattle.nll_spec.specs.Output.{wordBits}
-use Rattle.nll_spec.specs.WellFormed.{refusal}
 use Rattle.nll_spec.specs.Graph.{graphOf, actionAt, isWalked}
 use Rattle.nll_spec.specs.Constraints.{Outlives, constraintsAt, constraintsOf}
 use Rattle.nll_spec.proofs.GraphLaws.{code-count}
 use Rattle.nll_spec.proofs.Members.{member-right}
 use Rattle.bit_set.specs.Bits.{has}
-use Rattle.record.specs.Layout.{Layout}
 use Rattle.record.specs.declared.Head.{Head}
 use Rattle.constraint_list.specs.Listed.{countIn, roomIn, constraintsIn, firstIn, Adds, Draws}
 use Rattle.constraint_list.proofs.ListLaws.{adds-none, first-none}

@@ -6,11 +6,6 @@ use Rattle.constraint_list.proofs.ListLaws.{adds-full, adds-one, draws-
 use borrow.Author.Needs.{needs}
 use Rattle.constraint_list.proofs.add.Statement.{statement}
 use Rattle.constraint_list.proofs.add.Tie as tie
-use Rattle.constraint_list.proofs.add.Reads as reads
-use Rattle.constraint_list.proofs.add.Lts as lts
-use Rattle.constraint_list.proofs.number.Reads as number-reads
-use Rattle.constraint_list.proofs.room.Reads as room-reads
-use Rattle.constraint_list.proofs.wide.Reads as wide-reads
 
 room-requires : tie.Need-room-requires
 room-requires c κs = search needs

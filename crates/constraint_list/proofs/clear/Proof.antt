@@ -1,13 +1,11 @@
 -- `constraint_list::clear` meets its contract. Assumes nothing.
-use mathlib.Core.Path.{refl, _∙_}
+use mathlib.Core.Path.{refl}
 use native.Mathlib.Omega.{arith}
 use lib.ListN.{length-set, List·getD-eq-default}
 use lib.Seq.{getD-set-same}
 use borrow.Author.Needs.{needs}
 use Rattle.constraint_list.proofs.clear.Statement.{statement}
 use Rattle.constraint_list.proofs.clear.Tie as tie
-use Rattle.constraint_list.proofs.clear.Reads as reads
-use Rattle.constraint_list.proofs.clear.Lts as lts
 
 returns : tie.Need-returns
 returns c = (refl, List·getD-eq-default (c .before .args .list .now) 0 {n = 0} (omega arith))

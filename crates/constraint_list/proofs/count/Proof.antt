@@ -5,9 +5,6 @@ use lib.ListN.{List·getD-eq-default}
 use borrow.Author.Needs.{needs}
 use Rattle.constraint_list.proofs.count.Statement.{statement}
 use Rattle.constraint_list.proofs.count.Tie as tie
-use Rattle.constraint_list.proofs.count.Reads as reads
-use Rattle.constraint_list.proofs.count.Lts as lts
-use Rattle.constraint_list.proofs.wide.Reads as wide-reads
 
 returns : tie.Need-returns
 returns c = sym (List·getD-eq-default (c .before .before .args .list .now) 0 {n = 0} (omega arith))

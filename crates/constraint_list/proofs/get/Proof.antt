@@ -4,8 +4,6 @@ use Rattle.constraint_list.proofs.ListLaws.{beyond}
 use borrow.Author.Needs.{needs}
 use Rattle.constraint_list.proofs.get.Statement.{statement}
 use Rattle.constraint_list.proofs.get.Tie as tie
-use Rattle.constraint_list.proofs.get.Reads as reads
-use Rattle.constraint_list.proofs.get.Lts as lts
 
 returns : tie.Need-returns
 returns c = beyond (c .before .args .list .now) (c .before .args .i) (omega arith)

@@ -5,8 +5,6 @@ use Rattle.constraint_list.proofs.ListLaws.{number-says}
 use borrow.Author.Needs.{needs}
 use Rattle.constraint_list.proofs.number.Statement.{statement}
 use Rattle.constraint_list.proofs.number.Tie as tie
-use Rattle.constraint_list.proofs.number.Reads as reads
-use Rattle.constraint_list.proofs.number.Lts as lts
 
 mul-result : tie.Need-mul-result
 mul-result c = search needs

@@ -3,7 +3,7 @@ use Prim.Native.Nat.{_-_, _/_}
 use mathlib.Core.Bool.{true≢false}
 use mathlib.Core.Path.{sym}
 use native.Mathlib.Omega.{arith}
-use borrow.Author.Tests.{not-true, not-false}
+use borrow.Author.Tests.{not-false}
 use Rattle.nll_spec.specs.Output.{wordBits}
 use Rattle.infer.proofs.CoverLaws.{Covering, cover-start, cover-more, cover-done}
 use borrow.Author.Needs.{needs}

@@ -8,7 +8,6 @@ use Rattle.regionck.proofs.SolvedLaws.{GoingOn, Kept, kept-none, kept-m
 use borrow.Author.Needs.{needs}
 use Rattle.regionck.proofs.solve.Statement.{statement}
 use Rattle.regionck.proofs.solve.Tie as tie
-use Rattle.regionck.proofs.clear.Reads as clear-reads′
 
 abbrev Inv-loop : tie.InvT-loop
 Inv-loop s layout head first succ chain walked shape rule words₀ grown₀ list hot₀ to last₀ left₀ words grown hot last left =

@@ -1,6 +1,5 @@
 -- `regionck::round::settle`. The loop's invariant: the constraints of the list were run more often. Assumes nothing.
 use mathlib.Core.Path.{_≡_, sym, _∙_}
-use native.Mathlib.Omega.{arith}
 use lib.ListN.{length}
 use borrow.Author.Tests.{not-true}
 use Rattle.constraint_list.specs.Listed.{constraintsIn}
