@@ -1,12 +1,13 @@
 -- A run of words without a number. Assumes nothing.
-use mathlib.Core.Path.{_≡_}
+use mathlib.Core.Path.{_≡_, sym}
+use mathlib.Core.Logic.{inl, inr}
 use mathlib.Core.Bool.{true, false, true≢false}
 use mathlib.Core.List.{List}
 use Prim.Native.Nat.{ℕ, _+_, _*_, _/_, _%_, _^_, _≤_, _<_}
 use native.Mathlib.Omega.{arith}
 use native.Mathlib.Decide.{decLt}
 use native.Mathlib.Nat.{zero-div}
-use lib.ListN.{getD}
+use lib.ListN.{length, getD}
 use Rattle.nll_spec.specs.Output.{wordBits}
 use Rattle.bit_set.specs.Bits.{has}
 use Rattle.bit_slice.specs.Some.{SomeSet}
@@ -30,9 +31,12 @@ module _ {words : List ℕ} {start : ℕ} where
       go m l (yes o) = w .before m o
       go m l (no o) = let z : m ≡ k = omega arith in rw z e
 
-  pub some-set : {n : ℕ} → SomeSet words start n true
-  some-set = record { none = λ e. absurd (true≢false e) }
+  pub some-past : {n : ℕ} → length words < start + n → SomeSet words start n true
+  some-past l = record { none = λ e. absurd (true≢false e); some = λ e. inl l }
+
+  pub some-set : {n : ℕ} (k : ℕ) → k < n → (getD words (start + k) 0 ≡ 0 → ⊥) → SomeSet words start n true
+  some-set k l z = record { none = λ e. absurd (true≢false e); some = λ e. inr (k, l, z) }
 
   pub none-set : {k n : ℕ} → Blank words start k → n ≤ k → SomeSet words start n false
   none-set w l =
-      record { none = λ e i o. blank-bit words (wordBits * start + i) (let k : (wordBits * start + i) / wordBits ≡ start + i / wordBits = omega arith in rw k (w .before (i / wordBits) (omega arith))) }
+      record { none = λ e i o. blank-bit words (wordBits * start + i) (let k : (wordBits * start + i) / wordBits ≡ start + i / wordBits = omega arith in rw k (w .before (i / wordBits) (omega arith))); some = λ e. absurd (true≢false (sym e)) }

@@ -95,19 +95,18 @@ no-member : {c : Outlives} → Member c [] → ⊥
 no-member {c} m = every-member (λ (x : Outlives). false) [] tt m
 
 pub draws-none : {cs : List Outlives} {t : List ℕ} → Draws cs t t
-draws-none = record { as-long = refl; drawn = λ c m. inl m }
+draws-none = record { drawn = λ c m. inl m }
 
 -- one that was added
 pub draws-one : {c : Outlives} {t t′ : List ℕ} → 0 < roomIn t → Adds (c ∷ []) t t′ → Draws (c ∷ []) t t′
 draws-one {c} {t} {t′} l x =
-    record { as-long = x .as-long; drawn = λ d m. member-append (constraintsIn t) (c ∷ []) (subst (λ (cs : List Outlives). Member d cs) (x .adds (omega arith)) m) }
+    record { drawn = λ d m. member-append (constraintsIn t) (c ∷ []) (subst (λ (cs : List Outlives). Member d cs) (x .adds (omega arith)) m) }
 
 pub draws-append : {cs ds : List Outlives} {t t₁ t₂ : List ℕ} → Draws cs t t₁ → Draws ds t₁ t₂ → Draws (cs ++ ds) t t₂
 draws-append {cs} {ds} x y = record {
-  as-long = y .as-long ∙ x .as-long;
   drawn = λ c m. ⊎-elim (λ k. ⊎-elim inl (λ z. inr (member-left cs ds z)) (x .drawn c k)) (λ k. inr (member-right cs ds k)) (y .drawn c m);
 }
 
 -- all were taken away
-pub draws-cleared : {cs : List Outlives} {t t′ : List ℕ} → length t′ ≡ length t → countIn t′ ≡ 0 → Draws cs t t′
-draws-cleared {t′ = t′} l e = record { as-long = l; drawn = λ c m. absurd (no-member (subst (λ (ds : List Outlives). Member c ds) (ap (firstIn t′) e ∙ first-none t′) m)) }
+pub draws-cleared : {cs : List Outlives} {t t′ : List ℕ} → countIn t′ ≡ 0 → Draws cs t t′
+draws-cleared {t′ = t′} e = record { drawn = λ c m. absurd (no-member (subst (λ (ds : List Outlives). Member c ds) (ap (firstIn t′) e ∙ first-none t′) m)) }

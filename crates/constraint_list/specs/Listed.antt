@@ -39,5 +39,4 @@ pub record Adds (cs : List Outlives) (t t′ : List ℕ) : Type 0 where
 
 -- Whatever comes to the table is one of cs.
 pub record Draws (cs : List Outlives) (t t′ : List ℕ) : Type 0 where
-  pub as-long : length t′ ≡ length t
   pub drawn : (c : Outlives) → Member c (constraintsIn t′) → Member c (constraintsIn t) ⊎ Member c cs

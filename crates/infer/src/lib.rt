@@ -4,10 +4,11 @@
 use constraint_list::Constraint;
 use dfs::reach;
 ghost use mathlib.Core.Path.{_≡_};
-ghost use mathlib.Core.Bool.{true};
+ghost use mathlib.Core.Bool.{true, cond};
 ghost use mathlib.Core.List.{[], _∷_};
 ghost use Prim.Native.Nat.{_+_, _-_, _/_, _<_, _≤_};
 ghost use lib.ListN.{length, getD};
+ghost use lib.Dec.{ltb};
 ghost use Rattle.nll_spec.specs.Regions.{passesEnd};
 ghost use Rattle.nll_spec.specs.Output.{wordBits};
 ghost use Rattle.bit_set.specs.Bits.{bothFit};
@@ -265,13 +266,13 @@ fn wide16(x: u16) -> usize
 
 // The mark of a region, or 0 if it has no place among the marks.
 fn mark(grew: &[u8; 128], region: u8) -> u8
-    ensures { λ r. ⌜ (region < 128 → r ≡ getD (now (grew .entry)) region 0) ⌝ }
+    ensures { λ r. ⌜ r ≡ cond (ltb region 128) (getD (now (grew .entry)) region 0) 0 ⌝ }
 {
     let r = wide8(region);
     if r < 128 { grew[r] } else { 0 }
 }
 
-// Runs a constraint, and puts it into the list `hot` if by it the outer region is marked.
+// Runs a constraint, and puts it into the list `hot`, if there is room, where by it the outer region gets its mark.
 fn run_one(
     words: &mut [u32],
     first: &[u16; 1025],

@@ -32,7 +32,7 @@ pub record Column (w n : ℕ) (f : Variable → Bool) (x : Point) (rows rows′ 
 
 -- The rows of so many variables have the walked points below n that have the variable in that half of their sets.
 pub record Columns (w many n from : ℕ) (walked sets rows : List ℕ) : Type 0 where
-  pub bits : (v p : ℕ) → v < many → p < wordBits * w → has rows (rowBit w v p) ≡ (ltb p n && (has walked p && has sets (bitAt p (from + v))))
+  pub bits : (v p : ℕ) → v < many → p < wordBits * w → has rows (rowBit w v p) ≡ (ltb p n && (has walked p && inSet sets p from v))
 
 -- The rows say at which walked points each variable is used later, and at which it is dropped later.
 pub record LiveRows (j : Job) (w : ℕ) (us ds : List ℕ) : Type 0 where

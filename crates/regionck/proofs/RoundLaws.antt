@@ -24,7 +24,7 @@ use Rattle.infer.specs.declared.EndRule as declared
 use Rattle.infer.specs.declared.Shape.{Shape}
 use Rattle.infer.proofs.RanLaws.{no-member, ran-none, ran-append, ran-again, given-kept}
 use Rattle.constraints.specs.Constraining.{Constrains}
-use Rattle.regionck.specs.Rounds.{settingOf, noMarks, walkedAt, constraintsBelow, Known, PointAdds, Holding, RunsBelow, OwnKept, Settles, RoundRuns, Noted}
+use Rattle.regionck.specs.Rounds.{settingOf, noMarks, walkedAt, constraintsBelow, Known, PointAdds, Holding, RunsBelow, OwnKept, RunsAgain, RoundRuns, Noted}
 use Rattle.constraints.proofs.ListLaws.{select-below}
 use Rattle.regionck.proofs.NamedLaws.{own-below, all-named, named-below}
 use Rattle.regionck.proofs.MarkLaws.{blank, noted-joined, quiet-joined}
@@ -96,7 +96,7 @@ some-point {from} {p} l k r = go (decLt from p)
 
 module _ (s t : List ℕ) (h : Head) (walked : List ℕ) (shape : Shape) (rule : declared.EndRule) (first succ chain last ws : List ℕ) where
   pub below-none : RunsBelow s t h walked shape rule first succ chain last ws ws noMarks 0
-  below-none = record { ran = λ j layout accepted w g. ran-none (settingOf (ruleOf rule) j) last ws noMarks }
+  below-none = record { ran = λ j k g. ran-none (settingOf (ruleOf rule) j) last ws noMarks }
 
   -- the constraints of the list, which begin with those of the next point
   pub below-more : {ls : List ℕ} {n m : ℕ} {ws₁ grew₁ ws₂ grew₂ : List ℕ} → RunsBelow s t h walked shape rule first succ chain last ws ws₁ grew₁ n
@@ -104,12 +104,12 @@ module _ (s t : List ℕ) (h : Head) (walked : List ℕ) (shape : Shape) (rule :
       → RunsBelow s t h walked shape rule first succ chain last ws ws₂ grew₂ m
   below-more {ls} {n} {m} {ws₁} {grew₁} {ws₂} {grew₂} x held y =
       record {
-        ran = λ j layout accepted w g.
-            let a = x .ran j layout accepted w g in
-            let e = held .holds j (record { layout = layout; accepted = accepted; reached = w; points = g .code }) in
+        ran = λ j k g.
+            let a = x .ran j k g in
+            let e = held .holds j k in
             subst (λ (cs : List Outlives). Ran (settingOf (ruleOf rule) j) last cs ws noMarks ws₂ grew₂) e
             (ran-append a (y .ran (settingOf (ruleOf rule) j) (given-kept g a)
-            (λ c k. named-below (ruleOf rule) j accepted m c (subst (λ (cs : List Outlives). Member c cs) e (member-right (constraintsBelow j n) (constraintsIn ls) k)))));
+            (λ c i. named-below (ruleOf rule) j (k .accepted) m c (subst (λ (cs : List Outlives). Member c cs) e (member-right (constraintsBelow j n) (constraintsIn ls) i)))));
       }
 
   pub below-code : {ws′ grew : List ℕ} (n : ℕ) → n ≡ shape .code → RunsBelow s t h walked shape rule first succ chain last ws ws′ grew n → RunsBelow s t h walked shape rule first succ chain last ws ws′ grew (shape .code)
@@ -117,13 +117,13 @@ module _ (s t : List ℕ) (h : Head) (walked : List ℕ) (shape : Shape) (rule :
 
   -- then those of a list are run more often
   pub below-all : {hot ls ws₁ grew₁ ws₂ grew₂ : List ℕ} → RunsBelow s t h walked shape rule first succ chain last ws ws₁ grew₁ (shape .code) → OwnKept s t h walked (shape .code) hot ls
-      → Settles shape rule first succ chain (constraintsIn ls) ws₁ grew₁ ws₂ grew₂ → RoundRuns s t h walked shape rule first succ chain last hot ws ws₂ grew₂
+      → RunsAgain shape rule first succ chain (constraintsIn ls) ws₁ grew₁ ws₂ grew₂ → RoundRuns s t h walked shape rule first succ chain last hot ws ws₂ grew₂
   unfolding constraintsOf
   below-all {hot} {ls} {ws₁} {grew₁} x own y =
       record {
-        ran = λ j layout accepted w o g.
-            y .ran (settingOf (ruleOf rule) j) last (constraintsOf j (graphOf j)) ws g (all-named (ruleOf rule) j accepted) (own .kept j (record { layout = layout; accepted = accepted; reached = w; points = g .code }) o)
-            (subst (λ (k : ℕ). Ran (settingOf (ruleOf rule) j) last (constraintsBelow j k) ws noMarks ws₁ grew₁) (g .code) (x .ran j layout accepted w g));
+        ran = λ j k o g.
+            y .ran (settingOf (ruleOf rule) j) last (constraintsOf j (graphOf j)) ws g (all-named (ruleOf rule) j (k .accepted)) (own .kept j k o)
+            (subst (λ (n : ℕ). Ran (settingOf (ruleOf rule) j) last (constraintsBelow j n) ws noMarks ws₁ grew₁) (g .code) (x .ran j k g));
       }
 
 -- ---- Lists whose constraints are the job's
@@ -167,12 +167,12 @@ given-again g e =
     }
 
 module _ {shape : Shape} {rule : declared.EndRule} {first succ chain : List ℕ} {cs : List Outlives} {ws grew : List ℕ} where
-  pub settles-none : Settles shape rule first succ chain cs ws grew ws grew
-  settles-none = record { ran = λ s last ds ws₀ g named among x. x }
+  pub again-none : RunsAgain shape rule first succ chain cs ws grew ws grew
+  again-none = record { ran = λ s last ds ws₀ g named among x. x }
 
-  pub settles-more : {last ws₁ grew₁ ws₂ next grew₂ : List ℕ} → Settles shape rule first succ chain cs ws grew ws₁ grew₁ → Runs shape rule first succ chain last cs ws₁ noMarks ws₂ next
-      → (length grew₁ ≡ 128 → Noted next grew₁ grew₂ 128) → Settles shape rule first succ chain cs ws grew ws₂ grew₂
-  settles-more {last} {ws₁} {grew₁} {ws₂} {next} {grew₂} x y noted = record {
+  pub again-more : {last ws₁ grew₁ ws₂ next grew₂ : List ℕ} → RunsAgain shape rule first succ chain cs ws grew ws₁ grew₁ → Runs shape rule first succ chain last cs ws₁ noMarks ws₂ next
+      → (length grew₁ ≡ 128 → Noted next grew₁ grew₂ 128) → RunsAgain shape rule first succ chain cs ws grew ws₂ grew₂
+  again-more {last} {ws₁} {grew₁} {ws₂} {next} {grew₂} x y noted = record {
     ran = λ s last′ ds ws₀ g named among z.
         let a = x .ran s last′ ds ws₀ g named among z in
         let b = y .ran s (given-again g (a .as-long)) (λ c m. named c (among c m)) in
@@ -181,9 +181,9 @@ module _ {shape : Shape} {rule : declared.EndRule} {first succ chain : List ℕ}
   }
 
   -- a run that marks no region
-  pub settles-quiet : {last ws₁ grew₁ ws₂ next : List ℕ} → Settles shape rule first succ chain cs ws grew ws₁ grew₁ → Runs shape rule first succ chain last cs ws₁ noMarks ws₂ next → anyMarked next 128 ≡ false
-      → Settles shape rule first succ chain cs ws grew ws₂ grew₁
-  settles-quiet {last} {ws₁} {grew₁} {ws₂} {next} x y e = record {
+  pub again-quiet : {last ws₁ grew₁ ws₂ next : List ℕ} → RunsAgain shape rule first succ chain cs ws grew ws₁ grew₁ → Runs shape rule first succ chain last cs ws₁ noMarks ws₂ next → anyMarked next 128 ≡ false
+      → RunsAgain shape rule first succ chain cs ws grew ws₂ grew₁
+  again-quiet {last} {ws₁} {grew₁} {ws₂} {next} x y e = record {
     ran = λ s last′ ds ws₀ g named among z.
         let a = x .ran s last′ ds ws₀ g named among z in
         let b = y .ran s (given-again g (a .as-long)) (λ c m. named c (among c m)) in

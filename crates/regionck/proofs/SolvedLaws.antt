@@ -171,6 +171,9 @@ module _ (s t : List ℕ) (h : Head) (first succ chain walked : List ℕ) (shape
     abbrev cs : List Outlives
     cs = constraintsOf j (graphOf j)
 
+    known : Known s t h walked (shape .code) j
+    known = record { layout = x .layout; accepted = x .accepted; reached = x .reached; points = x .code }
+
     points : graphOf j .points ≡ pointCount j
     points = points-of j
 
@@ -236,11 +239,11 @@ module _ (s t : List ℕ) (h : Head) (first succ chain walked : List ℕ) (shape
         }
       where
         ran : Ran e last cs ws noMarks ws′ grew
-        ran = y .ran j (x .layout) (x .accepted) (x .reached) own (given ws (g .rounds .as-long))
+        ran = y .ran j known own (given ws (g .rounds .as-long))
 
     module _ {hot ws last marks ws′ grew : List ℕ} {left : ℕ} (g : Going ends j ws₀ ws last marks left) (own : Own j hot) (y : RoundRuns s t h walked shape rule first succ chain last hot ws ws′ grew) (m : anyMarked grew 128 ≡ false) where
       ran : Ran e last cs ws noMarks ws′ grew
-      ran = y .ran j (x .layout) (x .accepted) (x .reached) own (given ws (g .rounds .as-long))
+      ran = y .ran j known own (given ws (g .rounds .as-long))
 
       quiet : Quiet e grew
       quiet = quiet-none e grew few-regions m
@@ -348,10 +351,6 @@ module _ (s t : List ℕ) (h : Head) (first succ chain walked : List ℕ) (shape
 
   -- ---- The loop
 
-  -- what the job is known by
-  known : (j : Job) → Seeded s t h first succ walked shape ws₀ j → Known s t h walked (shape .code) j
-  known j x = record { layout = x .layout; accepted = x .accepted; reached = x .reached; points = x .code }
-
   -- The constraints of the list are the job's.
   pub record Kept (hot : List ℕ) : Type 0 where
     pub own : (j : Job) → Seeded s t h first succ walked shape ws₀ j → Own j hot
@@ -360,7 +359,8 @@ module _ (s t : List ℕ) (h : Head) (first succ chain walked : List ℕ) (shape
   kept-none {hot} e = record { own = λ j x c m. absurd (no-member (subst (λ (cs : List Outlives). Member c cs) (ap (firstIn hot) e ∙ first-none hot) m)) }
 
   pub kept-more : {hot hot′ : List ℕ} → Kept hot → OwnKept s t h walked (shape .code) hot hot′ → Kept hot′
-  kept-more k y = record { own = λ j x. y .kept j (known j x) (k .own j x) }
+  kept-more k y =
+      record { own = λ j x. y .kept j (record { layout = x .layout; accepted = x .accepted; reached = x .reached; points = x .code }) (k .own j x) }
 
   pub going-start : {marks : List ℕ} → Cleared marks 128 → GoingOn ws₀ (replicate 128 1) marks 131073
   going-start z = record { going = λ j x ch. start j x ch z }

@@ -56,37 +56,37 @@ pub record Known (s t : List ℕ) (h : Head) (walked : List ℕ) (code : ℕ) (j
 pub record PointAdds (s t : List ℕ) (h : Head) (walked : List ℕ) (p : Point) (ls ls′ : List ℕ) : Type 0 where
   pub adds : (j : Job) (code : ℕ) → Known s t h walked code j → p < code → Adds (walkedAt j p) ls ls′
 
--- The list has the constraints of the points from the first on, up to the second.
+-- The list has the constraints of the points from `from` on and below `to`.
 pub record Holding (s t : List ℕ) (h : Head) (walked : List ℕ) (code : ℕ) (ls : List ℕ) (from to : Point) : Type 0 where
   pub within : to ≤ code
   pub holds : (j : Job) → Known s t h walked code j → constraintsBelow j from ++ constraintsIn ls ≡ constraintsBelow j to
 
--- The list has the constraints of `from` and of the points after it, up to r.
+-- The same up to r, which is past `from` if that is a point of the blocks.
 pub record Collects (s t : List ℕ) (h : Head) (walked : List ℕ) (code from : ℕ) (ls : List ℕ) (r : ℕ) : Type 0 where
   pub later : from < code → from < r
   pub holding : Holding s t h walked code ls from r
 
 -- The constraints of the first n points are run, from no marks on.
 pub record RunsBelow (s t : List ℕ) (h : Head) (walked : List ℕ) (shape : Shape) (rule : declared.EndRule) (first succ chain last ws ws′ grew : List ℕ) (n : ℕ) : Type 0 where
-  pub ran : (j : Job) → Layout s t h j → refusal j ≡ 0 → WalkedIn j walked → Given (settingOf (ruleOf rule) j) shape rule first succ chain ws noMarks
+  pub ran : (j : Job) → Known s t h walked (shape .code) j → Given (settingOf (ruleOf rule) j) shape rule first succ chain ws noMarks
       → Ran (settingOf (ruleOf rule) j) last (constraintsBelow j n) ws noMarks ws′ grew
 
 -- Each constraint of the list is one of the job's.
 abbrev pub Own : Job → List ℕ → Type 0
 Own j ls = (c : Outlives) → Member c (constraintsIn ls) → Member c (constraintsOf j (graphOf j))
 
--- So it is of the list ls′ if it is of ls.
+-- The constraints of ls′ are the job's if those of ls are.
 pub record OwnKept (s t : List ℕ) (h : Head) (walked : List ℕ) (code : ℕ) (ls ls′ : List ℕ) : Type 0 where
   pub kept : (j : Job) → Known s t h walked code j → Own j ls → Own j ls′
 
--- The constraints cs are run more often: a run of constraints with cs among them is one still.
-pub record Settles (shape : Shape) (rule : declared.EndRule) (first succ chain : List ℕ) (cs : List Outlives) (ws grew ws′ grew′ : List ℕ) : Type 0 where
+-- The constraints cs are run again, any number of times: what was a run of constraints with cs among them, from no marks on, stays one.
+pub record RunsAgain (shape : Shape) (rule : declared.EndRule) (first succ chain : List ℕ) (cs : List Outlives) (ws grew ws′ grew′ : List ℕ) : Type 0 where
   pub ran : (s : Setting) (last : List ℕ) (ds : List Outlives) (ws₀ : List ℕ) → Given s shape rule first succ chain ws₀ noMarks → AllNamed s ds
       → ((c : Outlives) → Member c cs → Member c ds) → Ran s last ds ws₀ noMarks ws grew → Ran s last ds ws₀ noMarks ws′ grew′
 
 -- All constraints of a job are run, from no marks on, if those of `hot` are its own.
 pub record RoundRuns (s t : List ℕ) (h : Head) (walked : List ℕ) (shape : Shape) (rule : declared.EndRule) (first succ chain last hot ws ws′ grew : List ℕ) : Type 0 where
-  pub ran : (j : Job) → Layout s t h j → refusal j ≡ 0 → WalkedIn j walked → Own j hot → Given (settingOf (ruleOf rule) j) shape rule first succ chain ws noMarks
+  pub ran : (j : Job) → Known s t h walked (shape .code) j → Own j hot → Given (settingOf (ruleOf rule) j) shape rule first succ chain ws noMarks
       → Ran (settingOf (ruleOf rule) j) last (constraintsOf j (graphOf j)) ws noMarks ws′ grew
 
 -- The first n regions have no mark.

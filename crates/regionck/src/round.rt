@@ -10,12 +10,12 @@ ghost use mathlib.Core.List.{List, []};
 ghost use Prim.Native.Nat.{ℕ, _≤_};
 ghost use lib.ListN.{length};
 ghost use Rattle.constraint_list.specs.Listed.{constraintsIn, Draws};
-ghost use Rattle.regionck.specs.Rounds.{PointAdds, Collects, Holding, RunsBelow, OwnKept, Settles, RoundRuns};
+ghost use Rattle.regionck.specs.Rounds.{PointAdds, Collects, Holding, RunsBelow, OwnKept, RunsAgain, RoundRuns};
 
 // No action makes more constraints.
 const MOST: usize = 264;
 
-// How often constraints are run before a round of all is due.
+// How often constraints are run again, at most, before a round of all is due.
 const TIMES: u32 = 65536;
 
 // Adds the constraints of a point of the blocks, if its block is walked.
@@ -105,7 +105,7 @@ fn rest(
     }
 }
 
-// Runs the constraints of the list until by them no set grows. `grew` marks, by 1, the regions whose sets grew. Nothing is done if it has no mark before.
+// Runs the constraints of the list until by them no set grows, at most TIMES times. `grew` marks, by 1, the regions whose sets grew. Nothing is done if it has no mark before.
 fn settle(
     words: &mut [u32],
     first: &[u16; 1025],
@@ -116,7 +116,7 @@ fn settle(
     grew: &mut [u8; 128],
     list: &[u32],
 )
-    ensures { λ _. ⌜ Settles shape rule (now (first .entry)) (now (succ .entry)) (now (chain .entry)) (constraintsIn (now (list .entry)))
+    ensures { λ _. ⌜ RunsAgain shape rule (now (first .entry)) (now (succ .entry)) (now (chain .entry)) (constraintsIn (now (list .entry)))
         (now (words .entry)) (now (grew .entry)) (now (words .exit)) (now (grew .exit)) ⌝ }
 {
     if !infer::any_marked(grew) {
@@ -157,8 +157,8 @@ fn make_room(list: &mut [u32])
     }
 }
 
-// Runs the constraints of each point of walked blocks; then those by which regions were marked, now or in earlier rounds, until they are met. The list has the
-// constraints of the points before `to`, and `hot` those by which regions were marked.
+// Runs the constraints of each point of walked blocks; then those of `hot` again. The list has the constraints of the points before `to`; `hot` gets those by which
+// regions are marked, and is emptied where it is short of room.
 pub fn round(
     s: &[u8],
     layout: &[u16; 1280],

@@ -16,7 +16,7 @@ const USAGE: &str = "usage:
   bench only CLASS           the same on one class
   bench long                 the same on records that take the original minutes
   bench slowest              the proved call alone, on the records that take it longest of those known
-  bench search SECONDS SEED  climbs from known records to slower ones, for so long from each
+  bench search SECONDS SEED  climbs to slower records, for so long from one of each class and from each of `slowest`
   bench loop CLASS SECONDS   the proved call alone on the records of a class, over and over, for a profiler";
 
 fn main() {
@@ -71,13 +71,14 @@ fn call_over_and_over(name: &str, seconds: u64) {
 
 fn search(seconds: u64, seed: u64) {
     let mut rng = Rng::new(seed);
+    let mut starts: Vec<(String, Vec<u8>)> =
+        classes().iter().map(|class| (class.name.to_string(), rng.pick(&class.records()).clone())).collect();
+    starts.extend(slowest());
     let mut slowest_found = 0.0;
-    for class in classes() {
-        let records = class.records();
-        let start = rng.pick(&records);
-        let before = proved_seconds(start, &mut Proved);
-        let found = climb(start, Duration::from_secs(seconds), &mut rng, &mut Proved);
-        println!("{}: {} at first, then {}", class.name, shown(before), shown(found.seconds));
+    for (name, start) in starts {
+        let before = proved_seconds(&start, &mut Proved);
+        let found = climb(&start, Duration::from_secs(seconds), &mut rng, &mut Proved);
+        println!("{name}: {} at first, then {}", shown(before), shown(found.seconds));
         if found.seconds > slowest_found {
             slowest_found = found.seconds;
             println!("  {}", hex(&found.record));

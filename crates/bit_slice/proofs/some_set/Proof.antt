@@ -1,6 +1,6 @@
 -- `bit_slice::some_set`. The loop's invariant: the first k words of the run are 0. Assumes nothing.
 use Prim.Native.Nat.{_-_, _≤_}
-use Rattle.bit_slice.proofs.SomeLaws.{Blank, blank-none, blank-more, some-set, none-set}
+use Rattle.bit_slice.proofs.SomeLaws.{Blank, blank-none, blank-more, some-past, some-set, none-set}
 use native.Mathlib.Omega.{arith}
 use borrow.Author.Needs.{needs}
 use Rattle.bit_slice.proofs.some_set.Statement.{statement}
@@ -13,13 +13,13 @@ abbrev μ-loop : tie.MeasureT-loop
 μ-loop words start n k₀ k = n - k
 
 returns : tie.Need-returns Inv-loop μ-loop
-returns c = some-set
+returns c = some-past (omega arith)
 
 sub-if2 : tie.Need-sub-if2 Inv-loop μ-loop
 sub-if2 c = search needs
 
 returns-2 : tie.Need-returns-2 Inv-loop μ-loop
-returns-2 c = some-set
+returns-2 c = some-past (omega arith)
 
 loop-holds : tie.Need-loop-holds Inv-loop μ-loop
 loop-holds c = (omega arith, blank-none)
@@ -34,7 +34,7 @@ shared-slice-read-if3 : tie.Need-shared-slice-read-if3 Inv-loop μ-loop
 shared-slice-read-if3 c = search needs
 
 returns-3 : tie.Need-returns-3 Inv-loop μ-loop
-returns-3 c = some-set
+returns-3 c = some-set (c .before .before .before .loop .k) (omega arith) (c .if3 .taken)
 
 add-k : tie.Need-add-k Inv-loop μ-loop
 add-k c = search needs

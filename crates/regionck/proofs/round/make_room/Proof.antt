@@ -14,7 +14,7 @@ same-length : tie.Need-same-length
 same-length c = search needs
 
 returns : tie.Need-returns
-returns c = draws-cleared (c .before .before .clear .ensures .0) (c .before .before .clear .ensures .1)
+returns c = draws-cleared (c .before .before .clear .ensures .1)
 
 same-length-2 : tie.Need-same-length-2
 same-length-2 c = search needs

@@ -3,15 +3,15 @@ use mathlib.Core.Path.{_≡_, sym, _∙_}
 use lib.ListN.{length}
 use borrow.Author.Tests.{not-true}
 use Rattle.constraint_list.specs.Listed.{constraintsIn}
-use Rattle.regionck.specs.Rounds.{Settles}
-use Rattle.regionck.proofs.RoundLaws.{settles-none, settles-more, settles-quiet}
+use Rattle.regionck.specs.Rounds.{RunsAgain}
+use Rattle.regionck.proofs.RoundLaws.{again-none, again-more, again-quiet}
 use borrow.Author.Needs.{needs}
 use Rattle.regionck.proofs.round.settle.Statement.{statement}
 use Rattle.regionck.proofs.round.settle.Tie as tie
 
 abbrev Inv-loop : tie.InvT-loop
 Inv-loop words₀ first succ chain shape rule grew₀ list none₀ last₀ left₀ words grew none last left =
-    (length words ≡ length words₀) × (length none ≡ 1) × Settles shape rule first succ chain (constraintsIn list) words₀ grew₀ words grew
+    (length words ≡ length words₀) × (length none ≡ 1) × RunsAgain shape rule first succ chain (constraintsIn list) words₀ grew₀ words grew
 
 abbrev μ-loop : tie.MeasureT-loop
 μ-loop words₀ first succ chain shape rule grew₀ list none₀ last₀ left₀ words grew none last left =
@@ -21,10 +21,10 @@ any-marked-requires : tie.Need-any-marked-requires Inv-loop μ-loop
 any-marked-requires c κs = search needs
 
 returns : tie.Need-returns Inv-loop μ-loop
-returns c = settles-none
+returns c = again-none
 
 loop-holds : tie.Need-loop-holds Inv-loop μ-loop
-loop-holds c = (search needs, search needs, settles-none)
+loop-holds c = (search needs, search needs, again-none)
 
 slice-aggregate-run : tie.Need-slice-aggregate-run Inv-loop μ-loop
 slice-aggregate-run c = search needs
@@ -39,7 +39,7 @@ same-length : tie.Need-same-length Inv-loop μ-loop
 same-length c = search needs
 
 returns-2 : tie.Need-returns-2 Inv-loop μ-loop
-returns-2 c = settles-quiet (c .before .before .before .before .before .before .before .before .before .before .before .before .loop .inv .2) (c .before .before .before .before .before .before .run .ensures .0) (sym (c .before .any-marked2 .ensures) ∙ not-true _ (c .if2 .taken))
+returns-2 c = again-quiet (c .before .before .before .before .before .before .before .before .before .before .before .before .loop .inv .2) (c .before .before .before .before .before .before .run .ensures .0) (sym (c .before .any-marked2 .ensures) ∙ not-true _ (c .if2 .taken))
 
 note-requires : tie.Need-note-requires Inv-loop μ-loop
 note-requires c κs = search needs
@@ -51,7 +51,7 @@ loop-less : tie.Need-loop-less Inv-loop μ-loop
 loop-less c = search needs
 
 loop-again : tie.Need-loop-again Inv-loop μ-loop
-loop-again c = (search needs, search needs, settles-more (c .before .before .before .before .before .before .before .before .before .before .before .before .before .before .before .loop .inv .2) (c .before .before .before .before .before .before .before .before .before .run .ensures .0) (c .note .ensures))
+loop-again c = (search needs, search needs, again-more (c .before .before .before .before .before .before .before .before .before .before .before .before .before .before .before .loop .inv .2) (c .before .before .before .before .before .before .before .before .before .run .ensures .0) (c .note .ensures))
 
 same-length-2 : tie.Need-same-length-2 Inv-loop μ-loop
 same-length-2 c = search needs
