@@ -70,7 +70,8 @@ pub fn slowest() -> Vec<(String, Vec<u8>)> {
     for clock in [apart(20, 1), apart(100, 1), apart(450, 1), apart(450, 6), apart(600, 6), apart(740, 6)] {
         found.push((format!("{clock:?}"), worst::clock(&clock)));
     }
-    for relay in [Relay::of(60, 300, false), Relay::of(60, 300, true), Relay::of(90, 440, false), Relay::of(90, 440, true)] {
+    let relays = [(60, 300, false, 0), (90, 440, true, 0), (90, 440, true, 6), (90, 600, false, 6)];
+    for relay in relays.map(|(hops, assignments, fed, steps)| Relay::of(hops, assignments, fed, steps)) {
         found.push((format!("{relay:?}"), worst::relay(&relay)));
     }
     found.extend([2, 8, 32].map(|nodes| (format!("dense {nodes}"), dense(&mut Rng::new(1), nodes))));

@@ -166,12 +166,14 @@ pub struct Relay {
     pub ticks: usize,
     /// Whether the assignments have other regions outlive those of the chain instead.
     pub fed: bool,
+    /// The steps of the assigned paths, each to a type that is the argument of a struct or made by substitution.
+    pub steps: usize,
 }
 
 impl Relay {
     /// As many points after the chain as there is room for.
-    pub fn of(hops: usize, assignments: usize, fed: bool) -> Relay {
-        Relay { hops, assignments, ticks: MAX_POINTS - 24 - hops - assignments, fed }
+    pub fn of(hops: usize, assignments: usize, fed: bool, steps: usize) -> Relay {
+        Relay { hops, assignments, ticks: MAX_POINTS - 24 - hops - assignments, fed, steps }
     }
 }
 
@@ -179,19 +181,24 @@ pub fn relay(relay: &Relay) -> Vec<u8> {
     let (to, from, lower, upper, both) = (0, 1, 2, 3, 4);
     let init = |variable, source| Action::Init(Path::variable(variable), vec![Path::variable(source)]);
     let mut actions = vec![Action::Constraint { sup: 0, sub: relay.hops }];
-    actions.extend(vec![Action::Assign(Path::variable(to), Path::variable(from)); relay.assignments]);
+    let related = |variable| path(variable, vec![1; relay.steps]);
+    actions.extend(vec![Action::Assign(related(to), related(from)); relay.assignments]);
     actions.extend((0..relay.hops).rev().map(|hop| Action::Constraint { sup: hop + 1, sub: hop }));
     actions.push(Action::Init(Path::variable(both), vec![Path::variable(lower), Path::variable(upper)]));
     actions.extend((1..relay.ticks).map(|tick| if tick % 2 == 1 { init(upper, lower) } else { init(lower, upper) }));
     let chain = relay.hops + 1;
     let other = |index: usize| chain + index % (REGIONS - chain);
     let source = |index: usize| if relay.fed { index % chain } else { other(index + 5) };
-    let variables =
-        vec![large_type(MAX_NODES, other), large_type(MAX_NODES, source), holding(1..chain), holding(0..1), Ty::Unit];
     let mut structs = regions_and_a_type();
+    let around = structs.len();
+    structs.extend(in_turn(around, relay.steps));
     if relay.fed {
         structs.iter_mut().flat_map(|decl| &mut decl.params).for_each(|param| param.variance = Variance::Co);
     }
+    let within = |ty| if relay.steps == 0 { ty } else { Ty::Struct(around, vec![Arg::Ty(ty)]) };
+    let nodes = MAX_NODES - relay.steps.min(1);
+    let [to, from] = [large_type(nodes, other), large_type(nodes, source)].map(within);
+    let variables = vec![to, from, holding(1..chain), holding(0..1), Ty::Unit];
     record(&Job { structs, regions: REGIONS, outlives: vec![], variables, blocks: in_a_row(&actions) })
 }
 
@@ -348,7 +355,7 @@ mod tests {
         let of = |assignments, steps| clock(&Clock { apart: assignments > 1, steps, ..Clock::of(assignments) });
         let clocks = [1, 2, 100, 450, 600].map(|assignments| [1, 2, 6].map(|steps| of(assignments, steps)));
         let mut records: Vec<Vec<u8>> = clocks.concat();
-        records.extend([false, true].map(|fed| relay(&Relay::of(60, 300, fed))));
+        records.extend([0, 1, 6].map(|steps| relay(&Relay::of(60, 300, steps > 0, steps))));
         records.extend((0..7).map(loans));
         records.extend(deep());
         records.extend([far(), live()]);

@@ -55,8 +55,8 @@ fn much_work() -> Vec<Vec<u8>> {
         clock(2, 30, true, 6),
         clock(60, 20, false, 2),
     ];
-    let relay = |hops, assignments, ticks, fed| worst::relay(&Relay { hops, assignments, ticks, fed });
-    found.extend([relay(12, 3, 20, false), relay(12, 3, 20, true), relay(90, 1, 8, true)]);
+    let relay = |hops, assignments, ticks, fed, steps| worst::relay(&Relay { hops, assignments, ticks, fed, steps });
+    found.extend([relay(12, 3, 20, false, 0), relay(12, 3, 20, true, 2), relay(90, 1, 8, true, 0)]);
     found.extend((0..7).map(worst::loans));
     found.extend([worst::far(), worst::live()]);
     found.extend((2..5).map(|nodes| dense(&mut Rng::new(1), nodes)));
