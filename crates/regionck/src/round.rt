@@ -58,7 +58,8 @@ pub fn collect(
     p
 }
 
-// Runs the constraints of point `from` and of those after it, which are collected part by part.
+// Runs the constraints of point `from` and of those after it, if there are any. They are collected part by part, and those of a part are run again before the next one; so
+// are, at first, those of the points before, which the list `held` has.
 fn rest(
     s: &[u8],
     layout: &[u16; 1280],
@@ -73,9 +74,10 @@ fn rest(
     last: &[u8; 128],
     grew: &mut [u8; 128],
     hot: &mut [u32],
+    held: &[u32],
     from: usize,
 )
-    requires { ⌜ (length (now layout) ≡ 1280) × (from ≤ shape .code) ⌝ }
+    requires { ⌜ (length (now layout) ≡ 1280) × Holding (now s) (now layout) head (now walked) (shape .code) (now held) 0 from ⌝ }
     ensures { λ _. ⌜ ((ws : List ℕ) → RunsBelow (now (s .entry)) (now (layout .entry)) head (now (walked .entry)) shape rule (now (first .entry)) (now (succ .entry)) (now (chain .entry))
         (now (last .entry)) ws (now (words .entry)) (now (grew .entry)) from
         → RunsBelow (now (s .entry)) (now (layout .entry)) head (now (walked .entry)) shape rule (now (first .entry)) (now (succ .entry)) (now (chain .entry))
@@ -86,7 +88,8 @@ fn rest(
     if code <= from {
         return;
     }
-    let mut list = [0; 1025];
+    settle(words, first, succ, chain, shape, rule, grew, hot, held);
+    let mut list = [0; 4097];
     let mut p = from;
     while p < code {
         p = collect(s, layout, head, walked, code, p, &mut list);
@@ -102,10 +105,12 @@ fn rest(
             hot,
             &list,
         );
+        settle(words, first, succ, chain, shape, rule, grew, hot, &list);
     }
 }
 
-// Runs the constraints of the list until by them no set grows, at most TIMES times. `grew` marks, by 1, the regions whose sets grew. Nothing is done if it has no mark before.
+// Runs the constraints of the list until by them no set grows, at most TIMES times. `grew` marks, by 1, the regions whose sets grew; the constraints by which they did
+// come into the list `hot`, as far as it has room. Nothing is done if `grew` has no mark before.
 fn settle(
     words: &mut [u32],
     first: &[u16; 1025],
@@ -114,15 +119,16 @@ fn settle(
     shape: Shape,
     rule: EndRule,
     grew: &mut [u8; 128],
+    hot: &mut [u32],
     list: &[u32],
 )
     ensures { λ _. ⌜ RunsAgain shape rule (now (first .entry)) (now (succ .entry)) (now (chain .entry)) (constraintsIn (now (list .entry)))
-        (now (words .entry)) (now (grew .entry)) (now (words .exit)) (now (grew .exit)) ⌝ }
+        (now (words .entry)) (now (grew .entry)) (now (words .exit)) (now (grew .exit))
+        × Draws (constraintsIn (now (list .entry))) (now (hot .entry)) (now (hot .exit)) ⌝ }
 {
     if !infer::any_marked(grew) {
         return;
     }
-    let mut none = [0; 1];
     let mut last = [1; 128];
     let mut left = TIMES;
     while left != 0 {
@@ -136,7 +142,7 @@ fn settle(
             rule,
             &last,
             &mut next,
-            &mut none,
+            hot,
             list,
         );
         if !infer::any_marked(&next) {
@@ -208,8 +214,20 @@ pub fn round(
         last,
         &mut grew,
         hot,
+        list,
         to,
     );
-    settle(words, first, succ, chain, shape, rule, &mut grew, hot);
+    let mut none = [0; 1];
+    settle(
+        words,
+        first,
+        succ,
+        chain,
+        shape,
+        rule,
+        &mut grew,
+        &mut none,
+        hot,
+    );
     grew
 }
