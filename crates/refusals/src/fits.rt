@@ -84,7 +84,7 @@ fn type_fits(
     layout: &[u16; 1280],
     head: Head,
     c: Cursor,
-    left: usize,
+    left: u8,
     around: Params,
 ) -> NodesStep
     requires { ⌜ length (now layout) ≡ 1280 ⌝ }
@@ -135,7 +135,7 @@ fn arguments_fit(
     head: Head,
     c: Cursor,
     count: u8,
-    left: usize,
+    left: u8,
     around: Params,
     declared: Cursor,
 ) -> NodesStep

@@ -23,7 +23,7 @@ fn region_named(region: Region, head: Head) -> bool
 }
 
 // A type of at most `left` nodes.
-fn type_named(s: &[u8], c: Cursor, left: usize, head: Head) -> NodesStep
+fn type_named(s: &[u8], c: Cursor, left: u8, head: Head) -> NodesStep
     ensures { λ r. ⌜ TypeNamed head (now (s .entry)) (c .at) left r ⌝ }
 {
     if left == 0 {
@@ -60,7 +60,7 @@ fn type_named(s: &[u8], c: Cursor, left: usize, head: Head) -> NodesStep
 }
 
 // So many arguments of a struct, of at most `left` nodes together.
-fn arguments_named(s: &[u8], c: Cursor, count: u8, left: usize, head: Head) -> NodesStep
+fn arguments_named(s: &[u8], c: Cursor, count: u8, left: u8, head: Head) -> NodesStep
     ensures { λ r. ⌜ ArgumentsNamed head (now (s .entry)) (c .at) count left r ⌝ }
 {
     if count == 0 {

@@ -1,7 +1,8 @@
 pub mod ReadLaws
-pub mod TypeLaws
 pub mod PartLaws
 pub mod SpellLaws
+pub mod DepthLaws
+pub mod TypeLaws
 pub mod ItemLaws
 pub mod StandLaws
 pub mod NodeLaws

@@ -1,7 +1,7 @@
 -- What the answers about types say. A node's answer tells where its parts begin: reading the node is reading on there, however its parts are read.
 use mathlib.Core.Path.{_≡_}
 use mathlib.Core.List.{List}
-use Prim.Native.Nat.{ℕ, suc, _≤_, _<_}
+use Prim.Native.Nat.{ℕ, suc, _+_, _*_, _≤_, _<_}
 use lib.ListN.{drop}
 use Rattle.nll_spec.specs.Syntax.{Ty, UnitTy, RefTy, StructTy, BoundTy, Args, RegionArg, TypeArg}
 use Rattle.nll_spec.specs.Decode.{Reading, refused, read, Reader, done, _>>=_, byte, count, maxParams, Part, part, borrowKind, region, args, tagged}
@@ -11,6 +11,8 @@ use Rattle.repr.specs.declared.NodeStep.{NodeStep}
 use Rattle.repr.specs.declared.NodeStep.the-variants as nodeStep
 use Rattle.repr.specs.declared.ArgumentStep.{ArgumentStep}
 use Rattle.repr.specs.declared.ArgumentStep.the-variants as argumentStep
+use Rattle.repr.specs.declared.OpenedStep.{OpenedStep}
+use Rattle.repr.specs.declared.OpenedStep.the-variants as openedStep
 use Rattle.repr.specs.declared.NodesStep.{NodesStep}
 use Rattle.repr.specs.declared.NodesStep.the-variants as nodesStep
 
@@ -84,6 +86,31 @@ nodesSays s (nodesStep.Refused k) = refused k
 abbrev pub AtMost : ℕ → Reading ℕ → Type 0
 AtMost left (refused k) = Unit {0}
 AtMost left (read l over) = l ≤ left
+
+-- then n more arguments
+abbrev pub onward : Inner → ℕ → Reading ℕ → Reading ℕ
+onward inner n (refused k) = refused k
+onward inner n (read left over) = leftOf (args inner n left over)
+
+-- what is to be read yet, then n more arguments
+abbrev pub openedSays : Inner → ℕ → List ℕ → OpenedStep → Reading ℕ
+openedSays inner n s (openedStep.Opened count left next) = leftOf (args inner (count + n) left (rest s next))
+openedSays inner n s (openedStep.Refused k) = refused k
+
+-- The nodes that are left pay for the arguments that are to be read.
+abbrev pub Paid : ℕ → OpenedStep → Type 0
+Paid left (openedStep.Opened count l next) = count + 256 * l ≤ 256 * left
+Paid left (openedStep.Refused k) = Unit {0}
+
+-- Reading on from the answer is reading the type, whatever arguments come after it.
+pub record OpenedSays (s : List ℕ) (at left : ℕ) (r : OpenedStep) : Type 0 where
+  pub same : (depth n : ℕ) → left < depth → openedSays (typeWithin depth) n s r ≡ onward (typeWithin depth) n (leftOf (typeWithin depth left (drop at s)))
+  pub paid : Paid left r
+
+-- Reading on from the answer is reading the first argument, whatever arguments come after it.
+pub record FirstSays (s : List ℕ) (at left : ℕ) (r : OpenedStep) : Type 0 where
+  pub same : (depth n : ℕ) → left < depth → openedSays (typeWithin depth) n s r ≡ leftOf (args (typeWithin depth) (suc n) left (drop at s))
+  pub paid : Paid left r
 
 -- The answer is the definition's, at every depth that is no limit of its own.
 pub record TypeSays (s : List ℕ) (at left : ℕ) (r : NodesStep) : Type 0 where

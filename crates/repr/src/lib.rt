@@ -184,9 +184,15 @@ pub enum ArgumentStep {
     Refused(u8),
 }
 
+// A part of a type up to so many arguments that are to be read yet, with how many more nodes the type may have.
+enum OpenedStep {
+    Opened { count: u8, left: u8, next: Cursor },
+    Refused(u8),
+}
+
 // The end of a part of a type, with how many more nodes the type may have.
 pub enum NodesStep {
-    Ended { left: usize, next: Cursor },
+    Ended { left: u8, next: Cursor },
     Refused(u8),
 }
 

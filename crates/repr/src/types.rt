@@ -6,13 +6,14 @@ use super::Cursor;
 use super::EndStep;
 use super::NodeStep;
 use super::NodesStep;
+use super::OpenedStep;
 use super::RegionStep;
 use super::StructName;
 ghost use mathlib.Core.Path.{_≡_};
 ghost use lib.ListN.{drop};
 ghost use Rattle.nll_spec.specs.Decode.{type};
 ghost use Rattle.repr.specs.Reading.{ended, endSays};
-ghost use Rattle.repr.specs.Types.{node, refNode, structNode, NodeSays, ArgumentSays, TypeSays, ArgumentsSay};
+ghost use Rattle.repr.specs.Types.{node, refNode, structNode, NodeSays, ArgumentSays, OpenedSays, FirstSays, TypeSays, ArgumentsSay};
 
 impl Cursor {
     // What stands between a Ref's tag and its referent: kind and region.
@@ -85,53 +86,106 @@ impl Cursor {
         }
     }
 
-    // A type of at most `left` nodes. The node too many is refused at its tag.
-    pub fn nodes(self, s: &[u8], left: usize) -> NodesStep
-        ensures { λ r. ⌜ TypeSays (now (s .entry)) (self .at) left r ⌝ }
+    // A type of at most `left` nodes, up to the arguments of its first node that is no Ref, or to its end. The node too many is refused at its tag.
+    fn opened(self, s: &[u8], left: u8) -> OpenedStep
+        ensures { λ r. ⌜ OpenedSays (now (s .entry)) (self .at) left r ⌝ }
     {
-        if left == 0 {
-            return match self.byte(s) {
-                ByteStep::Refused(k) => NodesStep::Refused(k),
-                ByteStep::Byte(_, _) => NodesStep::Refused(4),
-            };
+        let mut c = self;
+        let mut few = left;
+        while few != 0 {
+            few -= 1;
+            match c.type_node(s) {
+                NodeStep::Refused(k) => return OpenedStep::Refused(k),
+                NodeStep::Unit(next) => {
+                    return OpenedStep::Opened {
+                        count: 0,
+                        left: few,
+                        next,
+                    };
+                }
+                NodeStep::Ref {
+                    kind: _,
+                    region: _,
+                    referent,
+                } => {
+                    c = referent;
+                }
+                NodeStep::Struct {
+                    name: _,
+                    count,
+                    arguments,
+                } => {
+                    return OpenedStep::Opened {
+                        count,
+                        left: few,
+                        next: arguments,
+                    };
+                }
+                NodeStep::Bound(_, next) => {
+                    return OpenedStep::Opened {
+                        count: 0,
+                        left: few,
+                        next,
+                    };
+                }
+            }
         }
-        match self.type_node(s) {
-            NodeStep::Refused(k) => NodesStep::Refused(k),
-            NodeStep::Unit(next) => NodesStep::Ended {
-                left: left - 1,
+        match c.byte(s) {
+            ByteStep::Refused(k) => OpenedStep::Refused(k),
+            ByteStep::Byte(_, _) => OpenedStep::Refused(4),
+        }
+    }
+
+    // The first of a struct's arguments, a type no further than `opened`.
+    fn first_argument(self, s: &[u8], left: u8) -> OpenedStep
+        ensures { λ r. ⌜ FirstSays (now (s .entry)) (self .at) left r ⌝ }
+    {
+        match self.argument(s) {
+            ArgumentStep::Refused(k) => OpenedStep::Refused(k),
+            ArgumentStep::Region(_, next) => OpenedStep::Opened {
+                count: 0,
+                left,
                 next,
             },
-            NodeStep::Ref {
-                kind: _,
-                region: _,
-                referent,
-            } => referent.nodes(s, left - 1),
-            NodeStep::Struct {
-                name: _,
-                count,
-                arguments,
-            } => arguments.arguments(s, count, left - 1),
-            NodeStep::Bound(_, next) => NodesStep::Ended {
-                left: left - 1,
-                next,
-            },
+            ArgumentStep::Type(ty) => ty.opened(s, left),
         }
     }
 
     // So many arguments of a struct, of at most `left` nodes together.
-    pub fn arguments(self, s: &[u8], count: u8, left: usize) -> NodesStep
+    pub fn arguments(self, s: &[u8], count: u8, left: u8) -> NodesStep
         ensures { λ r. ⌜ ArgumentsSay (now (s .entry)) (self .at) count left r ⌝ }
     {
-        if count == 0 {
-            return NodesStep::Ended { left, next: self };
+        let mut c = self;
+        let mut n = count as usize;
+        let mut few = left;
+        while n != 0 {
+            match c.first_argument(s, few) {
+                OpenedStep::Refused(k) => return NodesStep::Refused(k),
+                OpenedStep::Opened {
+                    count: more,
+                    left: rest,
+                    next,
+                } => {
+                    c = next;
+                    n = n - 1 + (more as usize);
+                    few = rest;
+                }
+            }
         }
-        match self.argument(s) {
-            ArgumentStep::Refused(k) => NodesStep::Refused(k),
-            ArgumentStep::Region(_, next) => next.arguments(s, count - 1, left),
-            ArgumentStep::Type(ty) => match ty.nodes(s, left) {
-                NodesStep::Refused(k) => NodesStep::Refused(k),
-                NodesStep::Ended { left: rest, next } => next.arguments(s, count - 1, rest),
-            },
+        NodesStep::Ended { left: few, next: c }
+    }
+
+    // A type of at most `left` nodes.
+    pub fn nodes(self, s: &[u8], left: u8) -> NodesStep
+        ensures { λ r. ⌜ TypeSays (now (s .entry)) (self .at) left r ⌝ }
+    {
+        match self.opened(s, left) {
+            OpenedStep::Refused(k) => NodesStep::Refused(k),
+            OpenedStep::Opened {
+                count,
+                left: few,
+                next,
+            } => next.arguments(s, count, few),
         }
     }
 

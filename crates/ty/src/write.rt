@@ -17,11 +17,7 @@ ghost use Rattle.ty.specs.Written.{Bounded, FoundSays, RegionSays, UnitS
 
 // What was written: where the type that was read ends, where the written one ends, and the nodes that are left.
 enum Wrote {
-    Ended {
-        next: Cursor,
-        at: usize,
-        left: usize,
-    },
+    Ended { next: Cursor, at: usize, left: u8 },
     Over,
 }
 
@@ -85,7 +81,7 @@ fn put_argument(out: &mut [u8], at: usize, r: Region)
     put_region(out, at + 1, r);
 }
 
-fn put_unit(next: Cursor, out: &mut [u8], at: usize, left: usize) -> Wrote
+fn put_unit(next: Cursor, out: &mut [u8], at: usize, left: u8) -> Wrote
     requires { ⌜ at + 15 * left ≤ length (now out) ⌝ }
     ensures { λ r. ⌜ UnitSays next (now (out .entry)) (now (out .exit)) at left r ⌝ }
 {
@@ -122,7 +118,7 @@ fn within(s: &[u8], c: Cursor) -> usize
 }
 
 // The type at a place, as it is.
-fn put_type(s: &[u8], item: Cursor, next: Cursor, out: &mut [u8], at: usize, left: usize) -> Wrote
+fn put_type(s: &[u8], item: Cursor, next: Cursor, out: &mut [u8], at: usize, left: u8) -> Wrote
     requires { ⌜ at + 15 * left ≤ length (now out) ⌝ }
     ensures { λ r. ⌜ CopySays (now (s .entry)) (item .at) next (now (out .entry)) (now (out .exit)) at left r ⌝ }
 {
@@ -187,7 +183,7 @@ fn put_bound(
     next: Cursor,
     out: &mut [u8],
     at: usize,
-    left: usize,
+    left: u8,
 ) -> Wrote
     requires { ⌜ at + 15 * left ≤ length (now out) ⌝ }
     ensures { λ r. ⌜ BoundSays (now (s .entry)) (from .at) count b next (now (out .entry)) (now (out .exit)) at left r ⌝ }
@@ -208,7 +204,7 @@ fn subst_type(
     count: u8,
     out: &mut [u8],
     at: usize,
-    left: usize,
+    left: u8,
 ) -> Wrote
     requires { ⌜ at + 15 * left ≤ length (now out) ⌝ }
     ensures { λ r. ⌜ SubstSays (now (f .entry)) (c .at) (now (s .entry)) (from .at) count (now (out .entry)) (now (out .exit)) at left r ⌝ }
@@ -252,7 +248,7 @@ fn subst_arguments(
     count: u8,
     out: &mut [u8],
     at: usize,
-    left: usize,
+    left: u8,
 ) -> Wrote
     requires { ⌜ at + 15 * left + 3 * n ≤ length (now out) ⌝ }
     ensures { λ r. ⌜ ArgumentsSay (now (f .entry)) (c .at) n (now (s .entry)) (from .at) count (now (out .entry)) (now (out .exit)) at left r ⌝ }
