@@ -44,13 +44,13 @@ use Rattle.ty.specs.declared.write.Whole.the-variants as whole
 use Rattle.repr.proofs.StandLaws.{NodeIs, node-is, on-node, type-stands}
 use Rattle.env.specs.Fields.{TypeThere, FieldIs, FieldSays}
 use Rattle.env.specs.Prefixes.{kindCode, Leaves}
-use Rattle.env.specs.Paths.{PathResult, PathSays, kindNumber, Named, Noted, small, Moves, FieldStepSays, StepIs, StepSays, BackIs, BackSays, CopyIs, CopiedSays, Stage, Reached, OnwardIs, OnwardSays}
+use Rattle.env.specs.Paths.{PathResult, PathSays, kindNumber, Named, Noted, small, Moves, FieldStepSays, StepIs, StepSays, CopyIs, CopiedSays, Stage, Reached, AlongIs, AlongSays, OnwardIs, OnwardSays}
 use Rattle.env.specs.declared.fields.FieldType.{FieldType}
 use Rattle.env.specs.declared.fields.FieldType.the-variants as fieldTypes
 use Rattle.env.specs.declared.paths.PathType.{PathType}
 use Rattle.env.specs.declared.paths.PathType.the-variants as pathTypes
-use Rattle.env.specs.declared.paths.Lent.{Lent}
-use Rattle.env.specs.declared.paths.Lent.the-variants as lent
+use Rattle.env.specs.declared.paths.Along.{Along}
+use Rattle.env.specs.declared.paths.Along.the-variants as along
 use Rattle.env.specs.declared.paths.Stepped.{Stepped}
 use Rattle.env.specs.declared.paths.Stepped.the-variants as stepped
 use Rattle.env.proofs.FieldLaws.{type-few}
@@ -67,10 +67,10 @@ named-bound e = record { same = λ r i. let k = sym (ap regionOf e) ∙ i in abs
 -- ---- A copy
 
 module _ {s : List ℕ} {at : ℕ} {out : List ℕ} {d : Whole} (v : written.CopiedSays s at out d) where
-  pub copy-large : d ≡ whole.TooLarge → CopiedSays s at out lent.Refused
+  pub copy-large : d ≡ whole.TooLarge → CopiedSays s at out pathTypes.Refused
   copy-large e = record { says = λ u p few. let h : maxNodes < typeNodes u = transport (λ (x : Whole). StoodBy out u x) e (v .says u p) in omega arith }
 
-  pub copy-written : {end : ℕ} → d ≡ whole.Written end → CopiedSays s at out (lent.At (record { at = 0 }))
+  pub copy-written : {end : ℕ} → d ≡ whole.Written end → CopiedSays s at out (pathTypes.Written (record { at = 0 }))
   copy-written {end} e = record { says = λ u p few. let h : Stood out u end = transport (λ (x : Whole). StoodBy out u x) e (v .says u p) in record { over = drop end out; stands = h .stands } }
 
 -- ---- A field
@@ -192,25 +192,6 @@ module _ {s t : List ℕ} {h : Head} {from : List ℕ} {at f i : ℕ} {to kinds 
 step-is : {s t : List ℕ} {h : Head} {from : List ℕ} {at f i : ℕ} {to kinds names kinds′ names′ : List ℕ} {d x : Stepped} → StepSays s t h from at f i to kinds names kinds′ names′ d → d ≡ x → (j : Job) → Layout s t h j → (u : Ty) → TypeAt from at u → typeNodes u ≤ maxNodes → StepIs from to (stepType (j .structs) u f) (Noted u i kinds names kinds′ names′) x
 step-is {from = from} {f = f} {i = i} {to = to} {kinds = kinds} {names = names} {kinds′ = kinds′} {names′ = names′} v e j l u p few = transport (λ (y : Stepped). StepIs from to (stepType (j .structs) u f) (Noted u i kinds names kinds′ names′) y) e (v .says j l u p few)
 
-copy-back : (out : List ℕ) {o : Option Ty} {noted : Type 0} → noted → {to : List ℕ} (m : TypeThere to 0 o) (r : Lent) → CopyIs out (m .type) r → BackIs out o noted r
-copy-back out n m (lent.At c) w = (record { type = m .type; same = m .same; stands = w; few = m .few }, n)
-copy-back out n m lent.Refused w = absurd w
-
--- ---- A step that stays in its bytes
-
-module _ {s t : List ℕ} {h : Head} {from : List ℕ} {at f i : ℕ} {to kinds names kinds′ names′ : List ℕ} {d : Stepped} (v : StepSays s t h from at f i to kinds names kinds′ names′ d) where
-  pub back-refused : {out : List ℕ} → d ≡ stepped.Refused → BackSays s t h from at f i out kinds names kinds′ names′ lent.Refused
-  back-refused e = record { says = λ j l u p few. step-is v e j l u p few; kindSize = v .kindSize; nameSize = v .nameSize }
-
-  pub back-inside : {c : Cursor} → d ≡ stepped.Inside c → BackSays s t h from at f i from kinds names kinds′ names′ (lent.At c)
-  back-inside e = record { says = λ j l u p few. step-is v e j l u p few; kindSize = v .kindSize; nameSize = v .nameSize }
-
-  pub back-written : {out : List ℕ} {r : Lent} → d ≡ stepped.Written → CopiedSays to 0 out r → BackSays s t h from at f i out kinds names kinds′ names′ r
-  back-written {out} {r} e w = record { says = λ j l u p few. let m = step-is v e j l u p few in copy-back out (m .1) (m .0) r (w .says (m .0 .type) (m .0 .stands) (m .0 .few)); kindSize = v .kindSize; nameSize = v .nameSize }
-
-back-is : {s t : List ℕ} {h : Head} {from : List ℕ} {at f i : ℕ} {out kinds names kinds′ names′ : List ℕ} {d x : Lent} → BackSays s t h from at f i out kinds names kinds′ names′ d → d ≡ x → (j : Job) → Layout s t h j → (u : Ty) → TypeAt from at u → typeNodes u ≤ maxNodes → BackIs out (stepType (j .structs) u f) (Noted u i kinds names kinds′ names′) x
-back-is {f = f} {i = i} {out = out} {kinds = kinds} {names = names} {kinds′ = kinds′} {names′ = names′} v e j l u p few = transport (λ (y : Lent). BackIs out (stepType (j .structs) u f) (Noted u i kinds names kinds′ names′) y) e (v .says j l u p few)
-
 -- ---- The steps that are taken
 
 type-after-last : (ss : List StructDecl) (t : Ty) (fs : List ℕ) (f : ℕ) → typeAfter ss t (fs ++ (f ∷ [])) ≡ step ss (typeAfter ss t fs) f
@@ -300,21 +281,69 @@ pub record Onward (s t : List ℕ) (h : Head) (bytes : List ℕ) (c : ℕ) (kind
 pub onward : (s t : List ℕ) (h : Head) (bytes : List ℕ) (c : ℕ) (kinds names : List ℕ) (i at left : ℕ) → Onward s t h bytes c kinds names i at left bytes c kinds names i at left
 onward s t h bytes c kinds names i at left = record { goes = λ j l u all g. g }
 
-module _ {s t : List ℕ} {h : Head} {bytes : List ℕ} {c : ℕ} {kinds names : List ℕ} {i at left : ℕ} {bytes′ : List ℕ} {c′ : ℕ} {kinds′ names′ : List ℕ} {i′ at′ left′ : ℕ}
-    (g : Onward s t h bytes c kinds names i at left bytes′ c′ kinds′ names′ i′ at′ left′) (size : (length kinds′ ≡ 8) × (length names′ ≡ 8)) where
-  pub onward-end : (x : Cursor) → x .at ≡ c′ → left′ ≡ 0 → OnwardSays s t h bytes c kinds names i at left bytes′ kinds′ names′ (pathTypes.Written x)
-  onward-end x o z = record { says = λ j l u all a. rw o (stage-end (g .goes j l u all a) (rw z)); sizes = size }
+-- steps within the same bytes
+module _ {s t : List ℕ} {h : Head} {bytes : List ℕ} {c : ℕ} {kinds names : List ℕ} {i at left : ℕ} {c′ : ℕ} {kinds′ names′ : List ℕ} {i′ at′ left′ : ℕ}
+    (g : Onward s t h bytes c kinds names i at left bytes c′ kinds′ names′ i′ at′ left′) (size : (length kinds′ ≡ 8) × (length names′ ≡ 8)) where
+  pub along-end : {to : List ℕ} (x : Cursor) → x .at ≡ c′ → left′ ≡ 0 → AlongSays s t h bytes c kinds names i at left to kinds′ names′ (along.Inside x)
+  along-end x o z = record { says = λ j l u all a. rw o (stage-end (g .goes j l u all a) (rw z)); sizes = size; taken = tt }
 
   module _ {b : ByteStep} (m : byteSays s b ≡ byte (drop at′ s)) where
-    pub onward-out : (x : Cursor) → x .at ≡ c′ → {k : ℕ} → b ≡ byteStep.Refused k → OnwardSays s t h bytes c kinds names i at left bytes′ kinds′ names′ (pathTypes.Written x)
-    onward-out x o e = record { says = λ j l u all a. rw o (stage-end (g .goes j l u all a) (steps-out s at′ left′ m e)); sizes = size }
+    pub along-out : {to : List ℕ} (x : Cursor) → x .at ≡ c′ → {k : ℕ} → b ≡ byteStep.Refused k → AlongSays s t h bytes c kinds names i at left to kinds′ names′ (along.Inside x)
+    along-out x o e = record { says = λ j l u all a. rw o (stage-end (g .goes j l u all a) (steps-out s at′ left′ m e)); sizes = size; taken = tt }
 
-    module _ {f : ℕ} {next : Cursor} (e : b ≡ byteStep.Byte f next) (z : left′ ≡ 0 → ⊥) {out kinds″ names″ : List ℕ} {d : Lent} (v : BackSays s t h bytes′ c′ f i′ out kinds′ names′ kinds″ names″ d) where
-      pub onward-refused : {end : List ℕ} → d ≡ lent.Refused → OnwardSays s t h bytes c kinds names i at left end kinds″ names″ pathTypes.Refused
-      onward-refused o = record { says = λ j l u all a. let w = g .goes j l u all a in stage-fails w (steps-first s at′ left′ m e z) (back-is v o j l (typeAfter (j .structs) u (w .taken)) (w .stands) (w .few)); sizes = (v .kindSize ∙ size .0, v .nameSize ∙ size .1) }
+    module _ {f : ℕ} {next : Cursor} (e : b ≡ byteStep.Byte f next) (z : left′ ≡ 0 → ⊥) {to kinds″ names″ : List ℕ} {d : Stepped} (v : StepSays s t h bytes c′ f i′ to kinds′ names′ kinds″ names″ d) where
+      sized : (length kinds″ ≡ 8) × (length names″ ≡ 8)
+      sized = (v .kindSize ∙ size .0, v .nameSize ∙ size .1)
 
-      pub onward-more : {y : Cursor} → d ≡ lent.At y → Onward s t h bytes c kinds names i at left out (y .at) kinds″ names″ (i′ + 1) (next .at) (left′ - 1)
-      onward-more o = record { goes = λ j l u all a. let w = g .goes j l u all a in stage-more w (steps-first s at′ left′ m e z) size (back-is v o j l (typeAfter (j .structs) u (w .taken)) (w .stands) (w .few)) }
+      pub along-refused : d ≡ stepped.Refused → AlongSays s t h bytes c kinds names i at left to kinds″ names″ along.Refused
+      along-refused o = record { says = λ j l u all a. let w = g .goes j l u all a in stage-fails w (steps-first s at′ left′ m e z) (step-is v o j l (typeAfter (j .structs) u (w .taken)) (w .stands) (w .few)); sizes = sized; taken = tt }
+
+      pub along-written : d ≡ stepped.Written → left′ ≤ left → i′ + left′ ≤ i + left → AlongSays s t h bytes c kinds names i at left to kinds″ names″ (along.Written next (left′ - 1) (i′ + 1))
+      along-written o p q = record {
+        says = λ j l u all a. let w = g .goes j l u all a in stage-more w (steps-first s at′ left′ m e z) size (step-is v o j l (typeAfter (j .structs) u (w .taken)) (w .stands) (w .few));
+        sizes = sized;
+        taken = (omega (arith, p, z), omega (arith, q, z));
+      }
+
+      pub onward-more : {y : Cursor} → d ≡ stepped.Inside y → Onward s t h bytes c kinds names i at left bytes (y .at) kinds″ names″ (i′ + 1) (next .at) (left′ - 1)
+      onward-more o = record { goes = λ j l u all a. let w = g .goes j l u all a in stage-more w (steps-first s at′ left′ m e z) size (step-is v o j l (typeAfter (j .structs) u (w .taken)) (w .stands) (w .few)) }
+
+along-is : {s t : List ℕ} {h : Head} {from : List ℕ} {c : ℕ} {kinds names : List ℕ} {i at left : ℕ} {to kinds′ names′ : List ℕ} {r x : Along} → AlongSays s t h from c kinds names i at left to kinds′ names′ r → r ≡ x → AlongSays s t h from c kinds names i at left to kinds′ names′ x
+along-is {s} {t} {h} {from} {c} {kinds} {names} {i} {at} {left} {to} {kinds′} {names′} v e = transport (λ (y : Along). AlongSays s t h from c kinds names i at left to kinds′ names′ y) e v
+
+-- steps that were written take one at least
+pub written-taken : {s t : List ℕ} {h : Head} {from : List ℕ} {c : ℕ} {kinds names : List ℕ} {i at left : ℕ} {to kinds′ names′ : List ℕ} {r : Along} {a : Cursor} {m k : ℕ} → AlongSays s t h from c kinds names i at left to kinds′ names′ r → r ≡ along.Written a m k → (m < left) × (k + m ≤ i + left)
+written-taken v e = along-is v e .taken
+
+-- what was reached in the bytes `from` is reached where they were copied to
+copy-reached : (ss : List StructDecl) (t : Ty) (all s from out : List ℕ) {at : ℕ} {kinds names : List ℕ} → (m : Reached ss t all from at kinds names) (r : PathType) → CopyIs out (typeAfter ss t all) r → OnwardIs ss t all s out kinds names r
+copy-reached ss t all s from out m (pathTypes.Inside c) w = absurd w
+copy-reached ss t all s from out m (pathTypes.Written c) w = record { fits = m .fits; stands = w; few = m .few; leaves = m .leaves }
+copy-reached ss t all s from out m pathTypes.Refused w = absurd w
+
+-- then steps within the bytes that were written
+module _ {s t : List ℕ} {h : Head} {bytes : List ℕ} {c : ℕ} {kinds names : List ℕ} {i at left : ℕ} {bytes′ : List ℕ} {c′ : ℕ} {kinds′ names′ : List ℕ} {i′ at′ left′ : ℕ}
+    (g : Onward s t h bytes c kinds names i at left bytes′ c′ kinds′ names′ i′ at′ left′) where
+  pub onward-end : (length kinds′ ≡ 8) × (length names′ ≡ 8) → (x : Cursor) → x .at ≡ c′ → left′ ≡ 0 → OnwardSays s t h bytes c kinds names i at left bytes′ kinds′ names′ (pathTypes.Written x)
+  onward-end size x o z = record { says = λ j l u all a. rw o (stage-end (g .goes j l u all a) (rw z)); sizes = size }
+
+  module _ {to kinds″ names″ : List ℕ} {r : Along} (v : AlongSays s t h bytes′ c′ kinds′ names′ i′ at′ left′ to kinds″ names″ r) where
+    pub onward-refused : {end : List ℕ} → r ≡ along.Refused → OnwardSays s t h bytes c kinds names i at left end kinds″ names″ pathTypes.Refused
+    onward-refused e = record { says = λ j l u all a. along-is v e .says j l u all (g .goes j l u all a); sizes = v .sizes }
+
+    pub onward-inside : {x : Cursor} → r ≡ along.Inside x → OnwardSays s t h bytes c kinds names i at left bytes′ kinds″ names″ (pathTypes.Written x)
+    onward-inside e = record { says = λ j l u all a. along-is v e .says j l u all (g .goes j l u all a); sizes = v .sizes }
+
+    pub onward-copied : {x : Cursor} {out : List ℕ} {q : PathType} → r ≡ along.Inside x → CopiedSays bytes′ (x .at) out q → OnwardSays s t h bytes c kinds names i at left out kinds″ names″ q
+    onward-copied {x} {out} {q} e w = record {
+      says = λ j l u all a.
+          let m = along-is v e .says j l u all (g .goes j l u all a) in
+          copy-reached (j .structs) u all s bytes′ out m q (w .says (typeAfter (j .structs) u all) (m .stands) (m .few));
+      sizes = v .sizes;
+    }
+
+    pub onward-written : {a : Cursor} {m k : ℕ} → r ≡ along.Written a m k → Onward s t h bytes c kinds names i at left to 0 kinds″ names″ k (a .at) m
+    onward-written e = record { goes = λ j l u all o. along-is v e .says j l u all (g .goes j l u all o) }
 
 -- ---- The whole path
 
@@ -324,39 +353,24 @@ path-result j p s out kinds names (pathTypes.Inside c) w = record { fits = w .fi
 path-result j p s out kinds names (pathTypes.Written c) w = record { fits = w .fits; stands = w .stands; few = w .few; leaves = w .leaves }
 path-result j p s out kinds names pathTypes.Refused w = w
 
-module _ {s t : List ℕ} {h : Head} (p : repr.Path) {c : ℕ} {kinds names : List ℕ} {c′ : ℕ} {kinds′ names′ : List ℕ} {i at left : ℕ} (v : c ≡ entryIn t 32 64 (p .base .0))
-    (g : Onward s t h s c kinds names 0 (p .from .at) (p .steps) s c′ kinds′ names′ i at left) (size : (length kinds′ ≡ 8) × (length names′ ≡ 8)) where
-  staged : (j : Job) → Layout s t h j → p .base .0 < length (j .variables) → Stage (j .structs) (variableType j (p .base .0)) (pathOf s p .steps) s c′ kinds′ names′ i (take left (drop at s))
-  staged j l o =
+module _ {s t : List ℕ} {h : Head} (p : repr.Path) {c : ℕ} {kinds names : List ℕ} {out kinds′ names′ : List ℕ} {r : Along} (v : c ≡ entryIn t 32 64 (p .base .0))
+    (g : AlongSays s t h s c kinds names 0 (p .from .at) (p .steps) out kinds′ names′ r) where
+  reaches : (j : Job) → Layout s t h j → p .base .0 < length (j .variables) → {x : Along} → r ≡ x → AlongIs (j .structs) (variableType j (p .base .0)) (pathOf s p .steps) s s out kinds′ names′ x
+  reaches j l o e =
       let w = variable-at l (p .base .0) UnitTy o in
-      g .goes j l (variableType j (p .base .0)) (pathOf s p .steps) (stage-start (rw v (type-stands (w .reads))) (type-few (drop (entryIn t 32 64 (p .base .0)) s) (w .reads)))
+      along-is g e .says j l (variableType j (p .base .0)) (pathOf s p .steps) (stage-start (rw v (type-stands (w .reads))) (type-few (drop (entryIn t 32 64 (p .base .0)) s) (w .reads)))
 
-  path-inside : {out : List ℕ} (x : Cursor) → x .at ≡ c′ → take left (drop at s) ≡ [] → PathSays s t h p out kinds′ names′ (pathTypes.Inside x)
-  path-inside {out} x k e = record { says = λ j l o. path-result j (pathOf s p) s out kinds′ names′ (pathTypes.Inside x) (rw k (stage-end (staged j l o) e)); sizes = size }
+  pub path-inside : {x : Cursor} {end : List ℕ} → r ≡ along.Inside x → PathSays s t h p end kinds′ names′ (pathTypes.Inside x)
+  path-inside {x} {end} e = record { says = λ j l o. path-result j (pathOf s p) s end kinds′ names′ (pathTypes.Inside x) (reaches j l o e); sizes = g .sizes }
 
-  pub path-end : {out : List ℕ} (x : Cursor) → x .at ≡ c′ → left ≡ 0 → PathSays s t h p out kinds′ names′ (pathTypes.Inside x)
-  path-end x k z = path-inside x k (rw z)
+  pub path-refused : {end : List ℕ} → r ≡ along.Refused → PathSays s t h p end kinds′ names′ pathTypes.Refused
+  path-refused {end} e = record { says = λ j l o. path-result j (pathOf s p) s end kinds′ names′ pathTypes.Refused (reaches j l o e); sizes = g .sizes }
 
-  module _ {b : ByteStep} (m : byteSays s b ≡ byte (drop at s)) where
-    pub path-out : {out : List ℕ} (x : Cursor) → x .at ≡ c′ → {k : ℕ} → b ≡ byteStep.Refused k → PathSays s t h p out kinds′ names′ (pathTypes.Inside x)
-    path-out x k e = path-inside x k (steps-out s at left m e)
-
-    module _ {f : ℕ} {next : Cursor} (e : b ≡ byteStep.Byte f next) (z : left ≡ 0 → ⊥) {to kinds″ names″ : List ℕ} {d : Stepped} (u : StepSays s t h s c′ f i to kinds′ names′ kinds″ names″ d) where
-      reaches : (j : Job) (l : Layout s t h j) (o : p .base .0 < length (j .variables)) {x : Stepped} → d ≡ x → StepIs s to (stepType (j .structs) (typeAfter (j .structs) (variableType j (p .base .0)) (staged j l o .taken)) f) (Noted (typeAfter (j .structs) (variableType j (p .base .0)) (staged j l o .taken)) i kinds′ names′ kinds″ names″) x
-      reaches j l o k = let w = staged j l o in step-is u k j l (typeAfter (j .structs) (variableType j (p .base .0)) (w .taken)) (w .stands) (w .few)
-
-      pub path-refused : {out : List ℕ} → d ≡ stepped.Refused → PathSays s t h p out kinds″ names″ pathTypes.Refused
-      path-refused {out} k = record { says = λ j l o. path-result j (pathOf s p) s out kinds″ names″ pathTypes.Refused (stage-fails (staged j l o) (steps-first s at left m e z) (reaches j l o k)); sizes = (u .kindSize ∙ size .0, u .nameSize ∙ size .1) }
-
-      pub path-onward : {out kinds‴ names‴ : List ℕ} {r : PathType} → d ≡ stepped.Written → OnwardSays s t h to 0 kinds″ names″ (i + 1) (next .at) (left - 1) out kinds‴ names‴ r → PathSays s t h p out kinds‴ names‴ r
-      path-onward {out} {kinds‴} {names‴} {r} k q = record {
-        says = λ j l o. path-result j (pathOf s p) s out kinds‴ names‴ r (q .says j l (variableType j (p .base .0)) (pathOf s p .steps) (stage-more (staged j l o) (steps-first s at left m e z) size (reaches j l o k)));
-        sizes = q .sizes;
-      }
-
--- one step more in the record
-pub onward-inside : {s t : List ℕ} {h : Head} {c : ℕ} {kinds names : List ℕ} {i at left : ℕ} {c′ : ℕ} {kinds′ names′ : List ℕ} {i′ at′ left′ : ℕ} → Onward s t h s c kinds names i at left s c′ kinds′ names′ i′ at′ left′ → (length kinds′ ≡ 8) × (length names′ ≡ 8) → {b : ByteStep} → byteSays s b ≡ byte (drop at′ s) → {f : ℕ} {next : Cursor} → b ≡ byteStep.Byte f next → (left′ ≡ 0 → ⊥) → {to kinds″ names″ : List ℕ} {d : Stepped} → StepSays s t h s c′ f i′ to kinds′ names′ kinds″ names″ d → {y : Cursor} → d ≡ stepped.Inside y → Onward s t h s c kinds names i at left s (y .at) kinds″ names″ (i′ + 1) (next .at) (left′ - 1)
-onward-inside g size m e z v o = onward-more g size m e z (back-inside v o) refl
+  pub path-onward : {a : Cursor} {m k : ℕ} {end kinds″ names″ : List ℕ} {q : PathType} → r ≡ along.Written a m k → OnwardSays s t h out 0 kinds′ names′ k (a .at) m end kinds″ names″ q → PathSays s t h p end kinds″ names″ q
+  path-onward {end = end} {kinds″ = kinds″} {names″ = names″} {q = q} e u = record {
+    says = λ j l o. path-result j (pathOf s p) s end kinds″ names″ q (u .says j l (variableType j (p .base .0)) (pathOf s p .steps) (reaches j l o e));
+    sizes = u .sizes;
+  }
 
 -- ---- A path without steps
 
@@ -366,4 +380,4 @@ noEntries = 0 ∷ 0 ∷ 0 ∷ 0 ∷ 0 ∷ 0 ∷ 0 ∷ 0 ∷ []
 
 -- its type stands where its variable's does
 pub stepless : {s t : List ℕ} {h : Head} (p : repr.Path) (x : Cursor) → p .steps ≡ 0 → x .at ≡ entryIn t 32 64 (p .base .0) → PathSays s t h p [] noEntries noEntries (pathTypes.Inside x)
-stepless {s} {t} {h} p x z v = path-end p v (onward s t h s (x .at) noEntries noEntries 0 (p .from .at) (p .steps)) (refl, refl) x refl z
+stepless {s} {t} {h} p x z v = path-inside p v (along-end (onward s t h s (x .at) noEntries noEntries 0 (p .from .at) (p .steps)) (refl, refl) {to = []} x refl z) refl

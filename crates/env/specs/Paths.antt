@@ -3,7 +3,7 @@ use mathlib.Core.Path.{_≡_}
 use mathlib.Core.Bool.{Bool, true, false}
 use mathlib.Core.List.{List, _++_}
 use mathlib.Core.Option.{Option, none, some}
-use Prim.Native.Nat.{ℕ, _≤_, _<_}
+use Prim.Native.Nat.{ℕ, _+_, _≤_, _<_}
 use lib.ListN.{length, take, drop, set}
 use lib.Dec.{leb}
 use Rattle.nll_spec.specs.Syntax.{BorrowKind, Mut, Shared, Region, Free, Ty, StructTy, Args, StructDecl, Path, Job}
@@ -19,8 +19,8 @@ use Rattle.env.specs.Fields.{TypeThere}
 use Rattle.env.specs.Prefixes.{kindCode, Leaves}
 use Rattle.env.specs.declared.paths.PathType.{PathType}
 use Rattle.env.specs.declared.paths.PathType.the-variants as pathTypes
-use Rattle.env.specs.declared.paths.Lent.{Lent}
-use Rattle.env.specs.declared.paths.Lent.the-variants as lent
+use Rattle.env.specs.declared.paths.Along.{Along}
+use Rattle.env.specs.declared.paths.Along.the-variants as along
 use Rattle.env.specs.declared.paths.Stepped.{Stepped}
 use Rattle.env.specs.declared.paths.Stepped.the-variants as stepped
 
@@ -87,24 +87,15 @@ pub record StepSays (s t : List ℕ) (h : Head) (from : List ℕ) (at f i : ℕ)
   pub kindSize : length kinds′ ≡ length kinds
   pub nameSize : length names′ ≡ length names
 
--- The step reaches a type of `out`.
-abbrev pub BackIs : List ℕ → Option Ty → Type 0 → Lent → Type 0
-BackIs out o noted (lent.At c) = TypeThere out (c .at) o × noted
-BackIs out o noted lent.Refused = small o ≡ false
-
-pub record BackSays (s t : List ℕ) (h : Head) (from : List ℕ) (at f i : ℕ) (out kinds names kinds′ names′ : List ℕ) (r : Lent) : Type 0 where
-  pub says : (j : Job) → Layout s t h j → (u : Ty) → TypeAt from at u → typeNodes u ≤ maxNodes → BackIs out (stepType (j .structs) u f) (Noted u i kinds names kinds′ names′) r
-  pub kindSize : length kinds′ ≡ length kinds
-  pub nameSize : length names′ ≡ length names
-
 -- ---- A copy
 
 -- the type u stands in the lent bytes
-abbrev pub CopyIs : List ℕ → Ty → Lent → Type 0
-CopyIs out u (lent.At c) = TypeAt out (c .at) u
-CopyIs out u lent.Refused = ⊥
+abbrev pub CopyIs : List ℕ → Ty → PathType → Type 0
+CopyIs out u (pathTypes.Inside c) = ⊥
+CopyIs out u (pathTypes.Written c) = TypeAt out (c .at) u
+CopyIs out u pathTypes.Refused = ⊥
 
-pub record CopiedSays (s : List ℕ) (at : ℕ) (out : List ℕ) (r : Lent) : Type 0 where
+pub record CopiedSays (s : List ℕ) (at : ℕ) (out : List ℕ) (r : PathType) : Type 0 where
   pub says : (u : Ty) → TypeAt s at u → typeNodes u ≤ maxNodes → CopyIs out u r
 
 -- ---- The steps that are left
@@ -126,12 +117,30 @@ pub record Reached (ss : List StructDecl) (t : Ty) (all bytes : List ℕ) (at : 
   pub few : typeNodes (typeAfter ss t all) ≤ maxNodes
   pub leaves : Leaves ss t all kinds names
 
+-- The steps end in the bytes `from`, or one is written into `to` with steps that are left, or they may not be taken.
+abbrev pub AlongIs : List StructDecl → Ty → List ℕ → List ℕ → List ℕ → List ℕ → List ℕ → List ℕ → Along → Type 0
+AlongIs ss t all s from to kinds names (along.Inside c) = Reached ss t all from (c .at) kinds names
+AlongIs ss t all s from to kinds names (along.Written at left i) = Stage ss t all to 0 kinds names i (take left (drop (at .at) s))
+AlongIs ss t all s from to kinds names along.Refused = stepsFit ss t all ≡ false
+
+-- A step at least is taken before one is written.
+abbrev pub Taken : ℕ → ℕ → Along → Type 0
+Taken i left (along.Inside c) = Unit {0}
+Taken i left (along.Written at left′ i′) = (left′ < left) × (i′ + left′ ≤ i + left)
+Taken i left along.Refused = Unit {0}
+
+-- What steps from the type that stands there reach.
+pub record AlongSays (s t : List ℕ) (h : Head) (from : List ℕ) (c : ℕ) (kinds names : List ℕ) (i at left : ℕ) (to kinds′ names′ : List ℕ) (r : Along) : Type 0 where
+  pub says : (j : Job) → Layout s t h j → (u : Ty) (all : List ℕ) → Stage (j .structs) u all from c kinds names i (take left (drop at s)) → AlongIs (j .structs) u all s from to kinds′ names′ r
+  pub sizes : (length kinds′ ≡ 8) × (length names′ ≡ 8)
+  pub taken : Taken i left r
+
 abbrev pub OnwardIs : List StructDecl → Ty → List ℕ → List ℕ → List ℕ → List ℕ → List ℕ → PathType → Type 0
 OnwardIs ss t all s out kinds names (pathTypes.Inside c) = Reached ss t all s (c .at) kinds names
 OnwardIs ss t all s out kinds names (pathTypes.Written c) = Reached ss t all out (c .at) kinds names
 OnwardIs ss t all s out kinds names pathTypes.Refused = stepsFit ss t all ≡ false
 
--- The same for the steps that are left, from the type that stands there.
+-- The same, to the last step.
 pub record OnwardSays (s t : List ℕ) (h : Head) (bytes : List ℕ) (at : ℕ) (kinds names : List ℕ) (i from left : ℕ) (out kinds′ names′ : List ℕ) (r : PathType) : Type 0 where
   pub says : (j : Job) → Layout s t h j → (u : Ty) (all : List ℕ) → Stage (j .structs) u all bytes at kinds names i (take left (drop from s)) → OnwardIs (j .structs) u all s out kinds′ names′ r
   pub sizes : (length kinds′ ≡ 8) × (length names′ ≡ 8)

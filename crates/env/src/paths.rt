@@ -19,7 +19,7 @@ ghost use mathlib.Core.Path.{_≡_};
 ghost use Prim.Native.Nat.{_+_, _≤_};
 ghost use lib.ListN.{length, set};
 ghost use Rattle.repr.specs.Reading.{borrowKindOf, regionOf};
-ghost use Rattle.env.specs.Paths.{kindNumber, Named, FieldStepSays, StepSays, BackSays, CopiedSays, OnwardSays, PathSays};
+ghost use Rattle.env.specs.Paths.{kindNumber, Named, FieldStepSays, StepSays, CopiedSays, AlongSays, OnwardSays, PathSays};
 
 // The type of a path, in the record or written into the lent bytes, from a place on, or refusal 8.
 pub enum PathType {
@@ -35,9 +35,10 @@ enum Stepped {
     Refused,
 }
 
-// A type in the lent bytes, from a place on, or nothing.
-enum Lent {
-    At(Cursor),
+// What the steps within the same bytes reach: a type in these bytes, or one that a step wrote into the others, from the first on, with the steps that are left; or nothing.
+enum Along {
+    Inside(Cursor),
+    Written { at: Cursor, left: u8, i: usize },
     Refused,
 }
 
@@ -136,39 +137,61 @@ fn take_step(
 }
 
 // The type at c, written from the first of the lent bytes on.
-fn copied(s: &[u8], c: Cursor, out: &mut [u8; 512]) -> Lent
+fn copied(s: &[u8], c: Cursor, out: &mut [u8; 512]) -> PathType
     ensures { λ r. ⌜ CopiedSays (now (s .entry)) (c .at) (now (out .exit)) r ⌝ }
 {
     match copy(s, c, out) {
-        Whole::TooLarge => Lent::Refused,
-        Whole::Written(_) => Lent::At(Cursor { at: 0 }),
+        Whole::TooLarge => PathType::Refused,
+        Whole::Written(_) => PathType::Written(Cursor { at: 0 }),
     }
 }
 
-// Step i, from the type at c of the lent bytes, in which it stays.
-fn step_back(
+// The steps at a place, the first of them number `first`, from the type at `start`, as long as they stay in the same bytes. The one that does not is written into the others.
+fn steps_within(
     s: &[u8],
     layout: &[u16; 1280],
     head: Head,
-    c: Cursor,
-    f: FieldName,
-    i: usize,
-    out: &mut [u8; 512],
-    spare: &mut [u8; 512],
+    from: &[u8],
+    start: Cursor,
+    steps: Cursor,
+    count: u8,
+    first: usize,
+    to: &mut [u8; 512],
     kinds: &mut [u8; 8],
     names: &mut [u8; 8],
-) -> Lent
-    requires { ⌜ (length (now layout) ≡ 1280) × (length (now kinds) ≡ 8) × (length (now names) ≡ 8) ⌝ }
-    ensures { λ r. ⌜ BackSays (now (s .entry)) (now (layout .entry)) head (now (out .entry)) (c .at) (f .0) i (now (out .exit)) (now (kinds .entry)) (now (names .entry)) (now (kinds .exit)) (now (names .exit)) r ⌝ }
+) -> Along
+    requires { ⌜ (length (now layout) ≡ 1280) × (length (now kinds) ≡ 8) × (length (now names) ≡ 8) × (first + count ≤ 255) ⌝ }
+    ensures { λ r. ⌜ AlongSays (now (s .entry)) (now (layout .entry)) head (now (from .entry)) (start .at) (now (kinds .entry)) (now (names .entry)) first (steps .at) count (now (to .exit)) (now (kinds .exit)) (now (names .exit)) r ⌝ }
 {
-    match take_step(s, layout, head, out, c, f, i, spare, kinds, names) {
-        Stepped::Refused => Lent::Refused,
-        Stepped::Inside(d) => Lent::At(d),
-        Stepped::Written => copied(spare, Cursor { at: 0 }, out),
+    let mut c = start;
+    let mut at = steps;
+    let mut left = count;
+    let mut i = first;
+    while left != 0 {
+        let ByteStep::Byte(f, next) = at.byte(s) else {
+            return Along::Inside(c);
+        };
+        match take_step(s, layout, head, from, c, FieldName(f), i, to, kinds, names) {
+            Stepped::Refused => return Along::Refused,
+            Stepped::Written => {
+                return Along::Written {
+                    at: next,
+                    left: left - 1,
+                    i: i + 1,
+                };
+            }
+            Stepped::Inside(d) => {
+                c = d;
+                at = next;
+                left -= 1;
+                i += 1;
+            }
+        }
     }
+    Along::Inside(c)
 }
 
-// The steps that are left, the first of them number `first`, from the type that the lent bytes begin with.
+// The steps at a place, the first of them number `first`, from the type that the lent bytes begin with. What a step writes goes into the other bytes in turn.
 fn steps_on(
     s: &[u8],
     layout: &[u16; 1280],
@@ -184,34 +207,46 @@ fn steps_on(
     requires { ⌜ (length (now layout) ≡ 1280) × (length (now kinds) ≡ 8) × (length (now names) ≡ 8) × (first + count ≤ 255) ⌝ }
     ensures { λ r. ⌜ OnwardSays (now (s .entry)) (now (layout .entry)) head (now (out .entry)) 0 (now (kinds .entry)) (now (names .entry)) first (from .at) count (now (out .exit)) (now (kinds .exit)) (now (names .exit)) r ⌝ }
 {
-    let mut c = Cursor { at: 0 };
+    let start = Cursor { at: 0 };
     let mut at = from;
     let mut left = count;
     let mut i = first;
     while left != 0 {
-        let ByteStep::Byte(f, next) = at.byte(s) else {
-            return PathType::Written(c);
-        };
-        let Lent::At(d) = step_back(
+        match steps_within(
             s,
             layout,
             head,
-            c,
-            FieldName(f),
-            i,
             out,
+            start,
+            at,
+            left,
+            i,
             spare,
             kinds,
             names,
-        ) else {
-            return PathType::Refused;
-        };
-        c = d;
-        at = next;
-        left -= 1;
-        i += 1;
+        ) {
+            Along::Refused => return PathType::Refused,
+            Along::Inside(c) => return PathType::Written(c),
+            Along::Written {
+                at: a,
+                left: l,
+                i: k,
+            } => match steps_within(s, layout, head, spare, start, a, l, k, out, kinds, names) {
+                Along::Refused => return PathType::Refused,
+                Along::Inside(c) => return copied(spare, c, out),
+                Along::Written {
+                    at: b,
+                    left: m,
+                    i: n,
+                } => {
+                    at = b;
+                    left = m;
+                    i = n;
+                }
+            },
+        }
     }
-    PathType::Written(c)
+    PathType::Written(start)
 }
 
 // The type of a path, and what each of its first 8 steps leaves.
@@ -229,37 +264,14 @@ pub fn path_type(
     ensures { λ r. ⌜ PathSays (now (s .entry)) (now (layout .entry)) head p (now (out .exit)) (now (kinds .exit)) (now (names .exit)) r ⌝ }
 {
     let base = p.base;
-    let mut c = variable_at(layout, base);
-    let mut at = p.from;
-    let mut left = p.steps;
-    let mut i = 0;
-    while left != 0 {
-        let ByteStep::Byte(f, next) = at.byte(s) else {
-            return PathType::Inside(c);
-        };
-        match take_step(s, layout, head, s, c, FieldName(f), i, out, kinds, names) {
-            Stepped::Refused => return PathType::Refused,
-            Stepped::Written => {
-                return steps_on(
-                    s,
-                    layout,
-                    head,
-                    next,
-                    left - 1,
-                    i + 1,
-                    out,
-                    spare,
-                    kinds,
-                    names,
-                );
-            }
-            Stepped::Inside(d) => {
-                c = d;
-                at = next;
-                left -= 1;
-                i += 1;
-            }
+    let c = variable_at(layout, base);
+    let from = p.from;
+    let count = p.steps;
+    match steps_within(s, layout, head, s, c, from, count, 0, out, kinds, names) {
+        Along::Refused => PathType::Refused,
+        Along::Inside(d) => PathType::Inside(d),
+        Along::Written { at, left, i } => {
+            steps_on(s, layout, head, at, left, i, out, spare, kinds, names)
         }
     }
-    PathType::Inside(c)
 }
