@@ -9,7 +9,7 @@ use native.Mathlib.Decide.{decLt}
 use lib.ListN.{length, getD}
 use lib.Dec.{T, ltb, lt→ltb}
 use borrow.Author.Tests.{lt-ltb, le-ltb, eq-eqb, ne-eqb}
-use Rattle.nll_spec.specs.Syntax.{Job, Point, BlockIndex}
+use Rattle.nll_spec.specs.Syntax.{Job, BlockIndex}
 use Rattle.nll_spec.specs.Fixpoint.{holds}
 use Rattle.nll_spec.specs.Output.{wordBits}
 use Rattle.nll_spec.specs.Decode.{pointCount}
@@ -29,7 +29,7 @@ use Rattle.graph.proofs.ShapeLaws.{few-blocks}
 use Rattle.graph.specs.declared.Shape.{Shape}
 use Rattle.graph.specs.Shape.{Shaped, ShapeSays}
 use Rattle.graph.specs.Filling.{Given}
-use Rattle.graph.specs.Search.{isMarked, MarksWalked, WalkedBlocks, withRun, WalkedBelow, BlockPoints}
+use Rattle.graph.specs.Search.{isMarked, MarksWalked, WalkedBlocks, withRun, WalkedBelow, BlockPoints, WalkedIn}
 use Rattle.graph.proofs.EdgeLaws.{first-step, first-total, first-zero}
 
 -- ---- A run of points
@@ -150,7 +150,7 @@ module _ (s t seen : List ℕ) (h : Head) where
   pub pointed-more : {b : BlockIndex} {p next : ℕ} {ws u : List ℕ} → Pointed s t seen h b p ws → b < h .blocks → BlockPoints s t seen b p next ws u → Pointed s t seen h (b + 1) next u
   pointed-more r l w = record { turns = omega arith; size = w .size; within = w .within; points = λ j g m. w .points h j g m (omega (arith, g .layout .blockCount)) (r .points j g m) }
 
-  pointed-all : {b : BlockIndex} {p : ℕ} {ws : List ℕ} → Pointed s t seen h b p ws → h .blocks ≤ b → (j : Job) → Given s t h j → MarksWalked seen j → (q : Point) → q < 1024 → has ws q ≡ isWalked (graphOf j) q
+  pointed-all : {b : BlockIndex} {p : ℕ} {ws : List ℕ} → Pointed s t seen h b p ws → h .blocks ≤ b → (j : Job) → Given s t h j → MarksWalked seen j → WalkedIn j ws
   pointed-all {b} {p} {ws} r l j g m q k =
       was .points q k
       ∙ same-bool (ltb q p && isWalked (graphOf j) q) (isWalked (graphOf j) q) (λ a. and-right (ltb q p) (isWalked (graphOf j) q) a)
@@ -167,7 +167,7 @@ module _ (s t seen : List ℕ) (h : Head) where
 
   pub pointed-walked : {b : BlockIndex} {p start : ℕ} {ws : List ℕ} → Pointed s t seen h b p ws → h .blocks ≤ b → WalkedBlocks s t start seen
       → (j : Job) → Layout s t h j → T (successorsNamed j) → pointCount j ≤ 1024 → j .start ≡ start → T (ltb (j .start) (length (j .blocks)))
-      → (q : Point) → q < 1024 → has ws q ≡ isWalked (graphOf j) q
+      → WalkedIn j ws
   pointed-walked r l marks j w n p e i =
       let g : Given s t h j = record { layout = w; named = n; points = p } in
       pointed-all r l j g (marks .marks h j g e i)

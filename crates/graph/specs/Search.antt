@@ -66,6 +66,10 @@ abbrev pub withRun : List ℕ → Point → ℕ → List ℕ
 withRun ws p zero = ws
 withRun ws p (suc n) = withBit (withRun ws p n) (p + n)
 
+-- The words say which points are those of walked blocks.
+abbrev pub WalkedIn : Job → List ℕ → Type 0
+WalkedIn j walked = (p : Point) → p < 1024 → has walked p ≡ isWalked (graphOf j) p
+
 -- The set has the walked points of the blocks below b, of which p is the next point.
 pub record WalkedBelow (j : Job) (b : BlockIndex) (p : Point) (ws : List ℕ) : Type 0 where
   pub point : p ≡ firstPoint (j .blocks) 0 b

@@ -8,14 +8,13 @@ ghost use mathlib.Core.Path.{_≡_};
 ghost use Prim.Native.Nat.{_+_, _<_, _≤_};
 ghost use lib.ListN.{length};
 ghost use lib.Dec.{T, ltb};
-ghost use Rattle.nll_spec.specs.Syntax.{Job, Point};
+ghost use Rattle.nll_spec.specs.Syntax.{Job};
 ghost use Rattle.nll_spec.specs.Decode.{pointCount};
 ghost use Rattle.nll_spec.specs.WellFormed.{successorsNamed};
-ghost use Rattle.nll_spec.specs.Graph.{graphOf, isWalked};
 ghost use Rattle.record.specs.Layout.{Layout};
 ghost use Rattle.bit_set.specs.Bits.{has};
 ghost use Rattle.graph.specs.Shape.{InRecord, rowOf};
-ghost use Rattle.graph.specs.Search.{state, Roomy, visited, visits, WalkedBlocks, withRun, BlockPoints};
+ghost use Rattle.graph.specs.Search.{state, Roomy, visited, visits, WalkedBlocks, withRun, BlockPoints, WalkedIn};
 
 // Marks and pushes block b, where it has no mark. Returns the stack's new depth.
 fn visit(b: u8, seen: &mut [u8; 64], stack: &mut [u8; 64], depth: usize) -> usize
@@ -118,7 +117,7 @@ pub fn walked(
     words: &mut [u32; 32],
 )
     requires { ⌜ (length (now layout) ≡ 1280) × (length (now words) ≡ 32) ⌝ }
-    ensures { λ _. ⌜ (length (now (words .exit)) ≡ 32) × ((j : Job) → Layout (now (s .entry)) (now (layout .entry)) head j → T (successorsNamed j) → pointCount j ≤ 1024 → j .start ≡ start .0 → T (ltb (j .start) (length (j .blocks))) → (p : Point) → p < 1024 → has (now (words .exit)) p ≡ isWalked (graphOf j) p) ⌝ }
+    ensures { λ _. ⌜ (length (now (words .exit)) ≡ 32) × ((j : Job) → Layout (now (s .entry)) (now (layout .entry)) head j → T (successorsNamed j) → pointCount j ≤ 1024 → j .start ≡ start .0 → T (ltb (j .start) (length (j .blocks))) → WalkedIn j (now (words .exit))) ⌝ }
 {
     let seen = blocks(s, layout, start);
     bit_set::clear(words, 0, 32);

@@ -22,6 +22,7 @@ use Rattle.nll_spec.proofs.SeedLaws.{live-table, table-used, table-dropped}
 use Rattle.record.specs.Layout.{Layout}
 use Rattle.record.specs.declared.Head.{Head}
 use Rattle.graph.specs.Tables.{Edges}
+use Rattle.graph.specs.Search.{WalkedIn}
 use Rattle.bit_set.specs.Bits.{has}
 use Rattle.flow.specs.declared.Direction.the-variants.{Backward}
 use Rattle.flow.specs.Flows.{bitAt, Flows, given, along, FlowSays}
@@ -48,7 +49,7 @@ module _ (j : Job) (first succ : List ℕ) (t : Edges (graphOf j) first succ) (n
   live-flows {p} l (later {q = q} k s h) = along (live-flows (t .inside p q l s) h) s (w .passes p l ∙ is-true (not (contains (defs (actionAt (graphOf j) p)) v)) k)
 
   -- the row of a variable
-  module _ (after walked : List ℕ) (says : FlowSays (graphOf j) Backward pass sets after) (is : (p : Point) → p < 1024 → has walked p ≡ isWalked (graphOf j) p)
+  module _ (after walked : List ℕ) (says : FlowSays (graphOf j) Backward pass sets after) (is : WalkedIn j walked)
       (table : (p : Point) → Live (graphOf j) needs v p → T (holds (liveTable needs j (graphOf j)) v p)) where
     walked-live : (p : Point) → p < 1024 → (ltb p (graphOf j .code) && (has walked p && has after (bitAt p n))) ≡ (isWalked (graphOf j) p && holds (liveTable needs j (graphOf j)) v p)
     walked-live p k =
@@ -91,7 +92,7 @@ module _ (j : Job) {code : ℕ} {sets pass : List ℕ} (f : Filled j code sets p
 pub live-rows : (s t : List ℕ) (h : Head) (first succ walked : List ℕ) {code many w : ℕ} {sets pass after us ds : List ℕ} → w ≤ 32 → code ≡ h .code → many ≡ h .variables → AllActed s t code sets pass
     → ((j : Job) → Edges (graphOf j) first succ → code ≡ graphOf j .code → FlowSays (graphOf j) Backward pass sets after)
     → Columns w many code 0 walked after us → Columns w many code 64 walked after ds
-    → (j : Job) → Layout s t h j → Edges (graphOf j) first succ → ((p : Point) → p < 1024 → has walked p ≡ isWalked (graphOf j) p) → LiveRows j w us ds
+    → (j : Job) → Layout s t h j → Edges (graphOf j) first succ → WalkedIn j walked → LiveRows j w us ds
 live-rows s t h first succ walked {code} {many} {sets = sets} {pass} {after} n e m acted flowed used dropped j w edges is =
     record {
       used = λ v p hv hp.
@@ -122,7 +123,7 @@ live-rows s t h first succ walked {code} {many} {sets = sets} {pass} {after} n e
 
 -- more points than a row has room for, or more variables than there are rows
 pub live-none : (s t : List ℕ) (h : Head) (first succ walked : List ℕ) {code many w : ℕ} {us ds : List ℕ} → code ≡ h .code → many ≡ h .variables → (ltb (32 * w) code || ltb 64 many) ≡ true
-    → (j : Job) → Layout s t h j → codeCount (j .blocks) ≤ wordBits * w → w ≤ 32 → Edges (graphOf j) first succ → ((p : Point) → p < 1024 → has walked p ≡ isWalked (graphOf j) p) → LiveRows j w us ds
+    → (j : Job) → Layout s t h j → codeCount (j .blocks) ≤ wordBits * w → w ≤ 32 → Edges (graphOf j) first succ → WalkedIn j walked → LiveRows j w us ds
 live-none s t h first succ walked {code} {many} {w} e m l j y k n edges is =
     let a : code ≤ 32 * w = omega (arith, y .code) in
     let b : many ≤ 64 = omega (arith, y .variableLimit) in

@@ -9,14 +9,14 @@ use rows::rows;
 ghost use mathlib.Core.Path.{_≡_};
 ghost use Prim.Native.Nat.{_*_, _<_, _≤_};
 ghost use lib.ListN.{length};
-ghost use Rattle.nll_spec.specs.Syntax.{Job, Point};
-ghost use Rattle.nll_spec.specs.Graph.{graphOf, isWalked};
+ghost use Rattle.nll_spec.specs.Syntax.{Job};
+ghost use Rattle.nll_spec.specs.Graph.{graphOf};
 ghost use Rattle.nll_spec.specs.Decode.{codeCount};
 ghost use Rattle.nll_spec.specs.Output.{wordBits};
 ghost use Rattle.record.specs.Layout.{Layout};
 ghost use Rattle.record.specs.declared.Head as heads;
-ghost use Rattle.bit_set.specs.Bits.{has};
 ghost use Rattle.graph.specs.Tables.{Edges};
+ghost use Rattle.graph.specs.Search.{WalkedIn};
 ghost use Rattle.liveness.specs.Needs.{Blank};
 ghost use Rattle.liveness.specs.Rows.{LiveRows};
 
@@ -50,7 +50,7 @@ fn by_tables(
     requires { ⌜ (length (now layout) ≡ 1280) × (code ≤ 32 * width) × (width ≤ 32) × (many ≤ 64) × Blank code (now sets) (now pass)
         × (4 * code ≤ length (now sets)) × (4 * code ≤ length (now pass)) × (64 * width ≤ length (now used)) × (64 * width ≤ length (now dropped)) ⌝ }
     ensures { λ _. ⌜ ((h : heads.Head) (j : Job) → code ≡ h .code → many ≡ h .variables → Layout (now (s .entry)) (now (layout .entry)) h j
-        → Edges (graphOf j) (now (first .entry)) (now (succ .entry)) → ((p : Point) → p < 1024 → has (now (walked .entry)) p ≡ isWalked (graphOf j) p)
+        → Edges (graphOf j) (now (first .entry)) (now (succ .entry)) → WalkedIn j (now (walked .entry))
         → LiveRows j width (now (used .exit)) (now (dropped .exit))) ⌝ }
 {
     fill(s, layout, code, sets, pass);
@@ -74,7 +74,7 @@ fn compute_small(
 )
     requires { ⌜ (length (now layout) ≡ 1280) × (code ≤ 128) × (code ≤ 32 * width) × (width ≤ 32) × (many ≤ 64) × (64 * width ≤ length (now used)) × (64 * width ≤ length (now dropped)) ⌝ }
     ensures { λ _. ⌜ ((h : heads.Head) (j : Job) → code ≡ h .code → many ≡ h .variables → Layout (now (s .entry)) (now (layout .entry)) h j
-        → Edges (graphOf j) (now (first .entry)) (now (succ .entry)) → ((p : Point) → p < 1024 → has (now (walked .entry)) p ≡ isWalked (graphOf j) p)
+        → Edges (graphOf j) (now (first .entry)) (now (succ .entry)) → WalkedIn j (now (walked .entry))
         → LiveRows j width (now (used .exit)) (now (dropped .exit))) ⌝ }
 {
     if code <= 32 {
@@ -129,7 +129,7 @@ fn compute(
 )
     requires { ⌜ (length (now layout) ≡ 1280) × (code ≤ 32 * width) × (width ≤ 32) × (many ≤ 64) × (64 * width ≤ length (now used)) × (64 * width ≤ length (now dropped)) ⌝ }
     ensures { λ _. ⌜ ((h : heads.Head) (j : Job) → code ≡ h .code → many ≡ h .variables → Layout (now (s .entry)) (now (layout .entry)) h j
-        → Edges (graphOf j) (now (first .entry)) (now (succ .entry)) → ((p : Point) → p < 1024 → has (now (walked .entry)) p ≡ isWalked (graphOf j) p)
+        → Edges (graphOf j) (now (first .entry)) (now (succ .entry)) → WalkedIn j (now (walked .entry))
         → LiveRows j width (now (used .exit)) (now (dropped .exit))) ⌝ }
 {
     if code <= 128 {
@@ -180,7 +180,7 @@ pub fn liveness(
     requires { ⌜ length (now layout) ≡ 1280 ⌝ }
     ensures { λ _. ⌜ ((j : Job) → Layout (now (s .entry)) (now (layout .entry)) head j → codeCount (j .blocks) ≤ wordBits * width → width ≤ 32
         → 64 * width ≤ length (now (used .entry)) → 64 * width ≤ length (now (dropped .entry))
-        → Edges (graphOf j) (now (first .entry)) (now (succ .entry)) → ((p : Point) → p < 1024 → has (now (walked .entry)) p ≡ isWalked (graphOf j) p)
+        → Edges (graphOf j) (now (first .entry)) (now (succ .entry)) → WalkedIn j (now (walked .entry))
         → LiveRows j width (now (used .exit)) (now (dropped .exit))) ⌝ }
 {
     let code = wide(head.code);

@@ -36,6 +36,7 @@ use Rattle.bit_set.specs.Bits.{has}
 use Rattle.repr.proofs.SpellLaws.{clash, carry, then}
 use Rattle.env.specs.Prefixes.{ShortestOf}
 use Rattle.env.specs.declared.Shortest.{Shortest}
+use Rattle.graph.specs.Search.{WalkedIn}
 use Rattle.loans.specs.Table.{Put}
 use Rattle.loans.specs.Loans.{loansBelow, Listed, LoansAt, Given, Lends}
 use Rattle.loans.specs.declared.Loan.{Loan}
@@ -142,7 +143,7 @@ module _ {s t : List ℕ} {h : Head} {walked : List ℕ} where
   lending-more w l = record { size = l .size; few = l .few; lent = λ j g k. l .more j g (omega arith) (w .lent j g (omega arith)) }
 
   pub lending-all : {p code n : ℕ} {table : List ℕ} → Lending s t h walked p table n → p ≤ code → code ≤ p → (h .code ≤ 1024 → code ≡ h .code) → (j : Job) → Layout s t h j → T (named j) → T (pathsFit j)
-      → ((q : Point) → q < 1024 → has walked q ≡ isWalked (graphOf j) q) → length (loansOf (graphOf j)) ≤ 128 → LoansAt s j table n
+      → WalkedIn j walked → length (loansOf (graphOf j)) ≤ 128 → LoansAt s j table n
   unfolding loansOf
   lending-all {p} {n = n} {table = table} w a b c j l named paths walks few =
       let i = code-count j in

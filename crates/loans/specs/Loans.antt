@@ -16,6 +16,7 @@ use Rattle.record.specs.Layout.{Layout}
 use Rattle.record.specs.declared.Head.{Head}
 use Rattle.bit_set.specs.Bits.{has}
 use Rattle.env.specs.Prefixes.{ShortestOf}
+use Rattle.graph.specs.Search.{WalkedIn}
 use Rattle.loans.specs.Table.{entryOf}
 use Rattle.loans.specs.declared.Loan.{Loan}
 
@@ -47,7 +48,7 @@ pub record Given (s t : List ℕ) (h : Head) (walked : List ℕ) (j : Job) : Typ
   pub layout : Layout s t h j
   pub names : T (named j)
   pub paths : T (pathsFit j)
-  pub walks : (p : Point) → p < 1024 → has walked p ≡ isWalked (graphOf j) p
+  pub walks : WalkedIn j walked
   pub few : length (loansOf (graphOf j)) ≤ 128
 
 -- The loan of point p is in the table, where those of the points below it were.

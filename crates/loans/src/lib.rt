@@ -16,12 +16,13 @@ ghost use mathlib.Core.Path.{_≡_};
 ghost use Prim.Native.Nat.{_<_, _≤_, _%_, min};
 ghost use lib.ListN.{length};
 ghost use lib.Dec.{T};
-ghost use Rattle.nll_spec.specs.Syntax.{Job, Point};
+ghost use Rattle.nll_spec.specs.Syntax.{Job};
 ghost use Rattle.nll_spec.specs.WellFormed.{named, pathsFit};
-ghost use Rattle.nll_spec.specs.Graph.{graphOf, isWalked};
+ghost use Rattle.nll_spec.specs.Graph.{graphOf};
 ghost use Rattle.nll_spec.specs.Loans.{loansOf};
 ghost use Rattle.bit_set.specs.Bits.{has};
 ghost use Rattle.record.specs.Layout.{Layout};
+ghost use Rattle.graph.specs.Search.{WalkedIn};
 ghost use Rattle.loans.specs.Table.{placeOf, kindFrom, numberOf, entryOf, Put};
 ghost use Rattle.loans.specs.Loans.{LoansAt, Lends};
 
@@ -202,7 +203,7 @@ pub fn loans(
     table: &mut [u16; 1024],
 ) -> usize
     requires { ⌜ (length (now layout) ≡ 1280) × (length (now table) ≡ 1024) ⌝ }
-    ensures { λ r. ⌜ (length (now (table .exit)) ≡ 1024) × ((j : Job) → Layout (now (s .entry)) (now (layout .entry)) head j → T (named j) → T (pathsFit j) → ((p : Point) → p < 1024 → has (now (walked .entry)) p ≡ isWalked (graphOf j) p) → length (loansOf (graphOf j)) ≤ 128 → LoansAt (now (s .entry)) j (now (table .exit)) r) ⌝ }
+    ensures { λ r. ⌜ (length (now (table .exit)) ≡ 1024) × ((j : Job) → Layout (now (s .entry)) (now (layout .entry)) head j → T (named j) → T (pathsFit j) → WalkedIn j (now (walked .entry)) → length (loansOf (graphOf j)) ≤ 128 → LoansAt (now (s .entry)) j (now (table .exit)) r) ⌝ }
 {
     let code = up_to(head.code);
     let mut n = 0;

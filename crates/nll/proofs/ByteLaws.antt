@@ -9,7 +9,7 @@ use Rattle.nll_spec.specs.Fixpoint.{Table, holds}
 use Rattle.nll_spec.specs.Syntax.{Job, Point}
 use Rattle.nll_spec.specs.Decode.{codeCount, pointCount}
 use Rattle.nll_spec.specs.WellFormed.{named, pathsFit}
-use Rattle.nll_spec.specs.Graph.{graphOf, isWalked}
+use Rattle.nll_spec.specs.Graph.{graphOf}
 use Rattle.nll_spec.specs.Regions.{everyEnd}
 use Rattle.nll_spec.specs.Loans.{loansOf, scopeTable}
 use Rattle.nll_spec.specs.Access.{verdictAt}
@@ -24,6 +24,7 @@ use Rattle.loans.specs.Loans.{LoansAt}
 use Rattle.loans.proofs.CountLaws.{loans-few}
 use Rattle.loans_in_scope.specs.Scope.{Given, ScopeSays}
 use Rattle.borrowck.specs.Faults.{bytesTo}
+use Rattle.graph.specs.Search.{WalkedIn}
 use Rattle.nll.specs.Steps.{shapeOf, JobAt, Mapped, verdictsOf, Judges}
 use Rattle.nll.proofs.JobLaws.{names-and-paths, points-are, width-is}
 
@@ -37,7 +38,7 @@ unfolding answer
 sets-rows j = sized-sets everyEnd j .rows
 
 module _ {s t : List ℕ} {h : Head} {first succ walked ws table : List ℕ} {count : ℕ} {scope : List ℕ} (bs bs′ : List ℕ) {shape : Shape} (e : shape ≡ shapeOf h)
-    (lent : (j : Job) → Layout s t h j → T (named j) → T (pathsFit j) → ((p : Point) → p < 1024 → has walked p ≡ isWalked (graphOf j) p) → length (loansOf (graphOf j)) ≤ 128 → LoansAt s j table count)
+    (lent : (j : Job) → Layout s t h j → T (named j) → T (pathsFit j) → WalkedIn j walked → length (loansOf (graphOf j)) ≤ 128 → LoansAt s j table count)
     {room : ℕ} (enough : h .code ≤ 1024 → 4 * h .code ≤ room) (scoped : 4 * h .code ≤ room → ScopeSays s t h first succ ws (shape .width) table count scope)
     (checked : (length bs′ ≡ length bs)
     × ((j : Job) (u : Table) → Layout s t h j → LoansAt s j table count

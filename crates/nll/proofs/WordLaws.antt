@@ -8,22 +8,22 @@ use lib.ListN.{length, getD, take, length-map, List·getD-map}
 use lib.Dec.{T}
 use lib.Seq.{ext-getD, getD-take, length-take-le}
 use Rattle.nll_spec.specs.Lists.{below}
-use Rattle.nll_spec.specs.Syntax.{Job, Point}
+use Rattle.nll_spec.specs.Syntax.{Job}
 use Rattle.nll_spec.specs.Decode.{pointCount, codeCount}
 use Rattle.nll_spec.specs.WellFormed.{named}
-use Rattle.nll_spec.specs.Graph.{graphOf, isWalked}
+use Rattle.nll_spec.specs.Graph.{graphOf}
 use Rattle.nll_spec.specs.Regions.{everyEnd, seedTable, isGrown}
 use Rattle.nll_spec.specs.Output.{answer, bit, wordBits, wordCount, wordsOf, wordsNeeded, overwrite}
 use Rattle.nll_spec.proofs.Tests.{length-countFrom}
 use Rattle.nll_spec.proofs.Lookup.{getD-map-below}
 use Rattle.nll_spec.proofs.Names.{setsOf}
 use Rattle.nll_spec.proofs.OutputLaws.{length-wordsOf}
-use Rattle.bit_set.specs.Bits.{has}
 use Rattle.bit_set.specs.Rows.{Says}
 use Rattle.bit_set.proofs.TableLaws.{says-answer}
 use Rattle.record.specs.Layout.{Layout}
 use Rattle.record.specs.declared.Head.{Head}
 use Rattle.graph.specs.Tables.{Edges}
+use Rattle.graph.specs.Search.{WalkedIn}
 use Rattle.infer.specs.Ran.{Words}
 use Rattle.infer.specs.declared.Shape.{Shape}
 use Rattle.liveness.specs.Rows.{LiveRows}
@@ -35,8 +35,8 @@ use Rattle.nll.proofs.OverwriteLaws.{same-tail}
 
 pub seeds-by : {s t : List ℕ} {h : Head} {first succ walked used dropped : List ℕ} {width m n : ℕ} {ws ws′ : List ℕ}
     → (width ≤ 32 → 64 * width ≤ m) → (width ≤ 32 → 64 * width ≤ n) → length used ≡ m → length dropped ≡ n
-    → ((j : Job) → Layout s t h j → codeCount (j .blocks) ≤ wordBits * width → width ≤ 32 → 64 * width ≤ m → 64 * width ≤ n → Edges (graphOf j) first succ → ((p : Point) → p < 1024 → has walked p ≡ isWalked (graphOf j) p) → LiveRows j width used dropped)
-    → ((j : Job) → Layout s t h j → T (named j) → pointCount j ≤ 1024 → ((p : Point) → p < 1024 → has walked p ≡ isWalked (graphOf j) p)
+    → ((j : Job) → Layout s t h j → codeCount (j .blocks) ≤ wordBits * width → width ≤ 32 → 64 * width ≤ m → 64 * width ≤ n → Edges (graphOf j) first succ → WalkedIn j walked → LiveRows j width used dropped)
+    → ((j : Job) → Layout s t h j → T (named j) → pointCount j ≤ 1024 → WalkedIn j walked
     → 64 * width ≤ length used → 64 * width ≤ length dropped → LiveRows j width used dropped
     → width ≡ wordCount (pointCount j) → j .regions * width ≤ length ws → Seeded j width ws ws′)
     → Seeds s t h first succ walked width ws ws′

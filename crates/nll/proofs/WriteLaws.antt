@@ -1,24 +1,24 @@
 -- The whole answer. Assumes nothing.
 use mathlib.Core.Path.{_≡_, refl, sym, ap, ap₂, _∙_}
 use mathlib.Core.List.{List, _++_, map}
-use Prim.Native.Nat.{ℕ, _+_, _*_, _<_, _≤_}
+use Prim.Native.Nat.{ℕ, _+_, _*_, _≤_}
 use native.Mathlib.Omega.{arith}
 use lib.ListN.{length, take, length-append}
 use lib.Seq.{paste}
 use lib.Dec.{T, ltb}
-use Rattle.nll_spec.specs.Syntax.{Job, Point}
+use Rattle.nll_spec.specs.Syntax.{Job}
 use Rattle.nll_spec.specs.Decode.{pointCount}
 use Rattle.nll_spec.specs.WellFormed.{successorsNamed}
-use Rattle.nll_spec.specs.Graph.{graphOf, isWalked}
+use Rattle.nll_spec.specs.Graph.{graphOf}
 use Rattle.nll_spec.specs.Regions.{everyEnd}
 use Rattle.nll_spec.specs.Output.{answer, bit, bytesOf, verdictBytes, bytesNeeded, overwrite}
 use Rattle.nll_spec.specs.Meaning.{Room}
 use Rattle.nll_spec.proofs.AcceptedLaws.{accepted-job}
 use Rattle.nll_spec.proofs.OutputLaws.{length-bytesOf}
-use Rattle.bit_set.specs.Bits.{has}
 use Rattle.record.specs.Layout.{Layout}
 use Rattle.record.specs.declared.Head.{Head}
 use Rattle.graph.specs.Tables.{Edges}
+use Rattle.graph.specs.Search.{WalkedIn}
 use Rattle.nll.specs.Steps.{shapeOf, JobAt, Mapped, Answered, Solves, verdictsOf, Judges, Writes}
 use Rattle.nll.proofs.JobLaws.{points-are}
 use Rattle.nll.proofs.OverwriteLaws.{pasted}
@@ -45,7 +45,7 @@ module _ (j : Job) where
 
 module _ {s t : List ℕ} {h : Head} {first succ walked : List ℕ}
     (edges : (j : Job) → Layout s t h j → T (successorsNamed j) → pointCount j ≤ 1024 → Edges (graphOf j) first succ)
-    (walks : (j : Job) → Layout s t h j → T (successorsNamed j) → pointCount j ≤ 1024 → j .start ≡ 0 → T (ltb (j .start) (length (j .blocks))) → (p : Point) → p < 1024 → has walked p ≡ isWalked (graphOf j) p)
+    (walks : (j : Job) → Layout s t h j → T (successorsNamed j) → pointCount j ≤ 1024 → j .start ≡ 0 → T (ltb (j .start) (length (j .blocks))) → WalkedIn j walked)
   where
     mapped : (j : Job) → JobAt s t h j → Mapped first succ walked j
     mapped j a =

@@ -2,22 +2,22 @@
 use mathlib.Core.Path.{_≡_}
 use mathlib.Core.Bool.{Bool, _&&_}
 use mathlib.Core.List.{List, [], _∷_, map}
-use Prim.Native.Nat.{ℕ, _+_, _*_, _<_, _≤_}
+use Prim.Native.Nat.{ℕ, _+_, _*_, _≤_}
 use lib.ListN.{length, take}
 use lib.Dec.{leb}
 use Rattle.nll_spec.specs.Lists.{gather}
-use Rattle.nll_spec.specs.Syntax.{Job, Point}
+use Rattle.nll_spec.specs.Syntax.{Job}
 use Rattle.nll_spec.specs.Decode.{pointCount, borrowCount}
 use Rattle.nll_spec.specs.WellFormed.{refusal}
-use Rattle.nll_spec.specs.Graph.{graphOf, isWalked}
+use Rattle.nll_spec.specs.Graph.{graphOf}
 use Rattle.nll_spec.specs.Regions.{everyEnd}
 use Rattle.nll_spec.specs.Output.{Answer, answer, bit, wordCount, wordsOf, bytesOf, verdictBytes, wordsNeeded, overwrite}
 use Rattle.nll_spec.specs.Meaning.{Room}
-use Rattle.bit_set.specs.Bits.{has}
 use Rattle.bit_set.specs.Rows.{Says}
 use Rattle.record.specs.Layout.{Layout}
 use Rattle.record.specs.declared.Head.{Head}
 use Rattle.graph.specs.Tables.{Edges}
+use Rattle.graph.specs.Search.{WalkedIn}
 use Rattle.infer.specs.declared.Shape.{Shape}
 use Rattle.seeds.specs.Seeded.{Seeded}
 
@@ -43,7 +43,7 @@ pub record JobAt (s t : List ℕ) (h : Head) (j : Job) : Type 0 where
 -- The tables say what follows each point, and the words which points are walked.
 pub record Mapped (first succ walked : List ℕ) (j : Job) : Type 0 where
   pub edges : Edges (graphOf j) first succ
-  pub walks : (p : Point) → p < 1024 → has walked p ≡ isWalked (graphOf j) p
+  pub walks : WalkedIn j walked
 
 -- ---- The words
 

@@ -18,7 +18,7 @@ use Rattle.bit_set.specs.Rows.{Says}
 use Rattle.record.specs.Layout.{Layout}
 use Rattle.record.specs.declared.Head.{Head}
 use Rattle.graph.specs.Tables.{Edges}
-use Rattle.graph.specs.Search.{Marked}
+use Rattle.graph.specs.Search.{Marked, WalkedIn}
 use Rattle.infer.specs.Search.{ruleOf}
 use Rattle.infer.specs.Ran.{Setting, Words, Given, AllNamed, Ran}
 use Rattle.infer.specs.declared.EndRule as declared
@@ -36,10 +36,6 @@ noMarks = replicate 128 0
 -- the constraints of a point, if its block is walked
 abbrev pub walkedAt : Job → Point → List Outlives
 walkedAt j p = cond (isWalked (graphOf j) p) (constraintsAt j p (actionAt (graphOf j) p)) []
-
--- The words say which points are those of walked blocks.
-abbrev pub WalkedIn : Job → List ℕ → Type 0
-WalkedIn j walked = (p : Point) → p < 1024 → has walked p ≡ isWalked (graphOf j) p
 
 -- the constraints of the first n points
 abbrev pub constraintsBelow : Job → ℕ → List Outlives

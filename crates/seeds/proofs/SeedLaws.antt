@@ -12,7 +12,7 @@ use lib.Dec.{T, ltb, leb}
 use borrow.Author.Tests.{lt-ltb, le-ltb, le-leb, lt-leb}
 use Rattle.nll_spec.specs.Lists.{any, contains, below}
 use Rattle.nll_spec.specs.Fixpoint.{holds}
-use Rattle.nll_spec.specs.Syntax.{Point, Job}
+use Rattle.nll_spec.specs.Syntax.{Job}
 use Rattle.nll_spec.specs.Types.{variableType, regionsOf}
 use Rattle.nll_spec.specs.Decode.{pointCount}
 use Rattle.nll_spec.specs.WellFormed.{named}
@@ -29,6 +29,7 @@ use Rattle.record.specs.Layout.{Layout}
 use Rattle.record.specs.declared.Head.{Head}
 use Rattle.bit_set.specs.Bits.{has, cleared}
 use Rattle.bit_set.proofs.SetLaws.{length-cleared, has-cleared, cleared-outside}
+use Rattle.graph.specs.Search.{WalkedIn}
 use Rattle.seeds.specs.Closure.{Ends}
 use Rattle.liveness.specs.Rows.{LiveRows}
 use Rattle.seeds.specs.Seeded.{Room, Adds, liveIn, anyTo, endSeed, declaredSeed, Seeded}
@@ -84,7 +85,7 @@ module _ (j : Job) (w : ℕ) (walked used dropped ends : List ℕ) where
   abbrev put : ℕ → ℕ → Bool
   put r p = ltb r (length (j .outlives)) && declaredSeed code (length (j .outlives)) walked ends r p || anyTo (liveIn j w used dropped r p) (length (j .variables))
 
-  module _ (isW : (p : Point) → p < 1024 → has walked p ≡ isWalked (graphOf j) p) (live : LiveRows j w used dropped) (narrow : w ≤ 32)
+  module _ (isW : WalkedIn j walked) (live : LiveRows j w used dropped) (narrow : w ≤ 32)
       (isE : (r e : ℕ) → r < length (j .outlives) → e < length (j .outlives) → has ends (wordBits * r + e) ≡ holds (outlivesTable j) r e)
       (all : points ≡ code + length (j .outlives)) where
     -- a declared region gets nothing from variables
@@ -187,7 +188,7 @@ module _ {s t : List ℕ} {h : Head} (walked used dropped ends ws first second a
       → (length walked ≡ 32 → Room h w first → Adds w (h .regions) (λ r p. ltb r (h .declared) && declaredSeed (h .code) (h .declared) walked ends r p) first second)
       → ((j : Job) → Layout s t h j → 64 * w ≤ length used → 64 * w ≤ length dropped → Room h w second → Adds w (h .regions) (λ r p. anyTo (liveIn j w used dropped r p) (h .variables)) second after)
       → length walked ≡ 32
-      → (j : Job) → Layout s t h j → T (named j) → pointCount j ≤ 1024 → ((p : Point) → p < 1024 → has walked p ≡ isWalked (graphOf j) p)
+      → (j : Job) → Layout s t h j → T (named j) → pointCount j ≤ 1024 → WalkedIn j walked
       → 64 * w ≤ length used → 64 * w ≤ length dropped → LiveRows j w used dropped → w ≡ wordCount (pointCount j) → j .regions * w ≤ length ws → Seeded j w ws after
   seeded en ef ee fd fl hw j l a m isW hu hd live ew k =
       let size : length first ≡ length ws = ap length ef ∙ length-cleared ws 0 (n * w) in

@@ -13,14 +13,14 @@ ghost use mathlib.Core.Path.{_≡_};
 ghost use Prim.Native.Nat.{_*_, _≤_, _<_};
 ghost use lib.ListN.{length};
 ghost use lib.Dec.{T};
-ghost use Rattle.nll_spec.specs.Syntax.{Job, Point};
+ghost use Rattle.nll_spec.specs.Syntax.{Job};
 ghost use Rattle.nll_spec.specs.Decode.{pointCount};
 ghost use Rattle.nll_spec.specs.WellFormed.{named};
-ghost use Rattle.nll_spec.specs.Graph.{graphOf, isWalked};
 ghost use Rattle.nll_spec.specs.Output.{wordCount};
 ghost use Rattle.record.specs.Layout.{Layout};
 ghost use Rattle.bit_set.specs.Bits.{has};
 ghost use Rattle.liveness.specs.Rows.{LiveRows};
+ghost use Rattle.graph.specs.Search.{WalkedIn};
 ghost use Rattle.seeds.specs.Seeded.{Seeded};
 
 // Which regions are taken of a type: every one, those that a drop of it needs, or none.
@@ -63,7 +63,7 @@ pub fn seeds(
 )
     requires { ⌜ (length (now layout) ≡ 1280) × (length (now walked) ≡ 32) ⌝ }
     ensures { λ _. ⌜ ((j : Job) → Layout (now (s .entry)) (now (layout .entry)) head j → T (named j) → pointCount j ≤ 1024
-        → ((p : Point) → p < 1024 → has (now (walked .entry)) p ≡ isWalked (graphOf j) p) → 64 * width ≤ length (now (used .entry)) → 64 * width ≤ length (now (dropped .entry)) → LiveRows j width (now (used .entry)) (now (dropped .entry))
+        → WalkedIn j (now (walked .entry)) → 64 * width ≤ length (now (used .entry)) → 64 * width ≤ length (now (dropped .entry)) → LiveRows j width (now (used .entry)) (now (dropped .entry))
         → width ≡ wordCount (pointCount j) → j .regions * width ≤ length (now (words .entry))
         → Seeded j width (now (words .entry)) (now (words .exit))) ⌝ }
 {
