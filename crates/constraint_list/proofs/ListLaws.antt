@@ -110,6 +110,3 @@ draws-append {cs} {ds} x y = record {
 -- all were taken away
 pub draws-cleared : {cs : List Outlives} {t t′ : List ℕ} → countIn t′ ≡ 0 → Draws cs t t′
 draws-cleared {t′ = t′} e = record { drawn = λ c m. absurd (no-member (subst (λ (ds : List Outlives). Member c ds) (ap (firstIn t′) e ∙ first-none t′) m)) }
-
-pub draws-again : {cs : List Outlives} {t t₁ t₂ : List ℕ} → Draws cs t t₁ → Draws cs t₁ t₂ → Draws cs t t₂
-draws-again x y = record { drawn = λ c m. ⊎-elim (x .drawn c) inr (y .drawn c m) }

@@ -112,17 +112,6 @@ module _ (s t : List ℕ) (h : Head) (walked : List ℕ) (shape : Shape) (rule :
             (λ c i. named-below (ruleOf rule) j (k .accepted) m c (subst (λ (cs : List Outlives). Member c cs) e (member-right (constraintsBelow j n) (constraintsIn ls) i)))));
       }
 
-  -- and then again
-  pub below-again : {ls : List ℕ} {n m : ℕ} {ws₁ grew₁ ws₂ grew₂ : List ℕ} → RunsBelow s t h walked shape rule first succ chain last ws ws₁ grew₁ m
-      → Holding s t h walked (shape .code) ls n m → RunsAgain shape rule first succ chain (constraintsIn ls) ws₁ grew₁ ws₂ grew₂
-      → RunsBelow s t h walked shape rule first succ chain last ws ws₂ grew₂ m
-  below-again {ls} {n} {m} x held y =
-      record {
-        ran = λ j k g.
-            y .ran (settingOf (ruleOf rule) j) last (constraintsBelow j m) ws g (named-below (ruleOf rule) j (k .accepted) m)
-            (λ c i. subst (λ (cs : List Outlives). Member c cs) (held .holds j k) (member-right (constraintsBelow j n) (constraintsIn ls) i)) (x .ran j k g);
-      }
-
   pub below-code : {ws′ grew : List ℕ} (n : ℕ) → n ≡ shape .code → RunsBelow s t h walked shape rule first succ chain last ws ws′ grew n → RunsBelow s t h walked shape rule first succ chain last ws ws′ grew (shape .code)
   below-code {ws′} {grew} n e x = subst (λ (k : ℕ). RunsBelow s t h walked shape rule first succ chain last ws ws′ grew k) e x
 

@@ -137,7 +137,7 @@ pub fn regionck(
         );
     } else {
         let mut list = [0; 4097];
-        let mut hot = [0; 1025];
+        let mut hot = [0; 4097];
         solve(
             s,
             layout,

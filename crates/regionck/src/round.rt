@@ -58,8 +58,7 @@ pub fn collect(
     p
 }
 
-// Runs the constraints of point `from` and of those after it, if there are any. They are collected part by part, and those of a part are run again before the next one; so
-// are, at first, those of the points before, which the list `held` has.
+// Runs the constraints of point `from` and of those after it, which are collected part by part.
 fn rest(
     s: &[u8],
     layout: &[u16; 1280],
@@ -74,10 +73,9 @@ fn rest(
     last: &[u8; 128],
     grew: &mut [u8; 128],
     hot: &mut [u32],
-    held: &[u32],
     from: usize,
 )
-    requires { ⌜ (length (now layout) ≡ 1280) × Holding (now s) (now layout) head (now walked) (shape .code) (now held) 0 from ⌝ }
+    requires { ⌜ (length (now layout) ≡ 1280) × (from ≤ shape .code) ⌝ }
     ensures { λ _. ⌜ ((ws : List ℕ) → RunsBelow (now (s .entry)) (now (layout .entry)) head (now (walked .entry)) shape rule (now (first .entry)) (now (succ .entry)) (now (chain .entry))
         (now (last .entry)) ws (now (words .entry)) (now (grew .entry)) from
         → RunsBelow (now (s .entry)) (now (layout .entry)) head (now (walked .entry)) shape rule (now (first .entry)) (now (succ .entry)) (now (chain .entry))
@@ -88,8 +86,7 @@ fn rest(
     if code <= from {
         return;
     }
-    settle(words, first, succ, chain, shape, rule, grew, hot, held);
-    let mut list = [0; 4097];
+    let mut list = [0; 1025];
     let mut p = from;
     while p < code {
         p = collect(s, layout, head, walked, code, p, &mut list);
@@ -105,12 +102,11 @@ fn rest(
             hot,
             &list,
         );
-        settle(words, first, succ, chain, shape, rule, grew, hot, &list);
     }
 }
 
-// Runs the constraints of the list until by them no set grows, at most TIMES times. `grew` marks, by 1, the regions whose sets grew; the constraints by which they did
-// come into the list `hot`, as far as it has room. Nothing is done if `grew` has no mark before.
+// Runs the constraints of the list until by them no set grows, at most TIMES times; at first those whose inner set has a mark in `grew`, which marks, by 1, the regions
+// whose sets grew.
 fn settle(
     words: &mut [u32],
     first: &[u16; 1025],
@@ -119,17 +115,17 @@ fn settle(
     shape: Shape,
     rule: EndRule,
     grew: &mut [u8; 128],
-    hot: &mut [u32],
     list: &[u32],
 )
     ensures { λ _. ⌜ RunsAgain shape rule (now (first .entry)) (now (succ .entry)) (now (chain .entry)) (constraintsIn (now (list .entry)))
-        (now (words .entry)) (now (grew .entry)) (now (words .exit)) (now (grew .exit))
-        × Draws (constraintsIn (now (list .entry))) (now (hot .entry)) (now (hot .exit)) ⌝ }
+        (now (words .entry)) (now (grew .entry)) (now (words .exit)) (now (grew .exit)) ⌝ }
 {
     if !infer::any_marked(grew) {
         return;
     }
-    let mut last = [1; 128];
+    let mut none = [0; 1];
+    let mut last = [0; 128];
+    note(grew, &mut last);
     let mut left = TIMES;
     while left != 0 {
         let mut next = [0; 128];
@@ -142,7 +138,7 @@ fn settle(
             rule,
             &last,
             &mut next,
-            hot,
+            &mut none,
             list,
         );
         if !infer::any_marked(&next) {
@@ -214,20 +210,8 @@ pub fn round(
         last,
         &mut grew,
         hot,
-        list,
         to,
     );
-    let mut none = [0; 1];
-    settle(
-        words,
-        first,
-        succ,
-        chain,
-        shape,
-        rule,
-        &mut grew,
-        &mut none,
-        hot,
-    );
+    settle(words, first, succ, chain, shape, rule, &mut grew, hot);
     grew
 }
