@@ -2,16 +2,16 @@
 use mathlib.Core.Path.{_≡_, refl, sym, ap, ap₂, _∙_}
 use mathlib.Core.Bool.{Bool, true, false, not, _&&_, and-false}
 use mathlib.Core.List.{List}
-use Prim.Native.Nat.{ℕ, zero, suc, _+_, _-_, _*_, _/_, _%_, _^_, _≤_, _<_, max}
+use Prim.Native.Nat.{ℕ, zero, suc, _+_, _-_, _*_, _/_, _%_, _^_, _≤_, _<_, max, min}
 use native.Mathlib.Nat.{mod-lt, mod-le, zero-max, max-zero, pow-suc, mul-mod-left, mul-div-cancel, mul-comm, mul-assoc, div-eq-of-lt, div-self, zero-div, mul-le-mul-right, zero-mul, one-mul, sub-zero, mod-eq-of-lt}
 use native.Mathlib.Numerals.{one-add}
 use native.Mathlib.Omega.{arith}
 use native.Mathlib.Decide.{ℕ-discrete, decLt}
-use lib.ListN.{length, getD, set, length-set, List·getD-eq-default}
+use lib.ListN.{length, getD, set, replicate, length-set, List·getD-eq-default}
 use lib.Seq.{getD-set-same, getD-set-other, set-out, ext-getD, set-getD}
 use lib.Dec.{eqb, ltb}
 use lib.Pow.{pow-pos, pow-lt, pow-add, shr-shr, split}
-use lib.Bits.{bitOr, or-shr, or-mod, or-lt}
+use lib.Bits.{bitAnd, bitOr, and-shr, and-step, or-shr, or-mod, or-lt}
 use borrow.Author.Tests.{eqb-true, eqb-false, eq-eqb, ne-eqb, lt-ltb, le-ltb}
 use Rattle.nll_spec.specs.Output.{wordBits}
 use Rattle.nll_spec.specs.Meaning.{bitOf}
@@ -24,6 +24,13 @@ digit w i = w / 2 ^ i % 2
 
 pub digit-lt : (w i : ℕ) → digit w i < 2
 digit-lt w i = mod-lt (w / 2 ^ i) (omega arith)
+
+-- a digit that two numbers share
+pub both-digits : (a b i : ℕ) → digit (bitAnd a b) i ≡ 1 → (digit a i ≡ 1) × (digit b i ≡ 1)
+both-digits a b i e =
+    let s : bitAnd a b / 2 ^ i ≡ bitAnd (a / 2 ^ i / 2) (b / 2 ^ i / 2) * 2 + min (a / 2 ^ i % 2) (b / 2 ^ i % 2) = and-shr a b i ∙ and-step (a / 2 ^ i) (b / 2 ^ i) in
+    let m : min (digit a i) (digit b i) ≡ 1 = omega (arith, s, e) in
+    (omega (arith, m), omega (arith, m))
 
 pub digit-suc : (x i : ℕ) → digit x (suc i) ≡ digit (x / 2) i
 digit-suc x i = ap (λ (y : ℕ). x / 2 ^ y % 2) (sym (one-add i)) ∙ ap (λ (y : ℕ). y % 2) (sym (shr-shr x 1 i))
@@ -129,6 +136,15 @@ has-not ws j e =
 -- nothing is held past the words
 pub has-out : (ws : List ℕ) (j : ℕ) → length ws ≤ j / wordBits → has ws j ≡ false
 has-out ws j h = ap (λ (w : ℕ). eqb (digit w (j % wordBits)) 1) (List·getD-eq-default ws 0 h) ∙ ap (λ (x : ℕ). eqb (x % 2) 1) (zero-div (2 ^ (j % wordBits)))
+
+-- words that are 0 hold nothing
+pub has-zeros : (n j : ℕ) → has (replicate n 0) j ≡ false
+has-zeros n j = ap (λ (w : ℕ). eqb (digit w (j % wordBits)) 1) (word n (j / wordBits)) ∙ ap (λ (x : ℕ). eqb (x % 2) 1) (zero-div (2 ^ (j % wordBits)))
+  where
+    word : (n k : ℕ) → getD {A = ℕ} (replicate n 0) k 0 ≡ 0
+    word zero k = refl
+    word (suc n) zero = refl
+    word (suc n) (suc k) = word n k
 
 -- every word fits
 abbrev pub Words : List ℕ → Type 0

@@ -1,14 +1,14 @@
 -- A table of constraints. Assumes nothing.
 use mathlib.Core.Path.{_≡_, refl, sym, ap, ap₂, _∙_, subst}
-use mathlib.Core.Logic.{_⊎_, inl, inr, ⊎-elim}
+use mathlib.Core.Logic.{inl, inr, ⊎-elim}
 use mathlib.Core.Bool.{false}
 use mathlib.Core.List.{List, [], _∷_, _++_, append-nil, append-assoc}
-use Prim.Native.Nat.{ℕ, zero, suc, _+_, _-_, _/_, _*_, _%_, _≤_, _<_}
+use Prim.Native.Nat.{ℕ, zero, suc, _+_, _/_, _*_, _%_, _≤_, _<_}
 use native.Mathlib.Omega.{arith}
 use native.Mathlib.Numerals.{add-one}
 use lib.ListN.{length, getD, set, length-set, length-append, List·getD-eq-default}
 use lib.Seq.{getD-set-same, getD-set-other}
-use Rattle.nll_spec.specs.Lists.{Member}
+use Rattle.nll_spec.specs.Lists.{Member, here, there}
 use Rattle.nll_spec.specs.Constraints.{Outlives}
 use Rattle.nll_spec.proofs.Members.{every-member, member-left, member-right, member-append}
 use Rattle.constraint_list.specs.Listed.{outlivesFrom, countIn, roomIn, firstIn, constraintsIn, Adds, Draws}
@@ -44,6 +44,22 @@ first-none t = refl
 pub first-more : (t : List ℕ) (n : ℕ) → firstIn t (n + 1) ≡ firstIn t n ++ (outlivesFrom (getD t (n + 1) 0) ∷ [])
 unfolding firstIn
 first-more t n = rw (add-one n)
+
+no-member : {c : Outlives} → Member c [] → ⊥
+no-member {c} m = every-member (λ (x : Outlives). false) [] tt m
+
+member-one : {c d : Outlives} → Member c (d ∷ []) → d ≡ c
+member-one here = refl
+member-one (there m) = absurd (no-member m)
+
+-- where one of them stands
+pub first-place : (t : List ℕ) (n : ℕ) {c : Outlives} → Member c (firstIn t n) → (i : ℕ) × (i < n) × (outlivesFrom (getD t (suc i) 0) ≡ c)
+unfolding firstIn
+first-place t zero m = absurd (no-member m)
+first-place t (suc n) {c} m = ⊎-elim
+    (λ k. let p = first-place t n k in (p .0, (let l = p .1 in omega (arith, l)), p .2))
+    (λ k. (n, omega arith, member-one k))
+    (member-append (firstIn t n) (outlivesFrom (getD t (suc n) 0) ∷ []) m)
 
 -- ---- Constraints that come after those of the table
 
@@ -90,9 +106,6 @@ adds-append {cs} {ds} {t} {t₁} {t₂} x y = record {
 }
 
 -- ---- What is drawn from others
-
-no-member : {c : Outlives} → Member c [] → ⊥
-no-member {c} m = every-member (λ (x : Outlives). false) [] tt m
 
 pub draws-none : {cs : List Outlives} {t : List ℕ} → Draws cs t t
 draws-none = record { drawn = λ c m. inl m }

@@ -3,7 +3,7 @@ use mathlib.Core.Path.{_≡_, refl, sym, ap, _∙_}
 use mathlib.Core.Logic.{_⊎_, inl, inr}
 use mathlib.Core.Bool.{Bool, true}
 use mathlib.Core.List.{List}
-use Prim.Native.Nat.{ℕ, zero, suc, _+_, _-_, _*_, _/_, _%_, _^_, _≤_, _<_, min, max}
+use Prim.Native.Nat.{ℕ, zero, suc, _+_, _-_, _*_, _/_, _%_, _^_, _≤_, _<_, max}
 use native.Mathlib.Nat.{pow-suc, mul-assoc, div-eq-of-lt}
 use native.Mathlib.Decide.{ℕ-discrete, decLt}
 use native.Mathlib.Omega.{arith}
@@ -11,12 +11,12 @@ use lib.ListN.{length, getD, set, length-set}
 use lib.Seq.{getD-set-same, getD-set-other}
 use lib.Dec.{eqb}
 use lib.Pow.{pow-mono, shl-exact, shl-shr, shr-shr, shr-le, shr-lt}
-use lib.Bits.{bitAnd, bitOr, and-le-l, and-shr, and-step}
+use lib.Bits.{bitAnd, bitOr, and-le-l}
 use lib.Count.{trailingZeros, under, trailing-of-zero}
 use borrow.Author.Tests.{eqb-true, eq-eqb, lt-ltb}
 use Rattle.nll_spec.specs.Output.{wordBits}
 use Rattle.bit_set.specs.Bits.{has}
-use Rattle.bit_set.proofs.BitLaws.{digit, digit-lt, digit-or, digit-suc, place}
+use Rattle.bit_set.proofs.BitLaws.{digit, digit-lt, digit-or, digit-suc, place, both-digits}
 use Rattle.dfs.specs.Walk.{inCode, Along, Stopped, Run, Mask}
 use Rattle.dfs.proofs.ChainLaws.{at-zero}
 
@@ -27,12 +27,6 @@ full = 4294967295
 
 digit-shr : (w s i : ℕ) → digit (w / 2 ^ s) i ≡ digit w (s + i)
 digit-shr w s i = ap (λ (x : ℕ). x % 2) (shr-shr w s i)
-
-digit-and : (a b i : ℕ) → digit (bitAnd a b) i ≡ 1 → (digit a i ≡ 1) × (digit b i ≡ 1)
-digit-and a b i e =
-    let s : bitAnd a b / 2 ^ i ≡ bitAnd (a / 2 ^ i / 2) (b / 2 ^ i / 2) * 2 + min (a / 2 ^ i % 2) (b / 2 ^ i % 2) = and-shr a b i ∙ and-step (a / 2 ^ i) (b / 2 ^ i) in
-    let m : min (digit a i) (digit b i) ≡ 1 = omega (arith, s, e) in
-    (omega (arith, m), omega (arith, m))
 
 -- the digits of y below the lowest 0 are 1: n is y with each of k digits turned
 ones-below : (k y n i : ℕ) → n + y + 1 ≡ 2 ^ k → i < trailingZeros k n → digit y i ≡ 1
@@ -91,7 +85,7 @@ run-steps links inner b l =
     small = omega (arith, shr-le (bitAnd links (inner / 2 ^ 1)) b, and-le-l links (inner / 2 ^ 1))
 
     at : (i : ℕ) → i < trailingZeros 32 (4294967295 - y) → (digit links (b + i) ≡ 1) × (digit (inner / 2 ^ 1) (b + i) ≡ 1)
-    at i t = digit-and links (inner / 2 ^ 1) (b + i) (sym (digit-shr (bitAnd links (inner / 2 ^ 1)) b i) ∙ ones-below 32 y (4294967295 - y) i (omega (arith, small, l)) t)
+    at i t = both-digits links (inner / 2 ^ 1) (b + i) (sym (digit-shr (bitAnd links (inner / 2 ^ 1)) b i) ∙ ones-below 32 y (4294967295 - y) i (omega (arith, small, l)) t)
 
 pub mask-bits : (b n : ℕ) → b + n < 32 → Mask b n (4294967295 / 2 ^ (31 - n) * 2 ^ b % 2 ^ 32)
 mask-bits b n l = rw exact record { inside = inside′; only = only′ }

@@ -86,8 +86,9 @@ met-stays s a b c down up m =
 pub no-member : {c : Outlives} → Member c [] → ⊥
 no-member m = not-suc-le-zero (member-place noConstraint m .1)
 
-pub ran-none : (s : Setting) (last ws grew : List ℕ) → Ran s last [] ws grew ws grew
-ran-none s last ws grew =
+-- constraints that are passed by, as no inner set of theirs has a mark of the last round
+pub ran-passed : (s : Setting) (last ws grew : List ℕ) {cs : List Outlives} → ((c : Outlives) → Member c cs → Marked last (c .sub) → ⊥) → Ran s last cs ws grew ws grew
+ran-passed s last ws grew idle =
     record {
       as-long = refl;
       as-many = refl;
@@ -97,9 +98,12 @@ ran-none s last ws grew =
       still = λ r m. m;
       marked = λ r q h. inl h;
       earned = λ r m. inl m;
-      met = λ ready c m. absurd (no-member m);
+      met = λ ready c m. ⊎-elim (λ k. inl k) (λ k. ⊎-elim (λ i. absurd (idle c m i)) (λ i. inr i) k) (ready c m);
       within = λ sets w met. w;
     }
+
+pub ran-none : (s : Setting) (last ws grew : List ℕ) → Ran s last [] ws grew ws grew
+ran-none s last ws grew = ran-passed s last ws grew (λ c m. absurd (no-member m))
 
 -- a constraint that was met is met, or its inner set grew
 carry : {s : Setting} {last ws grew ws′ grew′ : List ℕ} {cs : List Outlives} → Ran s last cs ws grew ws′ grew′ → (c : Outlives) → Met s (setsOf s ws) c

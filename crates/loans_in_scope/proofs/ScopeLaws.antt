@@ -3,10 +3,9 @@ use mathlib.Core.Path.{_≡_, refl, sym, ap, ap₂, _∙_, subst}
 use mathlib.Core.Logic.{_⊎_, inl, inr}
 use mathlib.Core.Bool.{Bool, true, false, not, _&&_, true≢false}
 use mathlib.Core.List.{List}
-use Prim.Native.Nat.{ℕ, zero, suc, _+_, _*_, _/_, _%_, _^_, _<_, _≤_}
-use native.Mathlib.Nat.{zero-div}
+use Prim.Native.Nat.{ℕ, _+_, _*_, _<_, _≤_}
 use native.Mathlib.Omega.{arith}
-use lib.ListN.{length, getD, replicate, length-replicate}
+use lib.ListN.{length, replicate, length-replicate}
 use lib.Dec.{T, eqb}
 use Rattle.nll_spec.specs.Fixpoint.{Table, holds}
 use Rattle.nll_spec.specs.Syntax.{Job, Point}
@@ -18,14 +17,13 @@ use Rattle.nll_spec.specs.Meaning.{Next}
 use Rattle.nll_spec.proofs.Tests.{is-true}
 use Rattle.nll_spec.proofs.GraphLaws.{code-count}
 use Rattle.bit_set.specs.Bits.{has, cleared}
-use Rattle.bit_set.proofs.BitLaws.{digit}
+use Rattle.bit_set.proofs.BitLaws.{has-zeros}
 use Rattle.bit_set.proofs.RunLaws.{and-true-left, and-true-right}
 use Rattle.bit_set.proofs.SetLaws.{has-cleared}
 use Rattle.record.specs.declared.Head.{Head}
 use Rattle.graph.specs.Tables.{Edges}
 use Rattle.flow.specs.Flows.{bitAt, FlowSays}
 use Rattle.flow.specs.declared.Direction.the-variants.{Forward}
-use Rattle.flow.proofs.RunningLaws.{has-word}
 use Rattle.graph.proofs.EntryLaws.{edge-next, next-edge}
 use Rattle.loans_in_scope.specs.Gains.{Gains, Tables, tables, Sized, Empty, Filled, Below, Rows, Masked}
 use Rattle.loans_in_scope.specs.Scope.{killed, jobBits, Given, PointsFilled, ScopeSays}
@@ -35,19 +33,6 @@ use Rattle.loans_in_scope.proofs.PathLaws.{scope-to, to-scope, scope-sa
 
 -- ---- Sets that were empty
 
-no-word : (n k : ℕ) → getD {A = ℕ} (replicate n 0) k 0 ≡ 0
-no-word zero k = refl
-no-word (suc n) zero = refl
-no-word (suc n) (suc k) = no-word n k
-
-no-bit : (n p i : ℕ) → i < 128 → has (replicate n 0) (bitAt p i) ≡ false
-no-bit n p i l =
-    let z : wordBits * (4 * p + i / wordBits) + i % wordBits ≡ bitAt p i = omega arith in
-    ap (has (replicate n 0)) (sym z) ∙ has-word (replicate n 0) (4 * p + i / wordBits) (i % wordBits) (omega arith) ∙ ap (λ (x : ℕ). eqb (digit x (i % wordBits)) 1) (no-word n (4 * p + i / wordBits)) ∙ zero-digit (i % wordBits)
-  where
-    zero-digit : (b : ℕ) → eqb (digit 0 b) 1 ≡ false
-    zero-digit b = ap (λ (x : ℕ). eqb (x % 2) 1) (zero-div (2 ^ b))
-
 -- three tables of n words
 abbrev zeros : ℕ → Tables
 zeros n = tables (replicate n 0) (replicate n 0) (replicate n 0)
@@ -56,7 +41,7 @@ pub zeros-sized : (n code : ℕ) → 4 * code ≤ n → Sized code (zeros n)
 zeros-sized n code l = let e = length-replicate {A = ℕ} n 0 in record { start = omega (arith, e); pass = omega (arith, e); region = omega (arith, e) }
 
 pub zeros-empty : (n : ℕ) → Empty (zeros n)
-zeros-empty n = record { start = no-bit n; pass = no-bit n; region = no-bit n }
+zeros-empty n = record { start = λ p i l. has-zeros n (bitAt p i); pass = λ p i l. has-zeros n (bitAt p i); region = λ p i l. has-zeros n (bitAt p i) }
 
 -- ---- All of it
 

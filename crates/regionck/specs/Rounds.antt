@@ -1,6 +1,6 @@
 -- What rounds of a job's constraints do to the regions' sets.
 use mathlib.Core.Path.{_≡_}
-use mathlib.Core.Bool.{cond}
+use mathlib.Core.Bool.{true, cond}
 use mathlib.Core.List.{List, [], _++_}
 use Prim.Native.Nat.{ℕ, _≤_, _<_}
 use lib.ListN.{length, getD, replicate}
@@ -24,6 +24,7 @@ use Rattle.infer.specs.Ran.{Setting, Words, Given, AllNamed, Ran}
 use Rattle.infer.specs.declared.EndRule as declared
 use Rattle.infer.specs.declared.Shape.{Shape}
 use Rattle.constraint_list.specs.Listed.{constraintsIn, Adds}
+use Rattle.absent_regions.specs.Absent.{rowBit}
 
 -- what the constraints of a job are run in
 abbrev pub settingOf : EndRule → Job → Setting
@@ -61,6 +62,10 @@ pub record Holding (s t : List ℕ) (h : Head) (walked : List ℕ) (code : ℕ) 
 pub record Collects (s t : List ℕ) (h : Head) (walked : List ℕ) (code from : ℕ) (ls : List ℕ) (r : ℕ) : Type 0 where
   pub later : from < code → from < r
   pub holding : Holding s t h walked code ls from r
+
+-- No region of a point's row is the inner one of a constraint of the point.
+pub record Sound (s t : List ℕ) (h : Head) (walked : List ℕ) (code : ℕ) (absent : List ℕ) : Type 0 where
+  pub none : (j : Job) → Known s t h walked code j → (p : Point) (c : Outlives) → p < code → Member c (walkedAt j p) → has absent (rowBit p (c .sub)) ≡ true → ⊥
 
 -- The constraints of the first n points are run, from no marks on.
 pub record RunsBelow (s t : List ℕ) (h : Head) (walked : List ℕ) (shape : Shape) (rule : declared.EndRule) (first succ chain last ws ws′ grew : List ℕ) (n : ℕ) : Type 0 where

@@ -7,11 +7,12 @@ use record::Head;
 use round::collect;
 use round::round;
 ghost use mathlib.Core.Path.{_≡_};
-ghost use mathlib.Core.Bool.{cond};
-ghost use Prim.Native.Nat.{_≤_};
+ghost use mathlib.Core.Bool.{cond, false};
+ghost use Prim.Native.Nat.{ℕ, _≤_};
 ghost use lib.ListN.{length};
 ghost use lib.Dec.{eqb};
 ghost use Rattle.nll_spec.specs.Syntax.{Job};
+ghost use Rattle.bit_set.specs.Bits.{has};
 ghost use Rattle.infer.specs.Search.{ruleOf};
 ghost use Rattle.dfs.specs.Walk.{Chained};
 ghost use Rattle.regionck.specs.Rounds.{Cleared, Noted, Seeded, Solved};
@@ -49,7 +50,7 @@ fn note(grew: &[u8; 128], grown: &mut [u8; 128])
 }
 
 // Runs rounds until no set grows. `grown` marks, by 1, the regions whose sets grew. The constraints for which the list has room are derived once; `hot` gets those
-// by which regions were marked.
+// by which regions were marked; the rows of `absent` get regions that no constraint of a point has as its inner one.
 fn solve(
     s: &[u8],
     layout: &[u16; 1280],
@@ -64,8 +65,9 @@ fn solve(
     grown: &mut [u8; 128],
     list: &mut [u32],
     hot: &mut [u32],
+    absent: &mut [u32],
 )
-    requires { ⌜ (length (now layout) ≡ 1280) × (length (now grown) ≡ 128) × (265 ≤ length (now list)) ⌝ }
+    requires { ⌜ (length (now layout) ≡ 1280) × (length (now grown) ≡ 128) × (265 ≤ length (now list)) × ((i : ℕ) → has (now absent) i ≡ false) ⌝ }
     ensures { λ _. ⌜ (length (now (grown .exit)) ≡ 128) × ((j : Job) → Seeded (now (s .entry)) (now (layout .entry)) head (now (first .entry)) (now (succ .entry)) (now (walked .entry)) shape (now (words .entry)) j
         → Chained (now (chain .entry)) (now (first .entry)) (now (succ .entry)) → Solved (ruleOf rule) j (now (words .entry)) (now (words .exit)) (now (grown .exit))) ⌝ }
 {
@@ -88,6 +90,7 @@ fn solve(
             chain,
             &last,
             hot,
+            absent,
             list,
             to,
         );
@@ -120,6 +123,7 @@ pub fn regionck(
     if shape.code <= 64 {
         let mut list = [0; 513];
         let mut hot = [0; 257];
+        let mut absent = [0; 256];
         solve(
             s,
             layout,
@@ -134,10 +138,12 @@ pub fn regionck(
             grown,
             &mut list,
             &mut hot,
+            &mut absent,
         );
     } else {
         let mut list = [0; 4097];
         let mut hot = [0; 4097];
+        let mut absent = [0; 4096];
         solve(
             s,
             layout,
@@ -152,6 +158,7 @@ pub fn regionck(
             grown,
             &mut list,
             &mut hot,
+            &mut absent,
         );
     }
 }

@@ -7,10 +7,10 @@ use record::Head;
 use relate::Site;
 ghost use mathlib.Core.Path.{_≡_};
 ghost use mathlib.Core.List.{List, []};
-ghost use Prim.Native.Nat.{ℕ, _≤_};
+ghost use Prim.Native.Nat.{ℕ, _+_, _≤_, _<_};
 ghost use lib.ListN.{length};
 ghost use Rattle.constraint_list.specs.Listed.{constraintsIn, Draws};
-ghost use Rattle.regionck.specs.Rounds.{PointAdds, Collects, Holding, RunsBelow, OwnKept, RunsAgain, RoundRuns};
+ghost use Rattle.regionck.specs.Rounds.{PointAdds, Collects, Holding, Sound, RunsBelow, OwnKept, RunsAgain, RoundRuns};
 
 // No action makes more constraints.
 const MOST: usize = 264;
@@ -58,7 +58,54 @@ pub fn collect(
     p
 }
 
-// Runs the constraints of point `from` and of those after it, which are collected part by part.
+// Runs the constraints of point p. It is passed by if no region with a mark is the inner one of a constraint of the point, by its row of `absent`.
+fn visit(
+    s: &[u8],
+    layout: &[u16; 1280],
+    head: Head,
+    walked: &[u32; 32],
+    shape: Shape,
+    rule: EndRule,
+    words: &mut [u32],
+    first: &[u16; 1025],
+    succ: &[u16; 1536],
+    chain: &[u32; 32],
+    last: &[u8; 128],
+    grew: &mut [u8; 128],
+    hot: &mut [u32],
+    absent: &mut [u32],
+    p: usize,
+)
+    requires { ⌜ (length (now layout) ≡ 1280) × (p < shape .code) × Sound (now s) (now layout) head (now walked) (shape .code) (now absent) ⌝ }
+    ensures { λ _. ⌜ ((ws : List ℕ) → RunsBelow (now (s .entry)) (now (layout .entry)) head (now (walked .entry)) shape rule (now (first .entry)) (now (succ .entry)) (now (chain .entry))
+        (now (last .entry)) ws (now (words .entry)) (now (grew .entry)) p
+        → RunsBelow (now (s .entry)) (now (layout .entry)) head (now (walked .entry)) shape rule (now (first .entry)) (now (succ .entry)) (now (chain .entry))
+        (now (last .entry)) ws (now (words .exit)) (now (grew .exit)) (p + 1))
+        × OwnKept (now (s .entry)) (now (layout .entry)) head (now (walked .entry)) (shape .code) (now (hot .entry)) (now (hot .exit))
+        × Sound (now (s .entry)) (now (layout .entry)) head (now (walked .entry)) (shape .code) (now (absent .exit)) ⌝ }
+{
+    let marks = absent_regions::marked(last, grew);
+    if absent_regions::all_in(absent, p, &marks) {
+        return;
+    }
+    let mut list = [0; 265];
+    point(s, layout, head, walked, p, &mut list);
+    absent_regions::put(&list, p, absent);
+    infer::run(
+        words,
+        first,
+        succ,
+        chain,
+        shape,
+        rule,
+        last,
+        grew,
+        hot,
+        &list,
+    );
+}
+
+// Runs the constraints of point `from` and of those after it.
 fn rest(
     s: &[u8],
     layout: &[u16; 1280],
@@ -73,35 +120,38 @@ fn rest(
     last: &[u8; 128],
     grew: &mut [u8; 128],
     hot: &mut [u32],
+    absent: &mut [u32],
     from: usize,
 )
-    requires { ⌜ (length (now layout) ≡ 1280) × (from ≤ shape .code) ⌝ }
+    requires { ⌜ (length (now layout) ≡ 1280) × (from ≤ shape .code) × Sound (now s) (now layout) head (now walked) (shape .code) (now absent) ⌝ }
     ensures { λ _. ⌜ ((ws : List ℕ) → RunsBelow (now (s .entry)) (now (layout .entry)) head (now (walked .entry)) shape rule (now (first .entry)) (now (succ .entry)) (now (chain .entry))
         (now (last .entry)) ws (now (words .entry)) (now (grew .entry)) from
         → RunsBelow (now (s .entry)) (now (layout .entry)) head (now (walked .entry)) shape rule (now (first .entry)) (now (succ .entry)) (now (chain .entry))
         (now (last .entry)) ws (now (words .exit)) (now (grew .exit)) (shape .code))
-        × OwnKept (now (s .entry)) (now (layout .entry)) head (now (walked .entry)) (shape .code) (now (hot .entry)) (now (hot .exit)) ⌝ }
+        × OwnKept (now (s .entry)) (now (layout .entry)) head (now (walked .entry)) (shape .code) (now (hot .entry)) (now (hot .exit))
+        × Sound (now (s .entry)) (now (layout .entry)) head (now (walked .entry)) (shape .code) (now (absent .exit)) ⌝ }
 {
     let code = shape.code;
-    if code <= from {
-        return;
-    }
-    let mut list = [0; 1025];
     let mut p = from;
     while p < code {
-        p = collect(s, layout, head, walked, code, p, &mut list);
-        infer::run(
+        visit(
+            s,
+            layout,
+            head,
+            walked,
+            shape,
+            rule,
             words,
             first,
             succ,
             chain,
-            shape,
-            rule,
             last,
             grew,
             hot,
-            &list,
+            absent,
+            p,
         );
+        p += 1;
     }
 }
 
@@ -174,13 +224,16 @@ pub fn round(
     chain: &[u32; 32],
     last: &[u8; 128],
     hot: &mut [u32],
+    absent: &mut [u32],
     list: &[u32],
     to: usize,
 ) -> [u8; 128]
-    requires { ⌜ (length (now layout) ≡ 1280) × Holding (now s) (now layout) head (now walked) (shape .code) (now list) 0 to ⌝ }
+    requires { ⌜ (length (now layout) ≡ 1280) × Holding (now s) (now layout) head (now walked) (shape .code) (now list) 0 to
+        × Sound (now s) (now layout) head (now walked) (shape .code) (now absent) ⌝ }
     ensures { λ r. ⌜ RoundRuns (now (s .entry)) (now (layout .entry)) head (now (walked .entry)) shape rule (now (first .entry)) (now (succ .entry)) (now (chain .entry))
         (now (last .entry)) (now (hot .entry)) (now (words .entry)) (now (words .exit)) r
-        × OwnKept (now (s .entry)) (now (layout .entry)) head (now (walked .entry)) (shape .code) (now (hot .entry)) (now (hot .exit)) ⌝ }
+        × OwnKept (now (s .entry)) (now (layout .entry)) head (now (walked .entry)) (shape .code) (now (hot .entry)) (now (hot .exit))
+        × Sound (now (s .entry)) (now (layout .entry)) head (now (walked .entry)) (shape .code) (now (absent .exit)) ⌝ }
 {
     let mut grew = [0; 128];
     make_room(hot);
@@ -210,6 +263,7 @@ pub fn round(
         last,
         &mut grew,
         hot,
+        absent,
         to,
     );
     settle(words, first, succ, chain, shape, rule, &mut grew, hot);

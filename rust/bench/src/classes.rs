@@ -2,7 +2,7 @@
 
 use generate::jobs::{dense, slow, Size, LARGE, LARGEST, MEDIUM, SMALL, TINY};
 use generate::rng::Rng;
-use generate::worst::{self, Clock, Relay};
+use generate::worst::{self, Clock, Gates, Relay};
 use original::Order;
 
 pub struct Class {
@@ -70,9 +70,23 @@ pub fn slowest() -> Vec<(String, Vec<u8>)> {
     for clock in [apart(20, 1), apart(100, 1), apart(450, 1), apart(450, 6), apart(600, 6), apart(740, 6)] {
         found.push((format!("{clock:?}"), worst::clock(&clock)));
     }
-    let relays = [(60, 300, false, 0), (90, 440, true, 0), (90, 440, true, 6), (90, 600, false, 6)];
-    for relay in relays.map(|(hops, assignments, fed, steps)| Relay::of(hops, assignments, fed, steps)) {
+    let of = |hops, assignments, fed, steps, parts| Relay { parts, ..Relay::of(hops, assignments, fed, steps) };
+    for relay in [
+        of(60, 300, false, 0, 1),
+        of(90, 440, true, 0, 1),
+        of(90, 440, true, 6, 1),
+        of(90, 600, false, 6, 1),
+        of(90, 440, true, 0, 20),
+        of(90, 600, false, 6, 12),
+    ] {
         found.push((format!("{relay:?}"), worst::relay(&relay)));
+    }
+    // Few constraints in many rounds, and few rounds of many constraints. The largest gates take over half an hour, by estimate.
+    let largest = Gates::largest();
+    for gates in
+        [Gates { chain: 120, areas: 8, tokens: 2, assignments: 60, ..largest }, Gates { chain: 4, tokens: 1, ..largest }]
+    {
+        found.push((format!("{gates:?}"), worst::gates(&gates)));
     }
     found.extend([2, 8, 32].map(|nodes| (format!("dense {nodes}"), dense(&mut Rng::new(1), nodes))));
     found.extend([2, 8, 32].map(|nodes| (format!("slow {nodes}"), slow(&mut Rng::new(1), nodes))));

@@ -46,9 +46,13 @@ fn regions_and_a_type() -> Vec<StructDecl> {
 }
 
 fn three_and(names: [RegionName; 3], ty: Ty) -> Ty {
+    three_of(1, names, ty)
+}
+
+fn three_of(name: StructName, names: [RegionName; 3], ty: Ty) -> Ty {
     let mut args = names.map(|name| Arg::Region(Region::Free(name))).to_vec();
     args.push(Arg::Ty(ty));
-    Ty::Struct(1, args)
+    Ty::Struct(name, args)
 }
 
 /// A type of so many nodes with as many regions as these can have: 97 for 32 nodes.
@@ -168,12 +172,15 @@ pub struct Relay {
     pub fed: bool,
     /// The steps of the assigned paths, each to a type that is the argument of a struct or made by substitution.
     pub steps: usize,
+    /// In how many parts the assignments stand, at least 1. The chain's Constraints stand after the parts, those of following regions after
+    /// different ones, in the order against that of the chain.
+    pub parts: usize,
 }
 
 impl Relay {
     /// As many points after the chain as there is room for.
     pub fn of(hops: usize, assignments: usize, fed: bool, steps: usize) -> Relay {
-        Relay { hops, assignments, ticks: MAX_POINTS - 24 - hops - assignments, fed, steps }
+        Relay { hops, assignments, ticks: MAX_POINTS - 24 - hops - assignments, fed, steps, parts: 1 }
     }
 }
 
@@ -182,8 +189,12 @@ pub fn relay(relay: &Relay) -> Vec<u8> {
     let init = |variable, source| Action::Init(Path::variable(variable), vec![Path::variable(source)]);
     let mut actions = vec![Action::Constraint { sup: 0, sub: relay.hops }];
     let related = |variable| path(variable, vec![1; relay.steps]);
-    actions.extend(vec![Action::Assign(related(to), related(from)); relay.assignments]);
-    actions.extend((0..relay.hops).rev().map(|hop| Action::Constraint { sup: hop + 1, sub: hop }));
+    for part in 0..relay.parts {
+        let until = |part| relay.assignments * part / relay.parts;
+        actions.extend(vec![Action::Assign(related(to), related(from)); until(part + 1) - until(part)]);
+        let after = |hop: &usize| hop % relay.parts == relay.parts - 1 - part;
+        actions.extend((0..relay.hops).rev().filter(after).map(|hop| Action::Constraint { sup: hop + 1, sub: hop }));
+    }
     actions.push(Action::Init(Path::variable(both), vec![Path::variable(lower), Path::variable(upper)]));
     actions.extend((1..relay.ticks).map(|tick| if tick % 2 == 1 { init(upper, lower) } else { init(lower, upper) }));
     let chain = relay.hops + 1;
@@ -200,6 +211,117 @@ pub fn relay(relay: &Relay) -> Vec<u8> {
     let [to, from] = [large_type(nodes, other), large_type(nodes, source)].map(within);
     let variables = vec![to, from, holding(1..chain), holding(0..1), Ty::Unit];
     record(&Job { structs, regions: REGIONS, outlives: vec![], variables, blocks: in_a_row(&actions) })
+}
+
+// ---- Many rounds, in each of which all constraints are run
+
+/// A job in which tokens go through a chain of regions, one token after another. A token is a point that the chain's regions lack at
+/// first. Each region of the chain outlives the one before it by an assignment at the start of the record or by one near its end, in
+/// turn, so that a token goes two regions further in a round. Such a pair of assignments and a row of tokens make up an area, and no
+/// walk through the chain's regions leaves its area. When a token has come to the last region, others bring the next token, which is
+/// in the next area, to the first region. So the constraints of an area are used again only after those of all others.
+///
+/// Between the two assignments of each area stand others, which relate two regions that hold nearly all points. Each of the two has a
+/// point that the other lacks, so that only a walk finds that a constraint adds nothing, and it goes through all blocks.
+#[derive(Clone, Copy, Debug)]
+pub struct Gates {
+    /// The regions of the chain, an even number. There are four others, and two for each token of an area.
+    pub chain: usize,
+    /// An even number.
+    pub areas: usize,
+    /// The tokens of an area.
+    pub tokens: usize,
+    /// The assignments between, each of 94 pairs of regions, or of 97 without steps, both ways.
+    pub assignments: usize,
+    /// The steps of their paths, each to a type that is the argument of a struct or made by substitution.
+    pub steps: usize,
+}
+
+impl Gates {
+    /// All 128 regions and 1,024 points.
+    pub fn largest() -> Gates {
+        Gates { chain: 100, areas: 26, tokens: 12, assignments: 439, steps: 6 }
+    }
+}
+
+/// The variables of gates: the chain's even regions, its odd ones, and those after these; two of large types; for areas of even and of
+/// odd number, what is assigned and what to, to bring the next token; one that gives the first token; and those of the bringing regions.
+const EVEN: Variable = 0;
+const ODD: Variable = 1;
+const AFTER_ODD: Variable = 2;
+const LARGE: [Variable; 2] = [3, 4];
+const CALLING: [Variable; 2] = [5, 6];
+const CALLED: [Variable; 2] = [7, 8];
+const FIRST: Variable = 9;
+const BRINGING: Variable = 10;
+
+pub fn gates(gates: &Gates) -> Vec<u8> {
+    let Gates { chain, tokens, steps, .. } = *gates;
+    let mut structs = regions_and_a_type();
+    let around = structs.len();
+    structs.extend(in_turn(around, steps));
+    // as struct 1, but covariant: what is assigned to outlives what is assigned
+    let covariant = structs.len();
+    let params = structs[1].params.iter().map(|param| Param { variance: Variance::Co, ..*param }).collect();
+    structs.push(StructDecl { params, fields: vec![] });
+    let of = |names: Vec<RegionName>| {
+        let around = |ty, names: &[RegionName]| three_of(covariant, [0, 1, 2].map(|i| names[i.min(names.len() - 1)]), ty);
+        names.chunks(3).fold(Ty::Unit, around)
+    };
+    let every_other = |first: usize| of((first..first + chain).step_by(2).map(|name| name.min(chain - 1)).collect());
+    // Regions that go from a token to the next one, where the first is in an area of even or odd number, and those that get it from them.
+    let bringing = |odd: usize| (0..tokens).map(move |index| chain + 2 * index + odd);
+    let brought = |odd: usize| chain + 2 * tokens + odd;
+    let held = |index: usize| chain + 2 * tokens + 2 + index;
+    let calling = |odd| of(vec![chain - 1; tokens].into_iter().chain(bringing(odd)).chain([brought(1 - odd)]).collect());
+    let called = |odd| of(bringing(odd).chain(vec![brought(odd); tokens]).chain([0]).collect());
+    let within = |ty| if steps == 0 { ty } else { Ty::Struct(around, vec![Arg::Ty(ty)]) };
+    let large = |index| within(large_type(MAX_NODES - steps.min(1), |_| held(index)));
+    let pointer = |name| reference(BorrowKind::Shared, name, Ty::Unit);
+    let mut variables = [0, 1, 2].map(every_other).to_vec();
+    variables.extend([large(0), large(1), calling(0), calling(1), called(0), called(1), pointer(0)]);
+    variables.extend((chain..brought(0)).map(pointer));
+    record(&Job { structs, regions: held(2), outlives: vec![], variables, blocks: gates_blocks(gates) })
+}
+
+/// The first assignments of the areas, those between, an end, a block whose point no region holds, and the areas.
+fn gates_blocks(gates: &Gates) -> Vec<Block> {
+    let Gates { areas, tokens, assignments, steps, .. } = *gates;
+    let init = |variable, sources: &[Variable]| {
+        Action::Init(Path::variable(variable), sources.iter().map(|&source| Path::variable(source)).collect())
+    };
+    let assign = |to, from| Action::Assign(Path::variable(to), Path::variable(from));
+    let end = areas + assignments.div_ceil(ACTIONS);
+    let shut = end + 1;
+    let area_at = |area: usize| shut + 1 + area % areas;
+    // a walk looks at all eight successors
+    let block = |mut successors: Vec<BlockIndex>, actions| {
+        successors.resize(8, shut);
+        Block { successors, actions }
+    };
+    let mut blocks = vec![];
+    for area in 0..areas {
+        blocks.push(block(vec![area_at(area), area + 1], vec![init(EVEN, &[]), assign(ODD, EVEN)]));
+    }
+    let [to, from] = LARGE.map(|variable| path(variable, vec![1; steps]));
+    for actions in vec![Action::Assign(to, from); assignments].chunks(ACTIONS) {
+        blocks.push(block(vec![0, blocks.len() + 1], actions.to_vec()));
+    }
+    let [to, from] = LARGE;
+    let apart = vec![init(FIRST, &LARGE), init(to, &[]), init(from, &[to]), Action::Use(Path::variable(from))];
+    blocks.extend([apart, vec![]].map(|actions| Block { successors: vec![], actions }));
+    let bringing = |token: usize| BRINGING + 2 * (token / areas) + token % 2;
+    for area in 0..areas {
+        let mut actions = vec![init(CALLING[area % 2], &[]), assign(CALLED[area % 2], CALLING[area % 2])];
+        actions.extend([assign(AFTER_ODD, ODD), init(FIRST, &[EVEN, ODD])]);
+        actions.extend((0..tokens).map(|index| match areas * index + area {
+            0 => init(bringing(0), &[FIRST]),
+            token => init(bringing(token), &[bringing(token - 1)]),
+        }));
+        actions.extend([init(EVEN, &[]), init(ODD, &[])]);
+        blocks.push(block(vec![area_at(area + 1), end], actions));
+    }
+    blocks
 }
 
 // ---- Many loans, much that is live, sets that go far
@@ -356,6 +478,9 @@ mod tests {
         let clocks = [1, 2, 100, 450, 600].map(|assignments| [1, 2, 6].map(|steps| of(assignments, steps)));
         let mut records: Vec<Vec<u8>> = clocks.concat();
         records.extend([0, 1, 6].map(|steps| relay(&Relay::of(60, 300, steps > 0, steps))));
+        records.extend([2, 12, 30].map(|parts| relay(&Relay { parts, ..Relay::of(90, 600, false, 6) })));
+        let few = |steps| Gates { chain: 4, areas: 2, tokens: 1, assignments: 1, steps };
+        records.extend([few(0), few(1), few(6), Gates::largest()].iter().map(gates));
         records.extend((0..7).map(loans));
         records.extend(deep());
         records.extend([far(), live()]);

@@ -55,7 +55,8 @@ fn much_work() -> Vec<Vec<u8>> {
         clock(2, 30, true, 6),
         clock(60, 20, false, 2),
     ];
-    let relay = |hops, assignments, ticks, fed, steps| worst::relay(&Relay { hops, assignments, ticks, fed, steps });
+    let relay =
+        |hops, assignments, ticks, fed, steps| worst::relay(&Relay { hops, assignments, ticks, fed, steps, parts: 1 });
     found.extend([relay(12, 3, 20, false, 0), relay(12, 3, 20, true, 2), relay(90, 1, 8, true, 0)]);
     found.extend((0..7).map(worst::loans));
     found.extend([worst::far(), worst::live()]);

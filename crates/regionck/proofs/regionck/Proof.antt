@@ -1,5 +1,7 @@
 -- `regionck::regionck`: the rounds are run with the chain of the tables. Assumes nothing.
+use native.Mathlib.Omega.{arith}
 use borrow.Author.Needs.{needs}
+use Rattle.bit_set.proofs.BitLaws.{has-zeros}
 use Rattle.regionck.proofs.regionck.Statement.{statement}
 use Rattle.regionck.proofs.regionck.Tie as tie
 
@@ -12,29 +14,35 @@ slice-aggregate-solve c = search needs
 slice-aggregate-solve-2 : tie.Need-slice-aggregate-solve-2
 slice-aggregate-solve-2 c = search needs
 
-solve-requires : tie.Need-solve-requires
-solve-requires c κs = search needs
-
 slice-aggregate-solve-3 : tie.Need-slice-aggregate-solve-3
 slice-aggregate-solve-3 c = search needs
+
+solve-requires : tie.Need-solve-requires
+solve-requires c κs = (c .before .before .before .before .before .before .before .before .before .before .before .pre .0, c .before .before .before .before .before .before .before .before .before .before .before .pre .1, omega arith, has-zeros 256)
 
 slice-aggregate-solve-4 : tie.Need-slice-aggregate-solve-4
 slice-aggregate-solve-4 c = search needs
 
+slice-aggregate-solve-5 : tie.Need-slice-aggregate-solve-5
+slice-aggregate-solve-5 c = search needs
+
+slice-aggregate-solve-6 : tie.Need-slice-aggregate-solve-6
+slice-aggregate-solve-6 c = search needs
+
 solve-requires-2 : tie.Need-solve-requires-2
-solve-requires-2 c κs = search needs
+solve-requires-2 c κs = (c .before .before .before .before .before .before .before .before .before .before .before .pre .0, c .before .before .before .before .before .before .before .before .before .before .before .pre .1, omega arith, has-zeros 4096)
 
 same-length : tie.Need-same-length
 same-length c = search needs
 
 returns : tie.Need-returns
-returns c = let r = c .before .before .before .before .solve .ensures in (r .0, λ j x. r .1 j x (c .before .before .before .before .before .before .before .before .before .before .before .before .chains .ensures))
+returns c = let r = c .before .before .before .before .before .solve .ensures in (r .0, λ j x. r .1 j x (c .before .before .before .before .before .before .before .before .before .before .before .before .before .before .chains .ensures))
 
 same-length-2 : tie.Need-same-length-2
 same-length-2 c = search needs
 
 returns-2 : tie.Need-returns-2
-returns-2 c = let r = c .before .before .before .before .solve2 .ensures in (r .0, λ j x. r .1 j x (c .before .before .before .before .before .before .before .before .before .before .before .before .chains .ensures))
+returns-2 c = let r = c .before .before .before .before .before .solve2 .ensures in (r .0, λ j x. r .1 j x (c .before .before .before .before .before .before .before .before .before .before .before .before .before .before .chains .ensures))
 
 pub regionck-spec : {M : Type 1} → statement M
 regionck-spec =
@@ -43,9 +51,11 @@ regionck-spec =
     chains-requires
     slice-aggregate-solve
     slice-aggregate-solve-2
-    solve-requires
     slice-aggregate-solve-3
+    solve-requires
     slice-aggregate-solve-4
+    slice-aggregate-solve-5
+    slice-aggregate-solve-6
     solve-requires-2
     same-length
     returns

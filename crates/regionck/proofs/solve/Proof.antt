@@ -1,22 +1,21 @@
--- `regionck::solve`. The loop's invariant: some rounds were run, fewer than `left` bits of the regions are 0, and the constraints of `hot` are the job's. Assumes
--- nothing.
+-- `regionck::solve`. The loop's invariant: some rounds were run, fewer than `left` bits of the regions are 0, the constraints of `hot` are the job's, and the rows of `absent` are
+-- right. Assumes nothing.
 use mathlib.Core.Path.{_≡_, sym, _∙_}
-use native.Mathlib.Omega.{arith}
 use lib.ListN.{length}
 use borrow.Author.Tests.{not-true, not-false}
-use Rattle.regionck.proofs.SolvedLaws.{GoingOn, Kept, kept-none, kept-more, going-start, going-more, going-done, going-out}
+use native.Mathlib.Omega.{arith}
 use borrow.Author.Needs.{needs}
+use Rattle.regionck.specs.Rounds.{Sound}
+use Rattle.regionck.proofs.RoundLaws.{sound-none}
+use Rattle.regionck.proofs.SolvedLaws.{GoingOn, Kept, kept-none, kept-more, going-start, going-more, going-done, going-out}
 use Rattle.regionck.proofs.solve.Statement.{statement}
 use Rattle.regionck.proofs.solve.Tie as tie
 
 abbrev Inv-loop : tie.InvT-loop
-Inv-loop s layout head first succ chain walked shape rule words₀ grown₀ list hot₀ to last₀ left₀ words grown hot last left =
-    (length words ≡ length words₀) × (length grown ≡ 128) × (length hot ≡ length hot₀) × Kept s layout head first succ chain walked shape rule words₀ hot
-    × GoingOn s layout head first succ chain walked shape rule words₀ words last grown left
+Inv-loop s layout head first succ chain walked shape rule words₀ grown₀ list hot₀ absent₀ to last₀ left₀ words grown hot absent last left = (length words ≡ length words₀) × (length grown ≡ 128) × (length hot ≡ length hot₀) × (length absent ≡ length absent₀) × Sound s layout head walked (shape .code) absent × Kept s layout head first succ chain walked shape rule words₀ hot × GoingOn s layout head first succ chain walked shape rule words₀ words last grown left
 
 abbrev μ-loop : tie.MeasureT-loop
-μ-loop s layout head first succ chain walked shape rule words₀ grown₀ list hot₀ to last₀ left₀ words grown hot last left =
-    left
+μ-loop s layout head first succ chain walked shape rule words₀ grown₀ list hot₀ absent₀ to last₀ left₀ words grown hot absent last left = left
 
 clear-requires : tie.Need-clear-requires Inv-loop μ-loop
 clear-requires c κs = search needs
@@ -28,11 +27,10 @@ collect-requires : tie.Need-collect-requires Inv-loop μ-loop
 collect-requires c κs = search needs
 
 loop-holds : tie.Need-loop-holds Inv-loop μ-loop
-loop-holds c = let a = c .before .before .before .before .before .before .before .before .before .before .before .before .before .before .args in
-    (search needs, c .before .before .before .before .before .before .before .before .clear .ensures .sized, search needs, kept-none (a .s .now) (a .layout .now) (a .head) (a .first .now) (a .succ .now) (a .chain .now) (a .walked .now) (a .shape) (a .rule) (a .words .now) (c .before .before .before .before .before .before .clear2 .ensures .1), going-start (a .s .now) (a .layout .now) (a .head) (a .first .now) (a .succ .now) (a .chain .now) (a .walked .now) (a .shape) (a .rule) (a .words .now) (c .before .before .before .before .before .before .before .before .clear .ensures))
+loop-holds c = (search needs, c .before .before .before .before .before .before .before .before .clear .ensures .sized, search needs, search needs, sound-none (c .before .before .before .before .before .before .before .before .before .before .before .before .before .before .before .pre .3), kept-none (c .before .before .before .before .before .before .before .before .before .before .before .before .before .before .before .args .s .now) (c .before .before .before .before .before .before .before .before .before .before .before .before .before .before .before .args .layout .now) (c .before .before .before .before .before .before .before .before .before .before .before .before .before .before .before .args .head) (c .before .before .before .before .before .before .before .before .before .before .before .before .before .before .before .args .first .now) (c .before .before .before .before .before .before .before .before .before .before .before .before .before .before .before .args .succ .now) (c .before .before .before .before .before .before .before .before .before .before .before .before .before .before .before .args .chain .now) (c .before .before .before .before .before .before .before .before .before .before .before .before .before .before .before .args .walked .now) (c .before .before .before .before .before .before .before .before .before .before .before .before .before .before .before .args .shape) (c .before .before .before .before .before .before .before .before .before .before .before .before .before .before .before .args .rule) (c .before .before .before .before .before .before .before .before .before .before .before .before .before .before .before .args .words .now) (c .before .before .before .before .before .before .clear2 .ensures .1), going-start (c .before .before .before .before .before .before .before .before .before .before .before .before .before .before .before .args .s .now) (c .before .before .before .before .before .before .before .before .before .before .before .before .before .before .before .args .layout .now) (c .before .before .before .before .before .before .before .before .before .before .before .before .before .before .before .args .head) (c .before .before .before .before .before .before .before .before .before .before .before .before .before .before .before .args .first .now) (c .before .before .before .before .before .before .before .before .before .before .before .before .before .before .before .args .succ .now) (c .before .before .before .before .before .before .before .before .before .before .before .before .before .before .before .args .chain .now) (c .before .before .before .before .before .before .before .before .before .before .before .before .before .before .before .args .walked .now) (c .before .before .before .before .before .before .before .before .before .before .before .before .before .before .before .args .shape) (c .before .before .before .before .before .before .before .before .before .before .before .before .before .before .before .args .rule) (c .before .before .before .before .before .before .before .before .before .before .before .before .before .before .before .args .words .now) (c .before .before .before .before .before .before .before .before .clear .ensures))
 
 round-requires : tie.Need-round-requires Inv-loop μ-loop
-round-requires c κs = (c .before .before .before .before .before .before .before .before .before .before .before .before .before .before .before .before .before .before .before .before .pre .0, c .before .before .before .before .before .before .before .before .collect .ensures .holding)
+round-requires c κs = (c .before .before .before .before .before .before .before .before .before .before .before .before .before .before .before .before .before .before .before .before .before .before .pre .0, c .before .before .before .before .before .before .before .before .before .collect .ensures .holding, c .before .before .before .before .before .before .loop .inv .4)
 
 any-marked-requires : tie.Need-any-marked-requires Inv-loop μ-loop
 any-marked-requires c κs = search needs
@@ -46,10 +44,11 @@ same-length-2 c = search needs
 same-length-3 : tie.Need-same-length-3 Inv-loop μ-loop
 same-length-3 c = search needs
 
+same-length-4 : tie.Need-same-length-4 Inv-loop μ-loop
+same-length-4 c = search needs
+
 returns : tie.Need-returns Inv-loop μ-loop
-returns c = let a = c .before .before .before .before .before .before .before .before .before .before .before .before .before .before .before .before .before .before .before .before .before .before .before .before .before .before .before .before .args in
-    let l = c .before .before .before .before .before .before .before .before .before .before .before .before .before .loop in
-    (l .inv .1, going-done (a .s .now) (a .layout .now) (a .head) (a .first .now) (a .succ .now) (a .chain .now) (a .walked .now) (a .shape) (a .rule) (a .words .now) (l .inv .4) (l .inv .3) (c .before .before .before .before .before .before .before .round .ensures .0) (sym (c .before .any-marked .ensures) ∙ not-true _ (c .if1 .taken)))
+returns c = (c .before .before .before .before .before .before .before .before .before .before .before .before .before .before .before .before .loop .inv .1, going-done (c .before .before .before .before .before .before .before .before .before .before .before .before .before .before .before .before .before .before .before .before .before .before .before .before .before .before .before .before .before .before .before .before .args .s .now) (c .before .before .before .before .before .before .before .before .before .before .before .before .before .before .before .before .before .before .before .before .before .before .before .before .before .before .before .before .before .before .before .before .args .layout .now) (c .before .before .before .before .before .before .before .before .before .before .before .before .before .before .before .before .before .before .before .before .before .before .before .before .before .before .before .before .before .before .before .before .args .head) (c .before .before .before .before .before .before .before .before .before .before .before .before .before .before .before .before .before .before .before .before .before .before .before .before .before .before .before .before .before .before .before .before .args .first .now) (c .before .before .before .before .before .before .before .before .before .before .before .before .before .before .before .before .before .before .before .before .before .before .before .before .before .before .before .before .before .before .before .before .args .succ .now) (c .before .before .before .before .before .before .before .before .before .before .before .before .before .before .before .before .before .before .before .before .before .before .before .before .before .before .before .before .before .before .before .before .args .chain .now) (c .before .before .before .before .before .before .before .before .before .before .before .before .before .before .before .before .before .before .before .before .before .before .before .before .before .before .before .before .before .before .before .before .args .walked .now) (c .before .before .before .before .before .before .before .before .before .before .before .before .before .before .before .before .before .before .before .before .before .before .before .before .before .before .before .before .before .before .before .before .args .shape) (c .before .before .before .before .before .before .before .before .before .before .before .before .before .before .before .before .before .before .before .before .before .before .before .before .before .before .before .before .before .before .before .before .args .rule) (c .before .before .before .before .before .before .before .before .before .before .before .before .before .before .before .before .before .before .before .before .before .before .before .before .before .before .before .before .before .before .before .before .args .words .now) (c .before .before .before .before .before .before .before .before .before .before .before .before .before .before .before .before .loop .inv .6) (c .before .before .before .before .before .before .before .before .before .before .before .before .before .before .before .before .loop .inv .5) (c .before .before .before .before .before .before .before .before .before .round .ensures .0) (sym (c .before .any-marked .ensures) ∙ not-true _ (c .if1 .taken)))
 
 note-requires : tie.Need-note-requires Inv-loop μ-loop
 note-requires c κs = search needs
@@ -61,14 +60,7 @@ loop-less : tie.Need-loop-less Inv-loop μ-loop
 loop-less c = search needs
 
 loop-again : tie.Need-loop-again Inv-loop μ-loop
-loop-again c = let a = c .before .before .before .before .before .before .before .before .before .before .before .before .before .before .before .before .before .before .before .before .before .before .before .before .before .before .before .before .before .before .before .args in
-    let l = c .before .before .before .before .before .before .before .before .before .before .before .before .before .before .before .before .loop in
-    let noted = c .note .ensures (l .inv .1) in
-    let r = c .before .before .before .before .before .before .before .before .before .before .round .ensures in
-    (search needs, noted .sized, search needs, kept-more (a .s .now) (a .layout .now) (a .head) (a .first .now) (a .succ .now) (a .chain .now) (a .walked .now) (a .shape) (a .rule) (a .words .now) (l .inv .3) (r .1), going-more (a .s .now) (a .layout .now) (a .head) (a .first .now) (a .succ .now) (a .chain .now) (a .walked .now) (a .shape) (a .rule) (a .words .now) (l .inv .4) (l .inv .3) (r .0) (sym (c .before .before .before .before .any-marked .ensures) ∙ not-false _ (c .before .before .before .if1 .left)) noted)
-
-same-length-4 : tie.Need-same-length-4 Inv-loop μ-loop
-same-length-4 c = search needs
+loop-again c = let noted = c .note .ensures (c .before .before .before .before .before .before .before .before .before .before .before .before .before .before .before .before .before .before .before .loop .inv .1) in let r = c .before .before .before .before .before .before .before .before .before .before .before .before .round .ensures in (search needs, noted .sized, search needs, search needs, r .2, kept-more (c .before .before .before .before .before .before .before .before .before .before .before .before .before .before .before .before .before .before .before .before .before .before .before .before .before .before .before .before .before .before .before .before .before .before .before .args .s .now) (c .before .before .before .before .before .before .before .before .before .before .before .before .before .before .before .before .before .before .before .before .before .before .before .before .before .before .before .before .before .before .before .before .before .before .before .args .layout .now) (c .before .before .before .before .before .before .before .before .before .before .before .before .before .before .before .before .before .before .before .before .before .before .before .before .before .before .before .before .before .before .before .before .before .before .before .args .head) (c .before .before .before .before .before .before .before .before .before .before .before .before .before .before .before .before .before .before .before .before .before .before .before .before .before .before .before .before .before .before .before .before .before .before .before .args .first .now) (c .before .before .before .before .before .before .before .before .before .before .before .before .before .before .before .before .before .before .before .before .before .before .before .before .before .before .before .before .before .before .before .before .before .before .before .args .succ .now) (c .before .before .before .before .before .before .before .before .before .before .before .before .before .before .before .before .before .before .before .before .before .before .before .before .before .before .before .before .before .before .before .before .before .before .before .args .chain .now) (c .before .before .before .before .before .before .before .before .before .before .before .before .before .before .before .before .before .before .before .before .before .before .before .before .before .before .before .before .before .before .before .before .before .before .before .args .walked .now) (c .before .before .before .before .before .before .before .before .before .before .before .before .before .before .before .before .before .before .before .before .before .before .before .before .before .before .before .before .before .before .before .before .before .before .before .args .shape) (c .before .before .before .before .before .before .before .before .before .before .before .before .before .before .before .before .before .before .before .before .before .before .before .before .before .before .before .before .before .before .before .before .before .before .before .args .rule) (c .before .before .before .before .before .before .before .before .before .before .before .before .before .before .before .before .before .before .before .before .before .before .before .before .before .before .before .before .before .before .before .before .before .before .before .args .words .now) (c .before .before .before .before .before .before .before .before .before .before .before .before .before .before .before .before .before .before .before .loop .inv .5) (r .1), going-more (c .before .before .before .before .before .before .before .before .before .before .before .before .before .before .before .before .before .before .before .before .before .before .before .before .before .before .before .before .before .before .before .before .before .before .before .args .s .now) (c .before .before .before .before .before .before .before .before .before .before .before .before .before .before .before .before .before .before .before .before .before .before .before .before .before .before .before .before .before .before .before .before .before .before .before .args .layout .now) (c .before .before .before .before .before .before .before .before .before .before .before .before .before .before .before .before .before .before .before .before .before .before .before .before .before .before .before .before .before .before .before .before .before .before .before .args .head) (c .before .before .before .before .before .before .before .before .before .before .before .before .before .before .before .before .before .before .before .before .before .before .before .before .before .before .before .before .before .before .before .before .before .before .before .args .first .now) (c .before .before .before .before .before .before .before .before .before .before .before .before .before .before .before .before .before .before .before .before .before .before .before .before .before .before .before .before .before .before .before .before .before .before .before .args .succ .now) (c .before .before .before .before .before .before .before .before .before .before .before .before .before .before .before .before .before .before .before .before .before .before .before .before .before .before .before .before .before .before .before .before .before .before .before .args .chain .now) (c .before .before .before .before .before .before .before .before .before .before .before .before .before .before .before .before .before .before .before .before .before .before .before .before .before .before .before .before .before .before .before .before .before .before .before .args .walked .now) (c .before .before .before .before .before .before .before .before .before .before .before .before .before .before .before .before .before .before .before .before .before .before .before .before .before .before .before .before .before .before .before .before .before .before .before .args .shape) (c .before .before .before .before .before .before .before .before .before .before .before .before .before .before .before .before .before .before .before .before .before .before .before .before .before .before .before .before .before .before .before .before .before .before .before .args .rule) (c .before .before .before .before .before .before .before .before .before .before .before .before .before .before .before .before .before .before .before .before .before .before .before .before .before .before .before .before .before .before .before .before .before .before .before .args .words .now) (c .before .before .before .before .before .before .before .before .before .before .before .before .before .before .before .before .before .before .before .loop .inv .6) (c .before .before .before .before .before .before .before .before .before .before .before .before .before .before .before .before .before .before .before .loop .inv .5) (r .0) (sym (c .before .before .before .before .any-marked .ensures) ∙ not-false _ (c .before .before .before .if1 .left)) noted)
 
 same-length-5 : tie.Need-same-length-5 Inv-loop μ-loop
 same-length-5 c = search needs
@@ -76,10 +68,14 @@ same-length-5 c = search needs
 same-length-6 : tie.Need-same-length-6 Inv-loop μ-loop
 same-length-6 c = search needs
 
+same-length-7 : tie.Need-same-length-7 Inv-loop μ-loop
+same-length-7 c = search needs
+
+same-length-8 : tie.Need-same-length-8 Inv-loop μ-loop
+same-length-8 c = search needs
+
 returns-2 : tie.Need-returns-2 Inv-loop μ-loop
-returns-2 c = let a = c .before .before .before .before .before .before .before .before .before .before .before .before .before .before .before .before .args in
-    let l = c .before .loop in
-    (l .inv .1, going-out (a .s .now) (a .layout .now) (a .head) (a .first .now) (a .succ .now) (a .chain .now) (a .walked .now) (a .shape) (a .rule) (a .words .now) (omega arith) (l .inv .4))
+returns-2 c = (c .before .loop .inv .1, going-out (c .before .before .before .before .before .before .before .before .before .before .before .before .before .before .before .before .before .args .s .now) (c .before .before .before .before .before .before .before .before .before .before .before .before .before .before .before .before .before .args .layout .now) (c .before .before .before .before .before .before .before .before .before .before .before .before .before .before .before .before .before .args .head) (c .before .before .before .before .before .before .before .before .before .before .before .before .before .before .before .before .before .args .first .now) (c .before .before .before .before .before .before .before .before .before .before .before .before .before .before .before .before .before .args .succ .now) (c .before .before .before .before .before .before .before .before .before .before .before .before .before .before .before .before .before .args .chain .now) (c .before .before .before .before .before .before .before .before .before .before .before .before .before .before .before .before .before .args .walked .now) (c .before .before .before .before .before .before .before .before .before .before .before .before .before .before .before .before .before .args .shape) (c .before .before .before .before .before .before .before .before .before .before .before .before .before .before .before .before .before .args .rule) (c .before .before .before .before .before .before .before .before .before .before .before .before .before .before .before .before .before .args .words .now) (omega arith) (c .before .loop .inv .6))
 
 pub solve-spec : {M : Type 1} → statement M
 solve-spec =
@@ -96,12 +92,14 @@ solve-spec =
     same-length
     same-length-2
     same-length-3
+    same-length-4
     returns
     note-requires
     sub-left
     loop-less
     loop-again
-    same-length-4
     same-length-5
     same-length-6
+    same-length-7
+    same-length-8
     returns-2)

@@ -2,52 +2,34 @@
 use Prim.Native.Nat.{ℕ, _-_, _≤_}
 use mathlib.Core.Path.{_≡_}
 use mathlib.Core.List.{List}
-use native.Mathlib.Omega.{arith}
 use lib.ListN.{length}
-use Rattle.regionck.specs.Rounds.{RunsBelow, OwnKept}
-use Rattle.regionck.proofs.RoundLaws.{below-more, below-code, own-same, own-then, own-drawn}
+use native.Mathlib.Omega.{arith}
 use borrow.Author.Needs.{needs}
+use Rattle.regionck.specs.Rounds.{Sound, RunsBelow, OwnKept}
+use Rattle.regionck.proofs.RoundLaws.{below-code, own-same, own-then}
 use Rattle.regionck.proofs.round.rest.Statement.{statement}
 use Rattle.regionck.proofs.round.rest.Tie as tie
 
 abbrev Inv-loop : tie.InvT-loop
-Inv-loop s layout head walked shape rule words₀ first succ chain last grew₀ hot₀ from code list₀ p₀ words grew hot list p =
-    (p ≤ code) × (length list ≡ 1025) × (length words ≡ length words₀) × (length hot ≡ length hot₀)
-    × ((ws : List ℕ) → RunsBelow s layout head walked shape rule first succ chain last ws words₀ grew₀ from → RunsBelow s layout head walked shape rule first succ chain last ws words grew p)
-    × OwnKept s layout head walked (shape .code) hot₀ hot
+Inv-loop s layout head walked shape rule words₀ first succ chain last grew₀ hot₀ absent₀ from code p₀ words grew hot absent p = (p ≤ code) × (length words ≡ length words₀) × (length hot ≡ length hot₀) × (length absent ≡ length absent₀) × ((ws : List ℕ) → RunsBelow s layout head walked shape rule first succ chain last ws words₀ grew₀ from → RunsBelow s layout head walked shape rule first succ chain last ws words grew p) × OwnKept s layout head walked (shape .code) hot₀ hot × Sound s layout head walked (shape .code) absent
 
 abbrev μ-loop : tie.MeasureT-loop
-μ-loop s layout head walked shape rule words₀ first succ chain last grew₀ hot₀ from code list₀ p₀ words grew hot list p =
-    code - p
-
-returns : tie.Need-returns Inv-loop μ-loop
-returns c = let a = c .before .before .before .before .args in
-    (λ ws x. below-code (a .s .now) (a .layout .now) (a .head) (a .walked .now) (a .shape) (a .rule) (a .first .now) (a .succ .now) (a .chain .now) (a .last .now) ws (a .from) (omega arith) x, own-same)
+μ-loop s layout head walked shape rule words₀ first succ chain last grew₀ hot₀ absent₀ from code p₀ words grew hot absent p = code - p
 
 loop-holds : tie.Need-loop-holds Inv-loop μ-loop
-loop-holds c = (search needs, search needs, search needs, search needs, λ ws x. x, own-same)
+loop-holds c = (c .before .before .before .before .pre .1, search needs, search needs, search needs, λ ws x. x, own-same, c .before .before .before .before .pre .2)
 
-slice-aggregate-collect : tie.Need-slice-aggregate-collect Inv-loop μ-loop
-slice-aggregate-collect c = search needs
+visit-requires : tie.Need-visit-requires Inv-loop μ-loop
+visit-requires c κs = (c .before .before .before .before .before .before .before .before .before .before .pre .0, omega arith, c .before .before .before .before .before .loop .inv .6)
 
-collect-requires : tie.Need-collect-requires Inv-loop μ-loop
-collect-requires c κs = search needs
-
-slice-aggregate-run : tie.Need-slice-aggregate-run Inv-loop μ-loop
-slice-aggregate-run c = search needs
-
-run-requires : tie.Need-run-requires Inv-loop μ-loop
-run-requires c κs = search needs
+add-p : tie.Need-add-p Inv-loop μ-loop
+add-p c = search (needs, c .before .before .before .before .before .before .before .before .before .before .before .loop-test .taken, c .before .before .before .before .before .before .before .before .before .before .before .before .before .before .before .before .before .good)
 
 loop-less : tie.Need-loop-less Inv-loop μ-loop
-loop-less c = let l = c .before .before .before .before .before .before .before .before .before .before .collect .ensures .later (omega arith) in omega (arith, l)
+loop-less c = search needs
 
 loop-again : tie.Need-loop-again Inv-loop μ-loop
-loop-again c = let a = c .before .before .before .before .before .before .before .before .before .before .before .before .before .before .before .before .before .before .args in
-    let l = c .before .before .before .before .before .before .before .before .before .before .before .before .before .loop .inv in
-    let e = c .before .before .before .before .before .before .before .before .before .before .collect .ensures .holding in
-    let r = c .before .before .before .before .run .ensures in
-    (e .within, search needs, search needs, search needs, λ ws x. below-more (a .s .now) (a .layout .now) (a .head) (a .walked .now) (a .shape) (a .rule) (a .first .now) (a .succ .now) (a .chain .now) (a .last .now) ws (l .4 ws x) e (r .0), own-then (l .5) (own-drawn e (r .1)))
+loop-again c = (omega arith, search needs, search needs, search needs, λ ws x. c .before .before .before .before .before .before .visit .ensures .0 ws (c .before .before .before .before .before .before .before .before .before .before .before .before .loop .inv .4 ws x), own-then (c .before .before .before .before .before .before .before .before .before .before .before .before .loop .inv .5) (c .before .before .before .before .before .before .visit .ensures .1), c .before .before .before .before .before .before .visit .ensures .2)
 
 same-length : tie.Need-same-length Inv-loop μ-loop
 same-length c = search needs
@@ -55,10 +37,11 @@ same-length c = search needs
 same-length-2 : tie.Need-same-length-2 Inv-loop μ-loop
 same-length-2 c = search needs
 
-returns-2 : tie.Need-returns-2 Inv-loop μ-loop
-returns-2 c = let a = c .before .before .before .before .before .before .args in
-    let l = c .before .loop in
-    (λ ws x. below-code (a .s .now) (a .layout .now) (a .head) (a .walked .now) (a .shape) (a .rule) (a .first .now) (a .succ .now) (a .chain .now) (a .last .now) ws (l .p) (omega arith) (l .inv .4 ws x), l .inv .5)
+same-length-3 : tie.Need-same-length-3 Inv-loop μ-loop
+same-length-3 c = search needs
+
+returns : tie.Need-returns Inv-loop μ-loop
+returns c = (λ ws x. below-code (c .before .before .before .before .before .before .args .s .now) (c .before .before .before .before .before .before .args .layout .now) (c .before .before .before .before .before .before .args .head) (c .before .before .before .before .before .before .args .walked .now) (c .before .before .before .before .before .before .args .shape) (c .before .before .before .before .before .before .args .rule) (c .before .before .before .before .before .before .args .first .now) (c .before .before .before .before .before .before .args .succ .now) (c .before .before .before .before .before .before .args .chain .now) (c .before .before .before .before .before .before .args .last .now) ws (c .before .loop .p) (omega arith) (c .before .loop .inv .4 ws x), c .before .loop .inv .5, c .before .loop .inv .6)
 
 pub rest-spec : {M : Type 1} → statement M
 rest-spec =
@@ -66,14 +49,12 @@ rest-spec =
     (tie.spec
     Inv-loop
     μ-loop
-    returns
     loop-holds
-    slice-aggregate-collect
-    collect-requires
-    slice-aggregate-run
-    run-requires
+    visit-requires
+    add-p
     loop-less
     loop-again
     same-length
     same-length-2
-    returns-2)
+    same-length-3
+    returns)

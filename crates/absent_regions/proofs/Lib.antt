@@ -1,0 +1,2 @@
+pub mod AbsentLaws
+pub mod MarkLaws
