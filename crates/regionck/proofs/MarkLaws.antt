@@ -1,7 +1,7 @@
 -- Marks of regions: all taken away, and those of a round put to them. Assumes nothing.
 use mathlib.Core.Path.{_≡_, refl, sym, ap, _∙_}
 use mathlib.Core.Logic.{_⊎_, inl, inr}
-use mathlib.Core.Bool.{Bool, false, cond}
+use mathlib.Core.Bool.{Bool, cond}
 use mathlib.Core.List.{List}
 use Prim.Native.Nat.{ℕ, _+_, _<_}
 use native.Mathlib.Omega.{arith}
@@ -12,8 +12,7 @@ use lib.Dec.{eqb}
 use borrow.Author.Tests.{eq-eqb, ne-eqb}
 use Rattle.nll_spec.specs.Syntax.{RegionName}
 use Rattle.graph.specs.Search.{Marked}
-use Rattle.infer.specs.Ran.{anyMarked}
-use Rattle.infer.proofs.RanLaws.{Joined, no-marks}
+use Rattle.infer.proofs.RanLaws.{Joined}
 use Rattle.regionck.specs.Rounds.{noMarks, Cleared, Noted}
 
 pub blank : (r : RegionName) → getD noMarks r 0 ≡ 0
@@ -84,11 +83,3 @@ noted-joined {grew} {old} {marks} o g z =
     which : (r : RegionName) → Marked marks r → Dec (getD grew r 0 ≡ 0) → Marked old r ⊎ Marked grew r
     which r m (yes e) = inl (λ q. m (z .others r e ∙ q))
     which r m (no e) = inr e
-
--- of which the second has none
-pub quiet-joined : {grew old : List ℕ} → length grew ≡ 128 → anyMarked grew 128 ≡ false → Joined old grew old
-quiet-joined {grew} g e = record { as-long = refl; left = λ r m. m; right = λ r m. absurd (m (none r (decLt r 128))); either = λ r m. inl m }
-  where
-    none : (r : RegionName) → Dec (r < 128) → getD grew r 0 ≡ 0
-    none r (yes l) = no-marks grew 128 e r l
-    none r (no l) = List·getD-eq-default grew 0 {n = r} (omega (arith, l, g))

@@ -21,15 +21,15 @@ use Rattle.constraint_list.specs.Listed.{countIn, roomIn, constraintsIn, firstI
 use Rattle.constraint_list.proofs.ListLaws.{adds-none, first-none, first-place}
 use Rattle.absent_regions.specs.Absent.{rowBit, Puts, Marks, AllIn}
 use Rattle.infer.specs.Search.{ruleOf}
-use Rattle.infer.specs.Ran.{Setting, Given, Ran, Runs, anyMarked}
+use Rattle.infer.specs.Ran.{Setting, Given, Ran, Runs}
 use Rattle.infer.specs.declared.EndRule as declared
 use Rattle.infer.specs.declared.Shape.{Shape}
 use Rattle.infer.proofs.RanLaws.{no-member, ran-none, ran-passed, ran-append, ran-again, given-kept}
 use Rattle.constraints.specs.Constraining.{Constrains}
-use Rattle.regionck.specs.Rounds.{settingOf, noMarks, walkedAt, constraintsBelow, Known, PointAdds, Holding, Sound, RunsBelow, OwnKept, RunsAgain, RoundRuns, Noted}
+use Rattle.regionck.specs.Rounds.{settingOf, noMarks, walkedAt, constraintsBelow, Known, PointAdds, Holding, Sound, RunsBelow, Own, OwnKept, RunsAgain, RunsMore, RoundRuns, Noted}
 use Rattle.constraints.proofs.ListLaws.{select-below}
 use Rattle.regionck.proofs.NamedLaws.{own-below, all-named, named-below}
-use Rattle.regionck.proofs.MarkLaws.{blank, noted-joined, quiet-joined}
+use Rattle.regionck.proofs.MarkLaws.{blank, noted-joined}
 use Rattle.constraints.proofs.FewLaws.{few-constraints}
 
 -- ---- A point
@@ -156,14 +156,14 @@ module _ (s t : List ℕ) (h : Head) (walked : List ℕ) (shape : Shape) (rule :
   pub below-code : {ws′ grew : List ℕ} (n : ℕ) → n ≡ shape .code → RunsBelow s t h walked shape rule first succ chain last ws ws′ grew n → RunsBelow s t h walked shape rule first succ chain last ws ws′ grew (shape .code)
   below-code {ws′} {grew} n e x = subst (λ (k : ℕ). RunsBelow s t h walked shape rule first succ chain last ws ws′ grew k) e x
 
-  -- then those of a list are run more often
-  pub below-all : {hot ls ws₁ grew₁ ws₂ grew₂ : List ℕ} → RunsBelow s t h walked shape rule first succ chain last ws ws₁ grew₁ (shape .code) → OwnKept s t h walked (shape .code) hot ls
-      → RunsAgain shape rule first succ chain (constraintsIn ls) ws₁ grew₁ ws₂ grew₂ → RoundRuns s t h walked shape rule first succ chain last hot ws ws₂ grew₂
+  -- then more of them are run
+  pub below-all : {hot hot₁ ws₁ grew₁ ws₂ grew₂ : List ℕ} → RunsBelow s t h walked shape rule first succ chain last ws ws₁ grew₁ (shape .code) → OwnKept s t h walked (shape .code) hot hot₁
+      → RunsMore s t h walked shape rule first succ chain hot₁ ws₁ grew₁ ws₂ grew₂ → RoundRuns s t h walked shape rule first succ chain last hot ws ws₂ grew₂
   unfolding constraintsOf
-  below-all {hot} {ls} {ws₁} {grew₁} x own y =
+  below-all {ws₁ = ws₁} {grew₁ = grew₁} x own y =
       record {
         ran = λ j k o g.
-            y .ran (settingOf (ruleOf rule) j) last (constraintsOf j (graphOf j)) ws g (all-named (ruleOf rule) j (k .accepted)) (own .kept j k o)
+            y .ran j k (own .kept j k o) last ws g
             (subst (λ (n : ℕ). Ran (settingOf (ruleOf rule) j) last (constraintsBelow j n) ws noMarks ws₁ grew₁) (g .code) (x .ran j k g));
       }
 
@@ -180,13 +180,13 @@ module _ {s t : List ℕ} {h : Head} {walked : List ℕ} {code : ℕ} where
   pub own-fewer : {ls ls₁ : List ℕ} → Draws [] ls ls₁ → OwnKept s t h walked code ls ls₁
   own-fewer x = record { kept = λ j k o c m. ⊎-elim (o c) (λ z. absurd (no-member z)) (x .drawn c m) }
 
+  -- the constraints of points
+  pub own-held : {ls : List ℕ} {n m : ℕ} → Holding s t h walked code ls n m → (j : Job) → Known s t h walked code j → Own j ls
+  own-held {ls} {n} {m} held j k c y = own-below j m c (subst (λ (cs : List Outlives). Member c cs) (held .holds j k) (member-right (constraintsBelow j n) (constraintsIn ls) y))
+
   -- constraints of points come to it
   pub own-drawn : {ls hot hot₁ : List ℕ} {n m : ℕ} → Holding s t h walked code ls n m → Draws (constraintsIn ls) hot hot₁ → OwnKept s t h walked code hot hot₁
-  own-drawn {ls} {n = n} {m = m} held x = record {
-    kept = λ j k o c z. ⊎-elim (o c)
-        (λ y. own-below j m c (subst (λ (cs : List Outlives). Member c cs) (held .holds j k) (member-right (constraintsBelow j n) (constraintsIn ls) y)))
-        (x .drawn c z);
-  }
+  own-drawn held x = record { kept = λ j k o c z. ⊎-elim (o c) (own-held held j k c) (x .drawn c z) }
 
 -- ---- Constraints that are run more often
 
@@ -221,12 +221,37 @@ module _ {shape : Shape} {rule : declared.EndRule} {first succ chain : List ℕ}
         ran-again a b (λ r m. m (blank r)) among (noted-joined e (b .as-many ∙ length-replicate {A = ℕ} 128 0) (noted e));
   }
 
-  -- a run that marks no region
-  pub again-quiet : {last ws₁ grew₁ ws₂ next : List ℕ} → RunsAgain shape rule first succ chain cs ws grew ws₁ grew₁ → Runs shape rule first succ chain last cs ws₁ noMarks ws₂ next → anyMarked next 128 ≡ false
-      → RunsAgain shape rule first succ chain cs ws grew ws₂ grew₁
-  again-quiet {last} {ws₁} {grew₁} {ws₂} {next} x y e = record {
-    ran = λ s last′ ds ws₀ g named among z.
-        let a = x .ran s last′ ds ws₀ g named among z in
-        let b = y .ran s (given-again g (a .as-long)) (λ c m. named c (among c m)) in
-        ran-again a b (λ r m. m (blank r)) among (quiet-joined (b .as-many ∙ length-replicate {A = ℕ} 128 0) e);
-  }
+-- ---- More of the job's constraints
+
+module _ {s t : List ℕ} {h : Head} {walked : List ℕ} {shape : Shape} {rule : declared.EndRule} {first succ chain : List ℕ} where
+  pub more-none : {hot ws grew : List ℕ} → RunsMore s t h walked shape rule first succ chain hot ws grew ws grew
+  more-none = record { ran = λ j k o last ws₀ g x. x }
+
+  pub more-then : {hot hot₁ ws grew ws₁ grew₁ ws₂ grew₂ : List ℕ} → RunsMore s t h walked shape rule first succ chain hot ws grew ws₁ grew₁ → OwnKept s t h walked (shape .code) hot hot₁
+      → RunsMore s t h walked shape rule first succ chain hot₁ ws₁ grew₁ ws₂ grew₂ → RunsMore s t h walked shape rule first succ chain hot ws grew ws₂ grew₂
+  more-then x own y = record { ran = λ j k o last ws₀ g z. y .ran j k (own .kept j k o) last ws₀ g (x .ran j k o last ws₀ g z) }
+
+  -- those of a list that has only constraints of the job
+  more-own : (ls : List ℕ) {hot ws grew ws₁ grew₁ : List ℕ} → ((j : Job) → Known s t h walked (shape .code) j → Own j hot → Own j ls) → RunsAgain shape rule first succ chain (constraintsIn ls) ws grew ws₁ grew₁
+      → RunsMore s t h walked shape rule first succ chain hot ws grew ws₁ grew₁
+  more-own ls own x = record { ran = λ j k o last ws₀ g. x .ran (settingOf (ruleOf rule) j) last (constraintsOf j (graphOf j)) ws₀ g (all-named (ruleOf rule) j (k .accepted)) (own j k o) }
+
+  -- those of `hot`
+  pub more-hot : {hot ws grew ws₁ grew₁ : List ℕ} → RunsAgain shape rule first succ chain (constraintsIn hot) ws grew ws₁ grew₁ → RunsMore s t h walked shape rule first succ chain hot ws grew ws₁ grew₁
+  more-hot {hot} = more-own hot (λ j k o. o)
+
+  -- those of points
+  pub more-held : {ls hot last ws grew ws₁ next grew₁ : List ℕ} {n m : ℕ} → Holding s t h walked (shape .code) ls n m → Runs shape rule first succ chain last (constraintsIn ls) ws noMarks ws₁ next
+      → (length grew ≡ 128 → Noted next grew grew₁ 128) → RunsMore s t h walked shape rule first succ chain hot ws grew ws₁ grew₁
+  more-held {ls} held x noted = more-own ls (λ j k o. own-held held j k) (again-more again-none x noted)
+
+  -- those of the list, then more, then those of `hot`
+  pub more-turn : {ls hot hot₁ hot₂ last ws grew ws₁ next grew₁ ws₂ grew₂ ws₃ grew₃ : List ℕ} {n m : ℕ} → Holding s t h walked (shape .code) ls n m
+      → Runs shape rule first succ chain last (constraintsIn ls) ws noMarks ws₁ next × (length grew ≡ 128 → Noted next grew grew₁ 128) × Draws (constraintsIn ls) hot hot₁
+      → RunsMore s t h walked shape rule first succ chain hot₁ ws₁ grew₁ ws₂ grew₂ × OwnKept s t h walked (shape .code) hot₁ hot₂
+      → RunsAgain shape rule first succ chain (constraintsIn hot₂) ws₂ grew₂ ws₃ grew₃
+      → RunsMore s t h walked shape rule first succ chain hot ws grew ws₃ grew₃ × OwnKept s t h walked (shape .code) hot hot₂
+  more-turn held x y z =
+      let own = own-drawn held (x .2) in
+      let all = own-then own (y .1) in
+      (more-then (more-then (more-held held (x .0) (x .1)) own (y .0)) all (more-hot z), all)

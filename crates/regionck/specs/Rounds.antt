@@ -85,6 +85,11 @@ pub record RunsAgain (shape : Shape) (rule : declared.EndRule) (first succ chain
   pub ran : (s : Setting) (last : List ℕ) (ds : List Outlives) (ws₀ : List ℕ) → Given s shape rule first succ chain ws₀ noMarks → AllNamed s ds
       → ((c : Outlives) → Member c cs → Member c ds) → Ran s last ds ws₀ noMarks ws grew → Ran s last ds ws₀ noMarks ws′ grew′
 
+-- More of the job's constraints are run, if those of `hot` are its own: what was a run of all of them, from no marks on, stays one.
+pub record RunsMore (s t : List ℕ) (h : Head) (walked : List ℕ) (shape : Shape) (rule : declared.EndRule) (first succ chain hot ws grew ws′ grew′ : List ℕ) : Type 0 where
+  pub ran : (j : Job) → Known s t h walked (shape .code) j → Own j hot → (last ws₀ : List ℕ) → Given (settingOf (ruleOf rule) j) shape rule first succ chain ws₀ noMarks
+      → Ran (settingOf (ruleOf rule) j) last (constraintsOf j (graphOf j)) ws₀ noMarks ws grew → Ran (settingOf (ruleOf rule) j) last (constraintsOf j (graphOf j)) ws₀ noMarks ws′ grew′
+
 -- All constraints of a job are run, from no marks on, if those of `hot` are its own.
 pub record RoundRuns (s t : List ℕ) (h : Head) (walked : List ℕ) (shape : Shape) (rule : declared.EndRule) (first succ chain last hot ws ws′ grew : List ℕ) : Type 0 where
   pub ran : (j : Job) → Known s t h walked (shape .code) j → Own j hot → Given (settingOf (ruleOf rule) j) shape rule first succ chain ws noMarks

@@ -1,4 +1,5 @@
 // The regions' least sets: rounds of the constraints of all actions, until no set grows.
+mod again;
 mod round;
 
 use infer::EndRule;

@@ -1,25 +1,33 @@
 // One round of the constraints.
-use super::note;
+use super::again::repeat;
 use constraints::constrain;
 use infer::EndRule;
 use infer::Shape;
 use record::Head;
 use relate::Site;
 ghost use mathlib.Core.Path.{_≡_};
+ghost use mathlib.Core.Bool.{cond};
 ghost use mathlib.Core.List.{List, []};
-ghost use Prim.Native.Nat.{ℕ, _+_, _≤_, _<_};
+ghost use Prim.Native.Nat.{ℕ, _+_, _*_, _≤_, _<_};
 ghost use lib.ListN.{length};
-ghost use Rattle.constraint_list.specs.Listed.{constraintsIn, Draws};
-ghost use Rattle.regionck.specs.Rounds.{PointAdds, Collects, Holding, Sound, RunsBelow, OwnKept, RunsAgain, RoundRuns};
+ghost use lib.Dec.{eqb};
+ghost use Rattle.nll_spec.specs.Output.{wordBits};
+ghost use Rattle.bit_set.specs.Bits.{withBit};
+ghost use Rattle.constraint_list.specs.Listed.{countIn, Draws};
+ghost use Rattle.regionck.specs.Rounds.{PointAdds, Collects, Holding, Sound, RunsBelow, OwnKept, RoundRuns};
 
 // No action makes more constraints.
 const MOST: usize = 264;
 
-// How often constraints are run again, at most, before a round of all is due.
-const TIMES: u32 = 65536;
-
 // Adds the constraints of a point of the blocks, if its block is walked.
-fn point(s: &[u8], layout: &[u16; 1280], head: Head, walked: &[u32; 32], p: usize, list: &mut [u32])
+pub fn point(
+    s: &[u8],
+    layout: &[u16; 1280],
+    head: Head,
+    walked: &[u32; 32],
+    p: usize,
+    list: &mut [u32],
+)
     requires { ⌜ length (now layout) ≡ 1280 ⌝ }
     ensures { λ _. ⌜ PointAdds (now (s .entry)) (now (layout .entry)) head (now (walked .entry)) p (now (list .entry)) (now (list .exit)) ⌝ }
 {
@@ -58,7 +66,18 @@ pub fn collect(
     p
 }
 
-// Runs the constraints of point p. It is passed by if no region with a mark is the inner one of a constraint of the point, by its row of `absent`.
+// Puts p among the active points if the list has another length than before.
+fn note_active(hot: &[u32], before: usize, active: &mut [u32; 32], p: usize)
+    ensures { λ _. ⌜ now (active .exit) ≡ cond (eqb (countIn (now (hot .entry))) before) (now (active .entry)) (withBit (now (active .entry)) (wordBits * 0 + p)) ⌝ }
+{
+    if constraint_list::count(hot) == before {
+        return;
+    }
+    bit_set::add(active, 0, p);
+}
+
+// Runs the constraints of point p. It is passed by if no region with a mark is the inner one of a constraint of the point, by its row of `absent`. If by them a region is
+// marked, p is put among the active points.
 fn visit(
     s: &[u8],
     layout: &[u16; 1280],
@@ -74,6 +93,7 @@ fn visit(
     grew: &mut [u8; 128],
     hot: &mut [u32],
     absent: &mut [u32],
+    active: &mut [u32; 32],
     p: usize,
 )
     requires { ⌜ (length (now layout) ≡ 1280) × (p < shape .code) × Sound (now s) (now layout) head (now walked) (shape .code) (now absent) ⌝ }
@@ -91,6 +111,7 @@ fn visit(
     let mut list = [0; 265];
     point(s, layout, head, walked, p, &mut list);
     absent_regions::put(&list, p, absent);
+    let before = constraint_list::count(hot);
     infer::run(
         words,
         first,
@@ -103,6 +124,7 @@ fn visit(
         hot,
         &list,
     );
+    note_active(hot, before, active, p);
 }
 
 // Runs the constraints of point `from` and of those after it.
@@ -121,6 +143,7 @@ fn rest(
     grew: &mut [u8; 128],
     hot: &mut [u32],
     absent: &mut [u32],
+    active: &mut [u32; 32],
     from: usize,
 )
     requires { ⌜ (length (now layout) ≡ 1280) × (from ≤ shape .code) × Sound (now s) (now layout) head (now walked) (shape .code) (now absent) ⌝ }
@@ -149,54 +172,10 @@ fn rest(
             grew,
             hot,
             absent,
+            active,
             p,
         );
         p += 1;
-    }
-}
-
-// Runs the constraints of the list until by them no set grows, at most TIMES times; at first those whose inner set has a mark in `grew`, which marks, by 1, the regions
-// whose sets grew.
-fn settle(
-    words: &mut [u32],
-    first: &[u16; 1025],
-    succ: &[u16; 1536],
-    chain: &[u32; 32],
-    shape: Shape,
-    rule: EndRule,
-    grew: &mut [u8; 128],
-    list: &[u32],
-)
-    ensures { λ _. ⌜ RunsAgain shape rule (now (first .entry)) (now (succ .entry)) (now (chain .entry)) (constraintsIn (now (list .entry)))
-        (now (words .entry)) (now (grew .entry)) (now (words .exit)) (now (grew .exit)) ⌝ }
-{
-    if !infer::any_marked(grew) {
-        return;
-    }
-    let mut none = [0; 1];
-    let mut last = [0; 128];
-    note(grew, &mut last);
-    let mut left = TIMES;
-    while left != 0 {
-        let mut next = [0; 128];
-        infer::run(
-            words,
-            first,
-            succ,
-            chain,
-            shape,
-            rule,
-            &last,
-            &mut next,
-            &mut none,
-            list,
-        );
-        if !infer::any_marked(&next) {
-            return;
-        }
-        note(&next, grew);
-        last = next;
-        left -= 1;
     }
 }
 
@@ -209,7 +188,7 @@ fn make_room(list: &mut [u32])
     }
 }
 
-// Runs the constraints of each point of walked blocks; then those of `hot` again. The list has the constraints of the points before `to`; `hot` gets those by which
+// Runs the constraints of each point of walked blocks, then some of them again. The list has the constraints of the points before `to`; `hot` gets those by which
 // regions are marked, and is emptied where it is short of room.
 pub fn round(
     s: &[u8],
@@ -236,6 +215,7 @@ pub fn round(
         × Sound (now (s .entry)) (now (layout .entry)) head (now (walked .entry)) (shape .code) (now (absent .exit)) ⌝ }
 {
     let mut grew = [0; 128];
+    let mut active = [0; 32];
     make_room(hot);
     infer::run(
         words,
@@ -264,8 +244,25 @@ pub fn round(
         &mut grew,
         hot,
         absent,
+        &mut active,
         to,
     );
-    settle(words, first, succ, chain, shape, rule, &mut grew, hot);
+    repeat(
+        s,
+        layout,
+        head,
+        walked,
+        shape,
+        rule,
+        words,
+        first,
+        succ,
+        chain,
+        &mut grew,
+        hot,
+        &active,
+        list,
+        to,
+    );
     grew
 }
