@@ -123,7 +123,7 @@ AlongIs ss t all s from to kinds names (along.Inside c) = Reached ss t all from 
 AlongIs ss t all s from to kinds names (along.Written at left i) = Stage ss t all to 0 kinds names i (take left (drop (at .at) s))
 AlongIs ss t all s from to kinds names along.Refused = stepsFit ss t all ≡ false
 
--- A step at least is taken before one is written.
+-- Where a type is written, fewer steps are left, and their numbers end no later.
 abbrev pub Taken : ℕ → ℕ → Along → Type 0
 Taken i left (along.Inside c) = Unit {0}
 Taken i left (along.Written at left′ i′) = (left′ < left) × (i′ + left′ ≤ i + left)

@@ -66,7 +66,7 @@ abbrev pub withRun : List ℕ → Point → ℕ → List ℕ
 withRun ws p zero = ws
 withRun ws p (suc n) = withBit (withRun ws p n) (p + n)
 
--- The words say which points are those of walked blocks.
+-- The words say which of the first 1,024 points are those of walked blocks.
 abbrev pub WalkedIn : Job → List ℕ → Type 0
 WalkedIn j walked = (p : Point) → p < 1024 → has walked p ≡ isWalked (graphOf j) p
 

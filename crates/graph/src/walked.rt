@@ -12,7 +12,6 @@ ghost use Rattle.nll_spec.specs.Syntax.{Job};
 ghost use Rattle.nll_spec.specs.Decode.{pointCount};
 ghost use Rattle.nll_spec.specs.WellFormed.{successorsNamed};
 ghost use Rattle.record.specs.Layout.{Layout};
-ghost use Rattle.bit_set.specs.Bits.{has};
 ghost use Rattle.graph.specs.Shape.{InRecord, rowOf};
 ghost use Rattle.graph.specs.Search.{state, Roomy, visited, visits, WalkedBlocks, withRun, BlockPoints, WalkedIn};
 

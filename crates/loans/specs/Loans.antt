@@ -14,7 +14,6 @@ use Rattle.nll_spec.specs.Loans.{loanAt, loansOf, loanNumber}
 use Rattle.repr.specs.Reading.{borrowKindOf, pathOf}
 use Rattle.record.specs.Layout.{Layout}
 use Rattle.record.specs.declared.Head.{Head}
-use Rattle.bit_set.specs.Bits.{has}
 use Rattle.env.specs.Prefixes.{ShortestOf}
 use Rattle.graph.specs.Search.{WalkedIn}
 use Rattle.loans.specs.Table.{entryOf}

@@ -20,7 +20,6 @@ ghost use Rattle.nll_spec.specs.Syntax.{Job};
 ghost use Rattle.nll_spec.specs.WellFormed.{named, pathsFit};
 ghost use Rattle.nll_spec.specs.Graph.{graphOf};
 ghost use Rattle.nll_spec.specs.Loans.{loansOf};
-ghost use Rattle.bit_set.specs.Bits.{has};
 ghost use Rattle.record.specs.Layout.{Layout};
 ghost use Rattle.graph.specs.Search.{WalkedIn};
 ghost use Rattle.loans.specs.Table.{placeOf, kindFrom, numberOf, entryOf, Put};

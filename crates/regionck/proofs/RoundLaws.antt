@@ -5,7 +5,6 @@ use mathlib.Core.Bool.{Bool, true, false, true≢false, cond}
 use mathlib.Core.List.{List, [], _++_, append-nil, append-assoc}
 use Prim.Native.Nat.{ℕ, _+_, _*_, _≤_, _<_}
 use native.Mathlib.Omega.{arith}
-use native.Mathlib.Decide.{decLt}
 use lib.ListN.{length, length-replicate}
 use Rattle.nll_spec.specs.Lists.{Member}
 use Rattle.nll_spec.specs.Syntax.{Job, Point}
@@ -85,14 +84,6 @@ module _ {s t : List ℕ} {h : Head} {walked : List ℕ} {code : ℕ} where
         ∙ ap (λ (cs : List Outlives). cs ++ walkedAt j p) (x .holds j k)
         ∙ sym (select-below (λ (q : ℕ). constraintsAt j q (actionAt (graphOf j) q)) (isWalked (graphOf j)) p);
   }
-
--- a list without room has the constraints of a point
-pub some-point : {from p room : ℕ} → from ≤ p → (p ≡ from → 264 ≤ room) → room < 264 → from < p
-some-point {from} {p} l k r = go (decLt from p)
-  where
-    go : Dec (from < p) → from < p
-    go (yes q) = q
-    go (no q) = absurd (omega (arith, r, k (omega (arith, l, q))))
 
 -- ---- Regions that are inner ones of no constraint of a point
 

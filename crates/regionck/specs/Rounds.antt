@@ -58,11 +58,6 @@ pub record Holding (s t : List ℕ) (h : Head) (walked : List ℕ) (code : ℕ) 
   pub within : to ≤ code
   pub holds : (j : Job) → Known s t h walked code j → constraintsBelow j from ++ constraintsIn ls ≡ constraintsBelow j to
 
--- The same up to r, which is past `from` if that is a point of the blocks.
-pub record Collects (s t : List ℕ) (h : Head) (walked : List ℕ) (code from : ℕ) (ls : List ℕ) (r : ℕ) : Type 0 where
-  pub later : from < code → from < r
-  pub holding : Holding s t h walked code ls from r
-
 -- No region of a point's row is the inner one of a constraint of the point.
 pub record Sound (s t : List ℕ) (h : Head) (walked : List ℕ) (code : ℕ) (absent : List ℕ) : Type 0 where
   pub none : (j : Job) → Known s t h walked code j → (p : Point) (c : Outlives) → p < code → Member c (walkedAt j p) → has absent (rowBit p (c .sub)) ≡ true → ⊥

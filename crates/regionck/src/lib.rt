@@ -68,13 +68,13 @@ fn solve(
     hot: &mut [u32],
     absent: &mut [u32],
 )
-    requires { ⌜ (length (now layout) ≡ 1280) × (length (now grown) ≡ 128) × (265 ≤ length (now list)) × ((i : ℕ) → has (now absent) i ≡ false) ⌝ }
+    requires { ⌜ (length (now layout) ≡ 1280) × (length (now grown) ≡ 128) × ((i : ℕ) → has (now absent) i ≡ false) ⌝ }
     ensures { λ _. ⌜ (length (now (grown .exit)) ≡ 128) × ((j : Job) → Seeded (now (s .entry)) (now (layout .entry)) head (now (first .entry)) (now (succ .entry)) (now (walked .entry)) shape (now (words .entry)) j
         → Chained (now (chain .entry)) (now (first .entry)) (now (succ .entry)) → Solved (ruleOf rule) j (now (words .entry)) (now (words .exit)) (now (grown .exit))) ⌝ }
 {
     clear(grown);
     constraint_list::clear(hot);
-    let to = collect(s, layout, head, walked, shape.code, 0, list);
+    let to = collect(s, layout, head, walked, shape.code, list);
     let mut last = [1; 128];
     let mut left = ROUNDS;
     while left != 0 {

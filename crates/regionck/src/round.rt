@@ -14,7 +14,7 @@ ghost use lib.Dec.{eqb};
 ghost use Rattle.nll_spec.specs.Output.{wordBits};
 ghost use Rattle.bit_set.specs.Bits.{withBit};
 ghost use Rattle.constraint_list.specs.Listed.{countIn, Draws};
-ghost use Rattle.regionck.specs.Rounds.{PointAdds, Collects, Holding, Sound, RunsBelow, OwnKept, RoundRuns};
+ghost use Rattle.regionck.specs.Rounds.{PointAdds, Holding, Sound, RunsBelow, OwnKept, RoundRuns};
 
 // No action makes more constraints.
 const MOST: usize = 264;
@@ -41,21 +41,20 @@ pub fn point(
     constrain(s, layout, site, list);
 }
 
-// Puts the constraints of point `from` and of those after it into the list, as far as it has room for all of a point's. Returns the first point left out.
+// Puts the constraints of the first points into the list, of as many as it has room for whatever a point makes. Returns the first point left out.
 pub fn collect(
     s: &[u8],
     layout: &[u16; 1280],
     head: Head,
     walked: &[u32; 32],
     code: usize,
-    from: usize,
     list: &mut [u32],
 ) -> usize
-    requires { ⌜ (length (now layout) ≡ 1280) × (from ≤ code) × (265 ≤ length (now list)) ⌝ }
-    ensures { λ r. ⌜ Collects (now (s .entry)) (now (layout .entry)) head (now (walked .entry)) code from (now (list .exit)) r ⌝ }
+    requires { ⌜ length (now layout) ≡ 1280 ⌝ }
+    ensures { λ r. ⌜ Holding (now (s .entry)) (now (layout .entry)) head (now (walked .entry)) code (now (list .exit)) 0 r ⌝ }
 {
     constraint_list::clear(list);
-    let mut p = from;
+    let mut p = 0;
     while p < code {
         if constraint_list::room(list) < MOST {
             return p;

@@ -10,7 +10,7 @@ use Rattle.nll_spec.specs.Syntax as syntax
 use Rattle.nll_spec.specs.Syntax.{Ty, Args, RegionArg, TypeArg}
 use Rattle.nll_spec.specs.Decode.{Reading, refused, read, Reader, done, refuse, _>>=_, byte, pick, oneOf, Part, part, region, nodeTag, args, typeWithin, type, maxNodes}
 use Rattle.repr.specs.Reading.{rest, ended}
-use Rattle.repr.specs.Types.{Inner, node, nodeSays, NodeSays, argumentSays, ArgumentSays, leftOf, nodesSays, AtMost, onward, openedSays, Paid, OpenedSays, FirstSays, TypeSays, ArgumentsSay}
+use Rattle.repr.specs.Types.{Inner, node, nodeSays, NodeSays, argumentSays, ArgumentSays, leftOf, nodesSays, AtMost, onward, openedSays, Falls, OpenedSays, FirstSays, TypeSays, ArgumentsSay}
 use Rattle.repr.specs.declared.Cursor.{Cursor}
 use Rattle.repr.specs.declared.BorrowKind.{BorrowKind}
 use Rattle.repr.specs.declared.Region.{Region}
@@ -129,7 +129,7 @@ module _ {s : List ℕ} {at left c few : ℕ} (x : Down s at left c few) where
   -- the tag is missing
   pub opened-missing : {k : ℕ} → byte (drop c s) ≡ refused k → OpenedSays s at left (Refused k)
   unfolding typeWithin nodeTag
-  opened-missing {k} e = record { same = λ depth n h. sym (ap (onward (typeWithin depth) n) (x .same depth h ∙ go depth (omega (arith, h, x .fewer)))); paid = tt }
+  opened-missing {k} e = record { same = λ depth n h. sym (ap (onward (typeWithin depth) n) (x .same depth h ∙ go depth (omega (arith, h, x .fewer)))); falls = tt }
     where
       go : (depth : ℕ) → few < depth → leftOf (typeWithin depth few (drop c s)) ≡ refused k
       go zero h = absurd (omega arith)
@@ -138,7 +138,7 @@ module _ {s : List ℕ} {at left c few : ℕ} (x : Down s at left c few) where
   -- no node is left for it
   pub opened-full : {tag : ℕ} {over : List ℕ} → byte (drop c s) ≡ read tag over → few ≡ 0 → OpenedSays s at left (Refused 4)
   unfolding typeWithin nodeTag refuse
-  opened-full {tag} {over} e z = record { same = λ depth n h. sym (ap (onward (typeWithin depth) n) (x .same depth h ∙ go depth (omega (arith, h, x .fewer)))); paid = tt }
+  opened-full {tag} {over} e z = record { same = λ depth n h. sym (ap (onward (typeWithin depth) n) (x .same depth h ∙ go depth (omega (arith, h, x .fewer)))); falls = tt }
     where
       go : (depth : ℕ) → few < depth → leftOf (typeWithin depth few (drop c s)) ≡ refused 4
       go zero h = absurd (omega arith)
@@ -157,7 +157,7 @@ module _ {s : List ℕ} {at left c few : ℕ} (x : Down s at left c few) where
         go (suc depth) h = first-node e depth h ∙ left-done (typeWithin depth (few - 1)) _ (rest s referent) ∙ ap leftOf (deeper depth (few - 1) (rest s referent) (omega (arith, h, x .fewer, z)))
 
     pub opened-refused : {k : ℕ} → d ≡ nodeStep.Refused k → OpenedSays s at left (Refused k)
-    opened-refused {k} e = record { same = go; paid = tt }
+    opened-refused {k} e = record { same = go; falls = tt }
       where
         go : (depth n : ℕ) → left < depth → openedSays (typeWithin depth) n s (Refused k) ≡ onward (typeWithin depth) n (leftOf (typeWithin depth left (drop at s)))
         go zero n h = absurd (omega arith)
@@ -165,7 +165,7 @@ module _ {s : List ℕ} {at left c few : ℕ} (x : Down s at left c few) where
 
     -- a node without arguments
     opened-leaf : {n : NodeStep} {next : Cursor} → d ≡ n → ((depth : ℕ) → leftOf (nodeSays (typeWithin depth) (few - 1) s n) ≡ read (few - 1) (rest s next)) → OpenedSays s at left (Opened 0 (few - 1) next)
-    opened-leaf {next = next} e f = record { same = go; paid = omega (arith, x .fewer, z) }
+    opened-leaf {next = next} e f = record { same = go; falls = omega (arith, x .fewer, z) }
       where
         go : (depth n : ℕ) → left < depth → openedSays (typeWithin depth) n s (Opened 0 (few - 1) next) ≡ onward (typeWithin depth) n (leftOf (typeWithin depth left (drop at s)))
         go zero n h = absurd (omega arith)
@@ -178,7 +178,7 @@ module _ {s : List ℕ} {at left c few : ℕ} (x : Down s at left c few) where
     opened-bound e = opened-leaf e (λ depth. refl)
 
     pub opened-struct : {name : StructName} {count : ℕ} {arguments : Cursor} → d ≡ nodeStep.Struct name count arguments → count < 256 → OpenedSays s at left (Opened count (few - 1) arguments)
-    opened-struct {count = count} {arguments = arguments} e l = record { same = go; paid = omega (arith, x .fewer, z, l) }
+    opened-struct {count = count} {arguments = arguments} e l = record { same = go; falls = omega (arith, x .fewer, z, l) }
       where
         go : (depth n : ℕ) → left < depth → openedSays (typeWithin depth) n s (Opened count (few - 1) arguments) ≡ onward (typeWithin depth) n (leftOf (typeWithin depth left (drop at s)))
         go zero n h = absurd (omega arith)
@@ -191,27 +191,27 @@ module _ {s : List ℕ} {at : ℕ} (left : ℕ) {d : ArgumentStep} (y : Argument
   says-argument e depth n = sym (ap leftOf (told (argumentSays (typeWithin depth) n left s) (y .same (typeWithin depth) n left) e))
 
   pub first-refused : {k : ℕ} → d ≡ argumentStep.Refused k → FirstSays s at left (Refused k)
-  first-refused e = record { same = λ depth n h. says-argument e depth n; paid = tt }
+  first-refused e = record { same = λ depth n h. says-argument e depth n; falls = tt }
 
   pub first-region : {r : Region} {next : Cursor} → d ≡ argumentStep.Region r next → FirstSays s at left (Opened 0 left next)
-  first-region {next = next} e = record { same = λ depth n h. rw zero-add (sym (left-done (args (typeWithin depth) n left) _ (rest s next)) ∙ says-argument e depth n); paid = omega arith }
+  first-region {next = next} e = record { same = λ depth n h. rw zero-add (sym (left-done (args (typeWithin depth) n left) _ (rest s next)) ∙ says-argument e depth n); falls = omega arith }
 
   pub first-type : {ty : Cursor} {r : OpenedStep} → d ≡ argumentStep.Type ty → OpenedSays s (ty .at) left r → FirstSays s at left r
-  first-type {ty} e o = record { same = λ depth n h. o .same depth n h ∙ sym (left-onward (typeWithin depth) n left (rest s ty) TypeArg) ∙ says-argument e depth n; paid = o .paid }
+  first-type {ty} e o = record { same = λ depth n h. o .same depth n h ∙ sym (left-onward (typeWithin depth) n left (rest s ty) TypeArg) ∙ says-argument e depth n; falls = o .falls }
 
 -- ---- All arguments
 
 -- `count` arguments up to a place: reading them is reading n arguments of at most `few` nodes there
 pub record Along (s : List ℕ) (at count left c n few : ℕ) : Type 0 where
   pub same : (depth : ℕ) → left < depth → leftOf (args (typeWithin depth) count left (drop at s)) ≡ leftOf (args (typeWithin depth) n few (drop c s))
-  pub paid : n + 256 * few ≤ count + 256 * left
+  pub falls : n + 256 * few ≤ count + 256 * left
 
 pub along-none : {s : List ℕ} {at count left n : ℕ} → n ≡ count → Along s at count left at n left
-along-none {s} {at} {count} {left} e = record { same = λ depth h. ap (λ (m : ℕ). leftOf (args (typeWithin depth) m left (drop at s))) (sym e); paid = omega (arith, e) }
+along-none {s} {at} {count} {left} e = record { same = λ depth h. ap (λ (m : ℕ). leftOf (args (typeWithin depth) m left (drop at s))) (sym e); falls = omega (arith, e) }
 
 module _ {s : List ℕ} {at count left c n few : ℕ} (x : Along s at count left c n few) (small : count < 256) where
   depth-left : few ≤ left
-  depth-left = omega (arith, x .paid, small)
+  depth-left = omega (arith, x .falls, small)
 
   first-then : {r : OpenedStep} → FirstSays s c few r → (n ≡ 0 → ⊥) → (depth : ℕ) → left < depth → leftOf (args (typeWithin depth) count left (drop at s)) ≡ openedSays (typeWithin depth) (n - 1) s r
   first-then f z depth h = x .same depth h ∙ ap (λ (m : ℕ). leftOf (args (typeWithin depth) m few (drop c s))) (omega (arith, z)) ∙ sym (f .same depth (n - 1) (omega (arith, h, depth-left)))
@@ -223,11 +223,11 @@ module _ {s : List ℕ} {at count left c n few : ℕ} (x : Along s at count left
   along-more {more = more} {l = l} {next = next} f z e = record {
     same = λ depth h.
         first-then f z depth h ∙ ap (openedSays (typeWithin depth) (n - 1) s) e ∙ ap (λ (m : ℕ). leftOf (args (typeWithin depth) m l (rest s next))) (omega arith);
-    paid = let p = subst (Paid few) e (f .paid) in omega (arith, x .paid, p, z);
+    falls = let p = subst (Falls few) e (f .falls) in omega (arith, x .falls, p, z);
   }
 
   pub along-less : {r : OpenedStep} {more l : ℕ} {next : Cursor} → FirstSays s c few r → (n ≡ 0 → ⊥) → r ≡ Opened more l next → n - 1 + more + 256 * l < n + 256 * few
-  along-less f z e = let p = subst (Paid few) e (f .paid) in omega (arith, p, z)
+  along-less f z e = let p = subst (Falls few) e (f .falls) in omega (arith, p, z)
 
   pub along-ended : {c′ : Cursor} → c′ .at ≡ c → n ≡ 0 → ArgumentsSay s at count left (nodesStep.Ended few c′)
   unfolding args done
@@ -247,7 +247,7 @@ module _ {s : List ℕ} {at left : ℕ} {r : OpenedStep} (o : OpenedSays s at le
   }
     where
       few-left : few ≤ left
-      few-left = let p = subst (Paid left) e (o .paid) in omega (arith, p)
+      few-left = let p = subst (Falls left) e (o .falls) in omega (arith, p)
 
       fewer-still : (x : Reading ℕ) → AtMost few x → few ≤ left → AtMost left x
       fewer-still (read k over) h g = omega arith

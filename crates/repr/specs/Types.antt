@@ -97,26 +97,27 @@ abbrev pub openedSays : Inner → ℕ → List ℕ → OpenedStep → Reading �
 openedSays inner n s (openedStep.Opened count left next) = leftOf (args inner (count + n) left (rest s next))
 openedSays inner n s (openedStep.Refused k) = refused k
 
--- The nodes that are left pay for the arguments that are to be read.
-abbrev pub Paid : ℕ → OpenedStep → Type 0
-Paid left (openedStep.Opened count l next) = count + 256 * l ≤ 256 * left
-Paid left (openedStep.Refused k) = Unit {0}
+-- The arguments that are to be read yet, together with 256 for each node that is left, are no more than before.
+abbrev pub Falls : ℕ → OpenedStep → Type 0
+Falls left (openedStep.Opened count l next) = count + 256 * l ≤ 256 * left
+Falls left (openedStep.Refused k) = Unit {0}
 
 -- Reading on from the answer is reading the type, whatever arguments come after it.
 pub record OpenedSays (s : List ℕ) (at left : ℕ) (r : OpenedStep) : Type 0 where
   pub same : (depth n : ℕ) → left < depth → openedSays (typeWithin depth) n s r ≡ onward (typeWithin depth) n (leftOf (typeWithin depth left (drop at s)))
-  pub paid : Paid left r
+  pub falls : Falls left r
 
 -- Reading on from the answer is reading the first argument, whatever arguments come after it.
 pub record FirstSays (s : List ℕ) (at left : ℕ) (r : OpenedStep) : Type 0 where
   pub same : (depth n : ℕ) → left < depth → openedSays (typeWithin depth) n s r ≡ leftOf (args (typeWithin depth) (suc n) left (drop at s))
-  pub paid : Paid left r
+  pub falls : Falls left r
 
--- The answer is the definition's, at every depth that is no limit of its own.
+-- The nodes that are left and where the type ends are the definition's, at every depth that is no limit of its own.
 pub record TypeSays (s : List ℕ) (at left : ℕ) (r : NodesStep) : Type 0 where
   pub same : (depth : ℕ) → left < depth → nodesSays s r ≡ leftOf (typeWithin depth left (drop at s))
   pub fewer : AtMost left (nodesSays s r)
 
+-- The same of so many arguments.
 pub record ArgumentsSay (s : List ℕ) (at count left : ℕ) (r : NodesStep) : Type 0 where
   pub same : (depth : ℕ) → left < depth → nodesSays s r ≡ leftOf (args (typeWithin depth) count left (drop at s))
   pub fewer : AtMost left (nodesSays s r)

@@ -18,7 +18,6 @@ ghost use Rattle.nll_spec.specs.Decode.{pointCount};
 ghost use Rattle.nll_spec.specs.WellFormed.{named};
 ghost use Rattle.nll_spec.specs.Output.{wordCount};
 ghost use Rattle.record.specs.Layout.{Layout};
-ghost use Rattle.bit_set.specs.Bits.{has};
 ghost use Rattle.liveness.specs.Rows.{LiveRows};
 ghost use Rattle.graph.specs.Search.{WalkedIn};
 ghost use Rattle.seeds.specs.Seeded.{Seeded};

@@ -1,5 +1,4 @@
 -- `regionck::regionck`: the rounds are run with the chain of the tables. Assumes nothing.
-use native.Mathlib.Omega.{arith}
 use borrow.Author.Needs.{needs}
 use Rattle.bit_set.proofs.BitLaws.{has-zeros}
 use Rattle.regionck.proofs.regionck.Statement.{statement}
@@ -18,7 +17,7 @@ slice-aggregate-solve-3 : tie.Need-slice-aggregate-solve-3
 slice-aggregate-solve-3 c = search needs
 
 solve-requires : tie.Need-solve-requires
-solve-requires c κs = (c .before .before .before .before .before .before .before .before .before .before .before .pre .0, c .before .before .before .before .before .before .before .before .before .before .before .pre .1, omega arith, has-zeros 256)
+solve-requires c κs = (c .before .before .before .before .before .before .before .before .before .before .before .pre .0, c .before .before .before .before .before .before .before .before .before .before .before .pre .1, has-zeros 256)
 
 slice-aggregate-solve-4 : tie.Need-slice-aggregate-solve-4
 slice-aggregate-solve-4 c = search needs
@@ -30,7 +29,7 @@ slice-aggregate-solve-6 : tie.Need-slice-aggregate-solve-6
 slice-aggregate-solve-6 c = search needs
 
 solve-requires-2 : tie.Need-solve-requires-2
-solve-requires-2 c κs = (c .before .before .before .before .before .before .before .before .before .before .before .pre .0, c .before .before .before .before .before .before .before .before .before .before .before .pre .1, omega arith, has-zeros 4096)
+solve-requires-2 c κs = (c .before .before .before .before .before .before .before .before .before .before .before .pre .0, c .before .before .before .before .before .before .before .before .before .before .before .pre .1, has-zeros 4096)
 
 same-length : tie.Need-same-length
 same-length c = search needs

@@ -27,10 +27,10 @@ collect-requires : tie.Need-collect-requires Inv-loop μ-loop
 collect-requires c κs = search needs
 
 loop-holds : tie.Need-loop-holds Inv-loop μ-loop
-loop-holds c = (search needs, c .before .before .before .before .before .before .before .before .clear .ensures .sized, search needs, search needs, sound-none (c .before .before .before .before .before .before .before .before .before .before .before .before .before .before .before .pre .3), kept-none (c .before .before .before .before .before .before .before .before .before .before .before .before .before .before .before .args .s .now) (c .before .before .before .before .before .before .before .before .before .before .before .before .before .before .before .args .layout .now) (c .before .before .before .before .before .before .before .before .before .before .before .before .before .before .before .args .head) (c .before .before .before .before .before .before .before .before .before .before .before .before .before .before .before .args .first .now) (c .before .before .before .before .before .before .before .before .before .before .before .before .before .before .before .args .succ .now) (c .before .before .before .before .before .before .before .before .before .before .before .before .before .before .before .args .chain .now) (c .before .before .before .before .before .before .before .before .before .before .before .before .before .before .before .args .walked .now) (c .before .before .before .before .before .before .before .before .before .before .before .before .before .before .before .args .shape) (c .before .before .before .before .before .before .before .before .before .before .before .before .before .before .before .args .rule) (c .before .before .before .before .before .before .before .before .before .before .before .before .before .before .before .args .words .now) (c .before .before .before .before .before .before .clear2 .ensures .1), going-start (c .before .before .before .before .before .before .before .before .before .before .before .before .before .before .before .args .s .now) (c .before .before .before .before .before .before .before .before .before .before .before .before .before .before .before .args .layout .now) (c .before .before .before .before .before .before .before .before .before .before .before .before .before .before .before .args .head) (c .before .before .before .before .before .before .before .before .before .before .before .before .before .before .before .args .first .now) (c .before .before .before .before .before .before .before .before .before .before .before .before .before .before .before .args .succ .now) (c .before .before .before .before .before .before .before .before .before .before .before .before .before .before .before .args .chain .now) (c .before .before .before .before .before .before .before .before .before .before .before .before .before .before .before .args .walked .now) (c .before .before .before .before .before .before .before .before .before .before .before .before .before .before .before .args .shape) (c .before .before .before .before .before .before .before .before .before .before .before .before .before .before .before .args .rule) (c .before .before .before .before .before .before .before .before .before .before .before .before .before .before .before .args .words .now) (c .before .before .before .before .before .before .before .before .clear .ensures))
+loop-holds c = (search needs, c .before .before .before .before .before .before .before .before .clear .ensures .sized, search needs, search needs, sound-none (c .before .before .before .before .before .before .before .before .before .before .before .before .before .before .before .pre .2), kept-none (c .before .before .before .before .before .before .before .before .before .before .before .before .before .before .before .args .s .now) (c .before .before .before .before .before .before .before .before .before .before .before .before .before .before .before .args .layout .now) (c .before .before .before .before .before .before .before .before .before .before .before .before .before .before .before .args .head) (c .before .before .before .before .before .before .before .before .before .before .before .before .before .before .before .args .first .now) (c .before .before .before .before .before .before .before .before .before .before .before .before .before .before .before .args .succ .now) (c .before .before .before .before .before .before .before .before .before .before .before .before .before .before .before .args .chain .now) (c .before .before .before .before .before .before .before .before .before .before .before .before .before .before .before .args .walked .now) (c .before .before .before .before .before .before .before .before .before .before .before .before .before .before .before .args .shape) (c .before .before .before .before .before .before .before .before .before .before .before .before .before .before .before .args .rule) (c .before .before .before .before .before .before .before .before .before .before .before .before .before .before .before .args .words .now) (c .before .before .before .before .before .before .clear2 .ensures .1), going-start (c .before .before .before .before .before .before .before .before .before .before .before .before .before .before .before .args .s .now) (c .before .before .before .before .before .before .before .before .before .before .before .before .before .before .before .args .layout .now) (c .before .before .before .before .before .before .before .before .before .before .before .before .before .before .before .args .head) (c .before .before .before .before .before .before .before .before .before .before .before .before .before .before .before .args .first .now) (c .before .before .before .before .before .before .before .before .before .before .before .before .before .before .before .args .succ .now) (c .before .before .before .before .before .before .before .before .before .before .before .before .before .before .before .args .chain .now) (c .before .before .before .before .before .before .before .before .before .before .before .before .before .before .before .args .walked .now) (c .before .before .before .before .before .before .before .before .before .before .before .before .before .before .before .args .shape) (c .before .before .before .before .before .before .before .before .before .before .before .before .before .before .before .args .rule) (c .before .before .before .before .before .before .before .before .before .before .before .before .before .before .before .args .words .now) (c .before .before .before .before .before .before .before .before .clear .ensures))
 
 round-requires : tie.Need-round-requires Inv-loop μ-loop
-round-requires c κs = (c .before .before .before .before .before .before .before .before .before .before .before .before .before .before .before .before .before .before .before .before .before .before .pre .0, c .before .before .before .before .before .before .before .before .before .collect .ensures .holding, c .before .before .before .before .before .before .loop .inv .4)
+round-requires c κs = (c .before .before .before .before .before .before .before .before .before .before .before .before .before .before .before .before .before .before .before .before .before .before .pre .0, c .before .before .before .before .before .before .before .before .before .collect .ensures, c .before .before .before .before .before .before .loop .inv .4)
 
 any-marked-requires : tie.Need-any-marked-requires Inv-loop μ-loop
 any-marked-requires c κs = search needs

@@ -1,28 +1,25 @@
--- `regionck::round::collect` meets its contract. The loop's invariant: the list has the constraints of the points from `from` on, up to p. Assumes nothing.
+-- `regionck::round::collect` meets its contract. The loop's invariant: the list has the constraints of the points up to p. Assumes nothing.
 use Prim.Native.Nat.{_-_, _≤_}
 use mathlib.Core.Path.{_≡_}
 use native.Mathlib.Omega.{arith}
 use lib.ListN.{length}
-use Rattle.constraint_list.specs.Listed.{roomIn}
 use Rattle.regionck.specs.Rounds.{Holding}
-use Rattle.regionck.proofs.RoundLaws.{held-none, held-more, some-point}
+use Rattle.regionck.proofs.RoundLaws.{held-none, held-more}
 use borrow.Author.Needs.{needs}
 use Rattle.regionck.proofs.round.collect.Statement.{statement}
 use Rattle.regionck.proofs.round.collect.Tie as tie
 
 abbrev Inv-loop : tie.InvT-loop
-Inv-loop s layout head walked code from list₀ p₀ list p =
-    (from ≤ p) × (p ≤ code) × (length list ≡ length list₀) × (p ≡ from → 264 ≤ roomIn list) × Holding s layout head walked code list from p
+Inv-loop s layout head walked code list₀ p₀ list p = (p ≤ code) × (length list ≡ length list₀) × Holding s layout head walked code list 0 p
 
 abbrev μ-loop : tie.MeasureT-loop
-μ-loop s layout head walked code from list₀ p₀ list p = code - p
+μ-loop s layout head walked code list₀ p₀ list p = code - p
 
 clear-requires : tie.Need-clear-requires Inv-loop μ-loop
 clear-requires c κs = search needs
 
 loop-holds : tie.Need-loop-holds Inv-loop μ-loop
-loop-holds c = let none = c .before .before .clear .ensures .1 in
-    (omega arith, omega arith, search needs, λ e. omega (arith, none), held-none none (omega arith))
+loop-holds c = (omega arith, search needs, held-none (c .before .before .clear .ensures .1) (omega arith))
 
 room-requires : tie.Need-room-requires Inv-loop μ-loop
 room-requires c κs = search needs
@@ -31,7 +28,7 @@ same-length : tie.Need-same-length Inv-loop μ-loop
 same-length c = search needs
 
 returns : tie.Need-returns Inv-loop μ-loop
-returns c = record { later = λ l. some-point (c .before .before .before .before .loop .inv .0) (c .before .before .before .before .loop .inv .3) (omega arith); holding = c .before .before .before .before .loop .inv .4 }
+returns c = c .before .before .before .before .loop .inv .2
 
 point-requires : tie.Need-point-requires Inv-loop μ-loop
 point-requires c κs = search needs
@@ -43,13 +40,13 @@ loop-less : tie.Need-loop-less Inv-loop μ-loop
 loop-less c = search needs
 
 loop-again : tie.Need-loop-again Inv-loop μ-loop
-loop-again c = (omega arith, omega arith, search needs, λ e. absurd (omega arith), held-more (c .before .before .point .ensures) (c .before .before .before .before .before .before .before .before .loop .inv .4) (omega arith) (omega arith))
+loop-again c = (omega arith, search needs, held-more (c .before .before .point .ensures) (c .before .before .before .before .before .before .before .before .loop .inv .2) (omega arith) (omega arith))
 
 same-length-2 : tie.Need-same-length-2 Inv-loop μ-loop
 same-length-2 c = search needs
 
 returns-2 : tie.Need-returns-2 Inv-loop μ-loop
-returns-2 c = record { later = λ l. omega arith; holding = c .before .loop .inv .4 }
+returns-2 c = c .before .loop .inv .2
 
 pub collect-spec : {M : Type 1} → statement M
 collect-spec =

@@ -35,7 +35,7 @@ cast-n : tie.Need-cast-n Inv-loop μ-loop
 cast-n c = search needs
 
 add-n : tie.Need-add-n Inv-loop μ-loop
-add-n c = let e = along-more (c .before .before .before .before .before .loop .inv) (omega arith) (c .before .before .before .first-argument .ensures) (c .before .before .before .before .loop-test .taken) (c .before .more .given .1) in omega (arith, e .paid)
+add-n c = let e = along-more (c .before .before .before .before .before .loop .inv) (omega arith) (c .before .before .before .first-argument .ensures) (c .before .before .before .before .loop-test .taken) (c .before .more .given .1) in omega (arith, e .falls)
 
 loop-less : tie.Need-loop-less Inv-loop μ-loop
 loop-less c = along-less (c .before .before .before .before .before .loop .inv) (omega arith) (c .before .before .before .first-argument .ensures) (c .before .before .before .before .loop-test .taken) (c .before .more .given .1)
