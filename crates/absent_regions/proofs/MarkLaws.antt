@@ -1,13 +1,13 @@
 -- Marks of inner regions, and the set of the marked regions. Assumes nothing.
 use mathlib.Core.Path.{_≡_, refl, sym, ap, ap₂, _∙_}
 use mathlib.Core.Logic.{_⊎_, inl, inr, ⊎-elim}
-use mathlib.Core.Bool.{Bool, true, false, cond, not, _||_, true≢false}
+use mathlib.Core.Bool.{Bool, true, false, cond, not, _&&_, _||_, and-true, and-false, true≢false}
 use mathlib.Core.List.{List, replicate}
-use Prim.Native.Nat.{ℕ, _+_, _*_, _≤_, _<_}
+use Prim.Native.Nat.{ℕ, _+_, _*_, _<_}
 use native.Mathlib.Omega.{arith}
 use native.Mathlib.Decide.{ℕ-discrete}
 use native.Mathlib.Numerals.{add-one}
-use lib.ListN.{length, getD, set, length-set}
+use lib.ListN.{getD, set, length-set, getD-replicate}
 use lib.Seq.{getD-set-same, getD-set-other}
 use lib.Dec.{eqb}
 use borrow.Author.Tests.{eq-eqb, ne-eqb}
@@ -17,36 +17,34 @@ use Rattle.nll_spec.specs.Constraints.{Outlives}
 use Rattle.bit_set.specs.Bits.{has, withBit}
 use Rattle.bit_set.proofs.BitLaws.{length-with, has-zeros, has-with, has-with-other}
 use Rattle.graph.specs.Search.{Marked}
-use Rattle.constraint_list.specs.Listed.{outlivesOf, outlivesFrom, countIn}
+use Rattle.constraint_list.specs.Listed.{outlivesOf, outlivesFrom}
 use Rattle.constraint_list.specs.declared.Constraint.{Constraint}
-use Rattle.absent_regions.specs.Absent.{innerAt, InnerMarked, Marks}
+use Rattle.absent_regions.specs.Absent.{innerAt, isAbsent, InnerMarked, Marks}
 
 -- ---- Marks of inner regions
 
 module _ {ls : List ℕ} where
-  pub inner-none : {marks : List ℕ} → length marks ≡ 128 → InnerMarked ls 0 marks
-  inner-none e = record { sized = e; marked = λ i b. absurd (omega arith) }
+  pub inner-none : InnerMarked ls 0 (replicate 128 0)
+  unfolding isAbsent
+  inner-none = record { sized = refl; is = λ x l. eq-eqb _ 0 (getD-replicate 128 x 0 0 l) }
 
   inner-with : {marks : List ℕ} (i : ℕ) {c : Constraint} → InnerMarked ls i marks → outlivesOf c ≡ outlivesFrom (getD ls (i + 1) 0) → InnerMarked ls (i + 1) (set marks (c .sub) 1)
-  inner-with {marks} i {c} a e =
-      record { sized = length-set marks (c .sub) 1 ∙ a .sized; marked = λ k g l. go k g l (ℕ-discrete (innerAt ls k) (c .sub)) }
+  unfolding isAbsent
+  inner-with {marks} i {c} a e = record { sized = length-set marks (c .sub) 1 ∙ a .sized; is = λ x l. go x l (ℕ-discrete x (c .sub)) }
     where
       here : innerAt ls i ≡ c .sub
       here = ap (λ (k : ℕ). outlivesFrom (getD ls k 0) .sub) (sym (add-one i)) ∙ sym (ap (λ (o : Outlives). o .sub) e)
 
-      go : (k : ℕ) → k < i + 1 → innerAt ls k < 128 → Dec (innerAt ls k ≡ c .sub) → Marked (set marks (c .sub) 1) (innerAt ls k)
-      go k g l (yes q) z =
-          let x : _≡_ {A = ℕ} 1 0 = sym (getD-set-same marks (c .sub) 1 0 (omega (arith, q, l, a .sized))) ∙ ap (λ (r : RegionName). getD (set marks (c .sub) 1) r 0) (sym q) ∙ z in
-          omega arith
-      go k g l (no q) z =
-          let n : k ≡ i → ⊥ = λ w. q (ap (innerAt ls) w ∙ here) in
-          a .marked k (omega (arith, g, n)) l (sym (getD-set-other marks (c .sub) (innerAt ls k) 1 0 q) ∙ z)
+      test : (x : RegionName) (b : Bool) → eqb (innerAt ls i) x ≡ b → (isAbsent ls i x && not b) ≡ isAbsent ls (i + 1) x
+      test x b f = rw (add-one, ← f)
+
+      go : (x : RegionName) → x < 128 → Dec (x ≡ c .sub) → eqb (getD (set marks (c .sub) 1) x 0) 0 ≡ isAbsent ls (i + 1) x
+      go x l (yes q) =
+          rw (q, getD-set-same marks (c .sub) 1 0 (omega (arith, q, l, a .sized))) (sym (and-false (isAbsent ls i (c .sub))) ∙ test (c .sub) true (eq-eqb _ _ here))
+      go x l (no q) = rw (getD-set-other marks (c .sub) x 1 0 q) (a .is x l ∙ sym (and-true (isAbsent ls i x)) ∙ test x false (ne-eqb _ _ (λ w. q (sym w ∙ here))))
 
   pub inner-more : {marks marks′ : List ℕ} (i : ℕ) {c : Constraint} → InnerMarked ls i marks → outlivesOf c ≡ outlivesFrom (getD ls (i + 1) 0) → marks′ ≡ set marks (c .sub) 1 → InnerMarked ls (i + 1) marks′
   inner-more i {c} a e s = rw s (inner-with i {c = c} a e)
-
-  pub inner-all : {marks : List ℕ} {i : ℕ} → InnerMarked ls i marks → countIn ls ≤ i → InnerMarked ls (countIn ls) marks
-  inner-all a l = record { sized = a .sized; marked = λ k g. a .marked k (omega (arith, g, l)) }
 
 -- ---- The marked regions
 

@@ -15,7 +15,7 @@ fn wide(x: u8) -> usize
     x as usize
 }
 
-// Puts x into the set that starts at word start, if told to.
+// Puts x into the set that starts at word start, if `yes`.
 fn add_if(yes: bool, words: &mut [u32], start: usize, x: usize)
     ensures { λ _. ⌜ now (words .exit) ≡ cond yes (withBit (now (words .entry)) (wordBits * start + x)) (now (words .entry)) ⌝ }
 {
@@ -25,7 +25,7 @@ fn add_if(yes: bool, words: &mut [u32], start: usize, x: usize)
     bit_set::add(words, start, x);
 }
 
-// The regions with a mark in one of two rows.
+// The regions with a mark in one of two arrays of marks.
 pub fn marked(last: &[u8; 128], grew: &[u8; 128]) -> [u32; 4]
     ensures { λ r. ⌜ Marks (now (last .entry)) (now (grew .entry)) 128 r ⌝ }
 {
@@ -47,7 +47,7 @@ fn mark(marks: &mut [u8], region: u8)
     marks[r] = 1;
 }
 
-// Marks of the inner regions of the list's constraints.
+// Marks of the inner regions of the list's constraints, as far as they are below 128.
 fn inner_regions(list: &[u32]) -> [u8; 128]
     ensures { λ r. ⌜ InnerMarked (now (list .entry)) (countIn (now (list .entry))) r ⌝ }
 {
@@ -62,7 +62,7 @@ fn inner_regions(list: &[u32]) -> [u8; 128]
     marks
 }
 
-// Puts into row p the regions that are inner regions of no constraint of the list.
+// Puts into row p the regions below 128 that are inner regions of no constraint of the list.
 pub fn put(list: &[u32], p: usize, absent: &mut [u32])
     ensures { λ _. ⌜ Puts (now (list .entry)) p (now (absent .entry)) (now (absent .exit)) ⌝ }
 {
@@ -82,10 +82,9 @@ pub fn all_in(absent: &[u32], p: usize, set: &[u32; 4]) -> bool
     if absent.len() / 4 <= p {
         return false;
     }
+    let mut all = true;
     for k in 0..4 {
-        if (set[k] & absent[4 * p + k]) != set[k] {
-            return false;
-        }
+        all = all & ((set[k] & absent[4 * p + k]) == set[k]);
     }
-    true
+    all
 }
