@@ -34,6 +34,8 @@ pub fn classes() -> Vec<Class> {
         Class::new("dense", || of_nodes(dense, &[2, 3, 4, 6, 8])),
         Class::new("clock", || clocks(&[1, 2, 3].map(|assignments| Clock { ticks: 300, ..Clock::of(assignments) }))),
         Class::new("slow", || of_nodes(slow, &[2])),
+        Class::new("relay", worst::small_relays),
+        Class::new("gates", worst::small_gates),
     ]
 }
 
@@ -81,11 +83,16 @@ pub fn slowest() -> Vec<(String, Vec<u8>)> {
     ] {
         found.push((format!("{relay:?}"), worst::relay(&relay)));
     }
-    // Few constraints in many rounds, and few rounds of many constraints. The largest gates take over half an hour, by estimate.
     let largest = Gates::largest();
-    for gates in
-        [Gates { chain: 120, areas: 8, tokens: 2, assignments: 60, ..largest }, Gates { chain: 4, tokens: 1, ..largest }]
-    {
+    let held = |steps| Gates { tokens: 11, assignments: 400, steps, held: true, ..largest };
+    for gates in [
+        // few constraints in many rounds, then many constraints in few rounds
+        Gates { chain: 120, areas: 8, tokens: 2, assignments: 60, ..largest },
+        Gates { chain: 4, tokens: 1, ..largest },
+        largest,
+        held(0),
+        held(6),
+    ] {
         found.push((format!("{gates:?}"), worst::gates(&gates)));
     }
     found.extend([2, 8, 32].map(|nodes| (format!("dense {nodes}"), dense(&mut Rng::new(1), nodes))));

@@ -27,6 +27,10 @@ fn path(base: Variable, steps: Vec<FieldName>) -> Path {
     Path { base, steps }
 }
 
+fn init(variable: Variable, sources: &[Variable]) -> Action {
+    Action::Init(Path::variable(variable), sources.iter().map(|&source| Path::variable(source)).collect())
+}
+
 fn reference(kind: BorrowKind, name: RegionName, referent: Ty) -> Ty {
     Ty::Ref(kind, Region::Free(name), Box::new(referent))
 }
@@ -116,20 +120,18 @@ const BOTH: Variable = 4;
 const IN_GROUP: Variable = 5;
 
 pub fn clock(clock: &Clock) -> Vec<u8> {
-    let both = || vec![Path::variable(LOWER), Path::variable(UPPER)];
-    let init = |variable, sources| Action::Init(Path::variable(variable), sources);
     let half = REGIONS / 2;
     let mut actions = vec![Action::Constraint { sup: half, sub: 0 }, Action::Constraint { sup: 0, sub: half }];
     let (structs, related) = related(clock.steps, half);
     let [to, from] = related.each_ref().map(|(_, path)| path.clone());
     actions.extend(vec![Action::Assign(to, from); clock.assignments]);
-    actions.push(init(BOTH, both()));
+    actions.push(init(BOTH, &[LOWER, UPPER]));
     actions.extend((1..clock.ticks).map(|tick| match tick % 2 {
-        1 => init(UPPER, vec![Path::variable(LOWER)]),
-        _ => init(LOWER, vec![Path::variable(UPPER)]),
+        1 => init(UPPER, &[LOWER]),
+        _ => init(LOWER, &[UPPER]),
     }));
     if clock.apart {
-        let apart = |v| [init(LOWER, vec![]), init(UPPER, vec![]), init(v, both()), Action::Use(Path::variable(v))];
+        let apart = |v| [init(LOWER, &[]), init(UPPER, &[]), init(v, &[LOWER, UPPER]), Action::Use(Path::variable(v))];
         actions.extend((IN_GROUP..IN_GROUP + GROUPS).flat_map(apart));
     }
     let mut variables: Vec<Ty> = related.into_iter().map(|(ty, _)| ty).collect();
@@ -186,7 +188,6 @@ impl Relay {
 
 pub fn relay(relay: &Relay) -> Vec<u8> {
     let (to, from, lower, upper, both) = (0, 1, 2, 3, 4);
-    let init = |variable, source| Action::Init(Path::variable(variable), vec![Path::variable(source)]);
     let mut actions = vec![Action::Constraint { sup: 0, sub: relay.hops }];
     let related = |variable| path(variable, vec![1; relay.steps]);
     for part in 0..relay.parts {
@@ -195,8 +196,8 @@ pub fn relay(relay: &Relay) -> Vec<u8> {
         let after = |hop: &usize| hop % relay.parts == relay.parts - 1 - part;
         actions.extend((0..relay.hops).rev().filter(after).map(|hop| Action::Constraint { sup: hop + 1, sub: hop }));
     }
-    actions.push(Action::Init(Path::variable(both), vec![Path::variable(lower), Path::variable(upper)]));
-    actions.extend((1..relay.ticks).map(|tick| if tick % 2 == 1 { init(upper, lower) } else { init(lower, upper) }));
+    actions.push(init(both, &[lower, upper]));
+    actions.extend((1..relay.ticks).map(|tick| if tick % 2 == 1 { init(upper, &[lower]) } else { init(lower, &[upper]) }));
     let chain = relay.hops + 1;
     let other = |index: usize| chain + index % (REGIONS - chain);
     let source = |index: usize| if relay.fed { index % chain } else { other(index + 5) };
@@ -211,6 +212,20 @@ pub fn relay(relay: &Relay) -> Vec<u8> {
     let [to, from] = [large_type(nodes, other), large_type(nodes, source)].map(within);
     let variables = vec![to, from, holding(1..chain), holding(0..1), Ty::Unit];
     record(&Job { structs, regions: REGIONS, outlives: vec![], variables, blocks: in_a_row(&actions) })
+}
+
+/// Relays that take the original and the model some seconds at most.
+pub fn small_relays() -> Vec<Vec<u8>> {
+    let one = Relay { hops: 12, assignments: 3, ticks: 20, fed: false, steps: 0, parts: 1 };
+    let relays = [
+        one,
+        Relay { ticks: 60, fed: true, steps: 2, parts: 3, ..one },
+        Relay { assignments: 60, fed: true, steps: 2, parts: 4, ..one },
+        Relay { hops: 30, assignments: 10, ticks: 60, parts: 5, ..one },
+        Relay { hops: 60, assignments: 10, ticks: 60, fed: true, steps: 6, parts: 12 },
+        Relay { hops: 90, assignments: 1, ticks: 8, fed: true, ..one },
+    ];
+    relays.iter().map(relay).collect()
 }
 
 // ---- Many rounds, in each of which all constraints are run
@@ -235,17 +250,40 @@ pub struct Gates {
     pub assignments: usize,
     /// The steps of their paths, each to a type that is the argument of a struct or made by substitution.
     pub steps: usize,
+    /// Whether the assignments between relate the chain's regions with themselves instead, so that each of them may have something to do in
+    /// each round.
+    pub held: bool,
 }
 
 impl Gates {
     /// All 128 regions and 1,024 points.
     pub fn largest() -> Gates {
-        Gates { chain: 100, areas: 26, tokens: 12, assignments: 439, steps: 6 }
+        Gates { chain: 100, areas: 26, tokens: 12, assignments: 439, steps: 6, held: false }
+    }
+
+    /// The two variables of the assignments between.
+    fn related(&self) -> [Variable; 2] {
+        let after_bringing = BRINGING + 2 * self.tokens;
+        if self.held {
+            [after_bringing, after_bringing + 1]
+        } else {
+            LARGE
+        }
+    }
+
+    /// The assignments between, by blocks. Variables of the chain's regions are set anew at the start of each block, so that they are live
+    /// in these blocks only.
+    fn between(&self) -> Vec<Vec<Action>> {
+        let set = if self.held { self.related().map(|variable| init(variable, &[])).to_vec() } else { vec![] };
+        let [to, from] = self.related().map(|variable| path(variable, vec![1; self.steps]));
+        let assigned = vec![Action::Assign(to, from); self.assignments];
+        assigned.chunks(ACTIONS - set.len()).map(|assigned| [&set, assigned].concat()).collect()
     }
 }
 
 /// The variables of gates: the chain's even regions, its odd ones, and those after these; two of large types; for areas of even and of
-/// odd number, what is assigned and what to, to bring the next token; one that gives the first token; and those of the bringing regions.
+/// odd number, what is assigned and what to, to bring the next token; one that gives the first token; those of the bringing regions; and,
+/// where the assignments between are of the chain's regions, two of these.
 const EVEN: Variable = 0;
 const ODD: Variable = 1;
 const AFTER_ODD: Variable = 2;
@@ -256,7 +294,7 @@ const FIRST: Variable = 9;
 const BRINGING: Variable = 10;
 
 pub fn gates(gates: &Gates) -> Vec<u8> {
-    let Gates { chain, tokens, steps, .. } = *gates;
+    let Gates { chain, tokens, steps, held, .. } = *gates;
     let mut structs = regions_and_a_type();
     let around = structs.len();
     structs.extend(in_turn(around, steps));
@@ -272,26 +310,28 @@ pub fn gates(gates: &Gates) -> Vec<u8> {
     // Regions that go from a token to the next one, where the first is in an area of even or odd number, and those that get it from them.
     let bringing = |odd: usize| (0..tokens).map(move |index| chain + 2 * index + odd);
     let brought = |odd: usize| chain + 2 * tokens + odd;
-    let held = |index: usize| chain + 2 * tokens + 2 + index;
+    let full = |index: usize| chain + 2 * tokens + 2 + index;
     let calling = |odd| of(vec![chain - 1; tokens].into_iter().chain(bringing(odd)).chain([brought(1 - odd)]).collect());
     let called = |odd| of(bringing(odd).chain(vec![brought(odd); tokens]).chain([0]).collect());
     let within = |ty| if steps == 0 { ty } else { Ty::Struct(around, vec![Arg::Ty(ty)]) };
-    let large = |index| within(large_type(MAX_NODES - steps.min(1), |_| held(index)));
+    let nodes = MAX_NODES - steps.min(1);
+    let large = |index| within(large_type(nodes, |_| full(index)));
     let pointer = |name| reference(BorrowKind::Shared, name, Ty::Unit);
     let mut variables = [0, 1, 2].map(every_other).to_vec();
     variables.extend([large(0), large(1), calling(0), calling(1), called(0), called(1), pointer(0)]);
     variables.extend((chain..brought(0)).map(pointer));
-    record(&Job { structs, regions: held(2), outlives: vec![], variables, blocks: gates_blocks(gates) })
+    if held {
+        variables.extend([0, 1].map(|_| within(large_type(nodes, |index| index % chain))));
+    }
+    record(&Job { structs, regions: full(2), outlives: vec![], variables, blocks: gates_blocks(gates) })
 }
 
 /// The first assignments of the areas, those between, an end, a block whose point no region holds, and the areas.
 fn gates_blocks(gates: &Gates) -> Vec<Block> {
-    let Gates { areas, tokens, assignments, steps, .. } = *gates;
-    let init = |variable, sources: &[Variable]| {
-        Action::Init(Path::variable(variable), sources.iter().map(|&source| Path::variable(source)).collect())
-    };
+    let Gates { areas, tokens, .. } = *gates;
     let assign = |to, from| Action::Assign(Path::variable(to), Path::variable(from));
-    let end = areas + assignments.div_ceil(ACTIONS);
+    let between = gates.between();
+    let end = areas + between.len();
     let shut = end + 1;
     let area_at = |area: usize| shut + 1 + area % areas;
     // a walk looks at all eight successors
@@ -303,9 +343,8 @@ fn gates_blocks(gates: &Gates) -> Vec<Block> {
     for area in 0..areas {
         blocks.push(block(vec![area_at(area), area + 1], vec![init(EVEN, &[]), assign(ODD, EVEN)]));
     }
-    let [to, from] = LARGE.map(|variable| path(variable, vec![1; steps]));
-    for actions in vec![Action::Assign(to, from); assignments].chunks(ACTIONS) {
-        blocks.push(block(vec![0, blocks.len() + 1], actions.to_vec()));
+    for actions in between {
+        blocks.push(block(vec![0, blocks.len() + 1], actions));
     }
     let [to, from] = LARGE;
     let apart = vec![init(FIRST, &LARGE), init(to, &[]), init(from, &[to]), Action::Use(Path::variable(from))];
@@ -322,6 +361,19 @@ fn gates_blocks(gates: &Gates) -> Vec<Block> {
         blocks.push(block(vec![area_at(area + 1), end], actions));
     }
     blocks
+}
+
+/// Gates that take the original and the model some seconds at most: of few points and many, each with few constraints and many.
+pub fn small_gates() -> Vec<Vec<u8>> {
+    let few = Gates { chain: 8, areas: 4, tokens: 2, assignments: 1, steps: 0, held: false };
+    let plain = [
+        few,
+        Gates { chain: 4, areas: 2, tokens: 1, assignments: 30, ..few },
+        Gates { chain: 20, areas: 6, assignments: 10, ..few },
+        Gates { assignments: 60, steps: 2, ..few },
+    ];
+    let held = plain.map(|gates| Gates { held: true, ..gates });
+    plain.iter().chain(&held).map(gates).collect()
 }
 
 // ---- Many loans, much that is live, sets that go far
@@ -471,6 +523,8 @@ fn deep_job(nest: &Nest) -> Vec<u8> {
 #[cfg(test)]
 mod tests {
     use super::*;
+    use model::constraints::constraints;
+    use model::graph::Graph;
 
     #[test]
     fn all_are_accepted() {
@@ -479,8 +533,14 @@ mod tests {
         let mut records: Vec<Vec<u8>> = clocks.concat();
         records.extend([0, 1, 6].map(|steps| relay(&Relay::of(60, 300, steps > 0, steps))));
         records.extend([2, 12, 30].map(|parts| relay(&Relay { parts, ..Relay::of(90, 600, false, 6) })));
-        let few = |steps| Gates { chain: 4, areas: 2, tokens: 1, assignments: 1, steps };
-        records.extend([few(0), few(1), few(6), Gates::largest()].iter().map(gates));
+        for held in [false, true] {
+            let few = |steps| Gates { chain: 4, areas: 2, tokens: 1, assignments: 1, steps, held };
+            let many = |steps| Gates { tokens: 11, assignments: 400, steps, held, ..Gates::largest() };
+            records.extend([few(0), few(1), few(6), many(0), many(6)].iter().map(gates));
+        }
+        records.push(gates(&Gates::largest()));
+        records.extend(small_relays());
+        records.extend(small_gates());
         records.extend((0..7).map(loans));
         records.extend(deep());
         records.extend([far(), live()]);
@@ -492,5 +552,16 @@ mod tests {
                 record.len()
             );
         }
+    }
+
+    #[test]
+    fn small_gates_have_few_and_many_points_and_constraints() {
+        let sizes = |record: &Vec<u8>| {
+            let job = model::accept(record).unwrap();
+            (job.points() > 64, constraints(&Graph::new(&job)).len() > 4_096)
+        };
+        let found: Vec<(bool, bool)> = small_gates().iter().map(sizes).collect();
+        let each = [(false, false), (false, true), (true, false), (true, true)];
+        assert_eq!(found, [each, each].concat());
     }
 }

@@ -2,7 +2,7 @@
 
 use generate::jobs::{dense, LARGE, LARGEST, MEDIUM, SMALL, TINY};
 use generate::rng::Rng;
-use generate::worst::{self, Clock, Relay};
+use generate::worst::{self, Clock};
 use generate::{boundary, exhaustive, short};
 use model::decode::MAX_LENGTH;
 use model::encode::with_length;
@@ -55,9 +55,8 @@ fn much_work() -> Vec<Vec<u8>> {
         clock(2, 30, true, 6),
         clock(60, 20, false, 2),
     ];
-    let relay =
-        |hops, assignments, ticks, fed, steps| worst::relay(&Relay { hops, assignments, ticks, fed, steps, parts: 1 });
-    found.extend([relay(12, 3, 20, false, 0), relay(12, 3, 20, true, 2), relay(90, 1, 8, true, 0)]);
+    found.extend(worst::small_relays());
+    found.extend(worst::small_gates());
     found.extend((0..7).map(worst::loans));
     found.extend([worst::far(), worst::live()]);
     found.extend((2..5).map(|nodes| dense(&mut Rng::new(1), nodes)));

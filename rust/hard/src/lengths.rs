@@ -2,6 +2,11 @@
 
 use crate::area::Place;
 use generate::rng::Rng;
+use model::decode::{most, MAX_POINTS};
+
+/// The most words and bytes that an accepted record needs.
+const MOST_WORDS: usize = most::REGIONS as usize * MAX_POINTS.div_ceil(32);
+const MOST_BYTES: usize = 2 * MAX_POINTS + most::DECLARED as usize;
 
 #[derive(Clone, Copy, Debug, PartialEq, Eq)]
 pub struct Lengths {
@@ -32,10 +37,14 @@ pub fn accepted(rng: &mut Rng, needs: (usize, usize)) -> [Lengths; 2] {
     [Lengths { words, bytes, place: Place::End }, other]
 }
 
-/// The calls on a refused record: buffers of any lengths at either end of a page.
+/// The calls on a refused record: buffers of any lengths at either end of a page, most of them short.
 pub fn refused(rng: &mut Rng) -> [Lengths; 2] {
     [Place::End, Place::Start].map(|place| {
-        let (words, bytes) = *rng.pick(&[(0, 0), (1, 1), (3, 5), (9, 40), (40, 90)]);
+        let (words, bytes) = match rng.below(8) {
+            0 => (MOST_WORDS, MOST_BYTES),
+            1 => (rng.below(MOST_WORDS), rng.below(MOST_BYTES)),
+            _ => *rng.pick(&[(0, 0), (1, 1), (3, 5), (9, 40), (40, 90)]),
+        };
         Lengths { words, bytes, place }
     })
 }

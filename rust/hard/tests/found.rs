@@ -72,7 +72,7 @@ fn right(record: &[u8], words: &mut [u32], bytes: &mut [u8]) -> u8 {
 #[test]
 fn wrong_calls_disagree() {
     assert_eq!(disagreements(right), 0);
-    let wrong: [Call; 6] = [
+    let wrong: [Call; 8] = [
         |_, _, _| 1,
         |record, words, bytes| match right(record, words, bytes) {
             10 => 9,
@@ -83,6 +83,21 @@ fn wrong_calls_disagree() {
             let number = right(record, words, bytes);
             if number != 0 {
                 bytes.iter_mut().for_each(|byte| *byte = !*byte);
+            }
+            number
+        },
+        // a refusal that writes only far up
+        |record, words, bytes| {
+            let number = right(record, words, bytes);
+            if let (1..=9, Some(word)) = (number, words.get_mut(4_095)) {
+                *word = !*word;
+            }
+            number
+        },
+        |record, words, bytes| {
+            let number = right(record, words, bytes);
+            if let (1..=9, Some(byte)) = (number, bytes.get_mut(2_063)) {
+                *byte = !*byte;
             }
             number
         },

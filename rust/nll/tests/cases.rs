@@ -1,14 +1,9 @@
 //! The cases of document 01, and what a refusal and an exact fit leave.
 
-use nll::{analyse, sizes, Accepted, Fault, FaultKind, Place, Refusal, Sizes};
+mod common;
 
-/// A record of the folder `jobs`.
-fn job(name: &str) -> Vec<u8> {
-    let file = format!("{}/../../jobs/{name}.hex", env!("CARGO_MANIFEST_DIR"));
-    let text = std::fs::read_to_string(&file).unwrap_or_else(|error| panic!("{file}: {error}"));
-    let digits: Vec<u32> = text.chars().filter(|c| !c.is_whitespace()).map(|c| c.to_digit(16).unwrap()).collect();
-    digits.chunks_exact(2).map(|pair| (pair[0] * 16 + pair[1]) as u8).collect()
-}
+use common::job;
+use nll::{analyse, sizes, Accepted, Fault, FaultKind, Place, Refusal, Sizes};
 
 /// What an answer says: the points of each region, the faults as point, kind and operand, the grown regions.
 #[derive(Debug, PartialEq)]

@@ -1,4 +1,4 @@
-/* Prints the constants of the header, and calls the library with null pointers where the length is 0. */
+/* Prints the constants of the header, and calls the library with null pointers where the length is 0. It is both C and C++. */
 #include <stdio.h>
 #include <string.h>
 
@@ -37,13 +37,50 @@ static void readers(void) {
     expect(bytes[10] == 0 && bytes[11] == 1 && bytes[12] == NLL_UNWRITTEN, "the marks");
 }
 
+#define PRINT(name) printf("%s %d\n", #name, name)
+
+static void constants(void) {
+    PRINT(NLL_VERSION);
+    PRINT(NLL_MAX_RECORD);
+    PRINT(NLL_MAX_STRUCTS);
+    PRINT(NLL_MAX_REGIONS);
+    PRINT(NLL_MAX_DECLARED);
+    PRINT(NLL_MAX_VARIABLES);
+    PRINT(NLL_MAX_BLOCKS);
+    PRINT(NLL_MAX_PARAMETERS);
+    PRINT(NLL_MAX_FIELDS);
+    PRINT(NLL_MAX_OUTLIVED);
+    PRINT(NLL_MAX_SUCCESSORS);
+    PRINT(NLL_MAX_ACTIONS);
+    PRINT(NLL_MAX_STEPS);
+    PRINT(NLL_MAX_SOURCES);
+    PRINT(NLL_MAX_NODES);
+    PRINT(NLL_MAX_POINTS);
+    PRINT(NLL_MAX_BORROWS);
+    PRINT(NLL_MAX_WORDS);
+    PRINT(NLL_MAX_BYTES);
+    PRINT(NLL_ACCEPTED);
+    PRINT(NLL_REFUSED_VERSION);
+    PRINT(NLL_REFUSED_LENGTH);
+    PRINT(NLL_REFUSED_FORM);
+    PRINT(NLL_REFUSED_RANGE);
+    PRINT(NLL_REFUSED_SIZE);
+    PRINT(NLL_REFUSED_NAME);
+    PRINT(NLL_REFUSED_ARGUMENTS);
+    PRINT(NLL_REFUSED_PATH);
+    PRINT(NLL_REFUSED_SHAPE);
+    PRINT(NLL_REFUSED_ROOM);
+    PRINT(NLL_FAULT_NONE);
+    PRINT(NLL_FAULT_READ);
+    PRINT(NLL_FAULT_WRITE);
+    PRINT(NLL_FAULT_MOVE);
+    PRINT(NLL_FAULT_STORAGE_DEAD);
+    PRINT(NLL_UNWRITTEN);
+}
+
 int main(void) {
     null_pointers();
     readers();
-    printf("%d %d %d %d %d %d\n", NLL_MAX_RECORD, NLL_MAX_POINTS, NLL_MAX_REGIONS, NLL_MAX_DECLARED, NLL_MAX_WORDS,
-           NLL_MAX_BYTES);
-    printf("%d %d %d %d %d %d %d %d %d %d\n", NLL_REFUSED_VERSION, NLL_REFUSED_LENGTH, NLL_REFUSED_FORM, NLL_REFUSED_RANGE,
-           NLL_REFUSED_SIZE, NLL_REFUSED_NAME, NLL_REFUSED_ARGUMENTS, NLL_REFUSED_PATH, NLL_REFUSED_SHAPE, NLL_REFUSED_ROOM);
-    printf("%d %d %d %d\n", NLL_FAULT_READ, NLL_FAULT_WRITE, NLL_FAULT_MOVE, NLL_FAULT_STORAGE_DEAD);
+    constants();
     return failures != 0;
 }

@@ -1,97 +1,75 @@
-//! The header: it compiles as strict C, its constants are the wrapper's, and the C example says what the Rust one says.
+//! The header: it compiles as strict C and C++, and its constants are the wrapper's and the model's.
 
-use std::env;
-use std::path::{Path, PathBuf};
-use std::process::{Command, Output};
+mod common;
 
+use std::process::Command;
+
+use common::{compile, printed, text_of, Compiler, C, CPP};
+use model::decode::{most, MAX_BORROWS, MAX_NODES};
 use nll::{FaultKind, Refusal};
 
-fn repository() -> PathBuf {
-    Path::new(env!("CARGO_MANIFEST_DIR")).join("../..")
-}
-
-/// Compiles a C file of the repository with the header and the library.
-fn compile(file: &str) -> PathBuf {
-    let program = Path::new(env!("CARGO_TARGET_TMPDIR")).join(Path::new(file).file_stem().unwrap());
-    let status = Command::new("cc")
-        .args(["-std=c99", "-Wall", "-Wextra", "-pedantic", "-Werror", "-I"])
-        .arg(repository().join("include"))
-        .arg("-o")
-        .arg(&program)
-        .arg(repository().join(file))
-        .arg(env!("NLL_ARCHIVE"))
-        .status()
-        .expect("cc is there");
-    assert!(status.success(), "{file} does not compile");
-    program
-}
-
-fn run(program: &Path, job: &Path) -> (String, Option<i32>) {
-    let Output { stdout, status, .. } =
-        Command::new(program).arg(job).output().unwrap_or_else(|error| panic!("{}: {error}", program.display()));
-    (String::from_utf8(stdout).unwrap(), status.code())
-}
-
-fn spaced(numbers: impl IntoIterator<Item = usize>) -> String {
-    numbers.into_iter().map(|number| number.to_string()).collect::<Vec<_>>().join(" ")
-}
-
-#[test]
-fn constants_null_pointers_and_readers() {
-    let Output { stdout, status, .. } = Command::new(compile("rust/nll/tests/header.c")).output().unwrap();
-    let constants = [nll::MAX_RECORD, nll::MAX_POINTS, nll::MAX_REGIONS, nll::MAX_DECLARED, nll::MAX_WORDS, nll::MAX_BYTES];
-    let kinds = [FaultKind::Read, FaultKind::Write, FaultKind::Move, FaultKind::StorageDead];
-    let expected = [
-        spaced(constants),
-        spaced(Refusal::ALL.map(|refusal| refusal.number().into())),
-        spaced(kinds.map(|kind| kind.number().into())),
+/// The constants in the order in which they are printed, each with the number that the wrapper or the model has, or else document 01.
+fn constants() -> Vec<(String, usize)> {
+    let limits = [
+        ("VERSION", 1),
+        ("MAX_RECORD", nll::MAX_RECORD),
+        ("MAX_STRUCTS", most::STRUCTS.into()),
+        ("MAX_REGIONS", nll::MAX_REGIONS),
+        ("MAX_DECLARED", nll::MAX_DECLARED),
+        ("MAX_VARIABLES", most::VARIABLES.into()),
+        ("MAX_BLOCKS", most::BLOCKS.into()),
+        ("MAX_PARAMETERS", most::PARAMS.into()),
+        ("MAX_FIELDS", most::FIELDS.into()),
+        ("MAX_OUTLIVED", most::OUTLIVED.into()),
+        ("MAX_SUCCESSORS", most::SUCCESSORS.into()),
+        ("MAX_ACTIONS", most::ACTIONS.into()),
+        ("MAX_STEPS", most::STEPS.into()),
+        ("MAX_SOURCES", most::SOURCES.into()),
+        ("MAX_NODES", MAX_NODES),
+        ("MAX_POINTS", nll::MAX_POINTS),
+        ("MAX_BORROWS", MAX_BORROWS),
+        ("MAX_WORDS", nll::MAX_WORDS),
+        ("MAX_BYTES", nll::MAX_BYTES),
+        ("ACCEPTED", 0),
     ];
-    assert_eq!(String::from_utf8(stdout).unwrap(), expected.join("\n") + "\n");
-    assert!(status.success());
+    let faults = [
+        ("FAULT_NONE", 0),
+        ("FAULT_READ", FaultKind::Read.number().into()),
+        ("FAULT_WRITE", FaultKind::Write.number().into()),
+        ("FAULT_MOVE", FaultKind::Move.number().into()),
+        ("FAULT_STORAGE_DEAD", FaultKind::StorageDead.number().into()),
+        ("UNWRITTEN", 0xff),
+    ];
+    let named = |(name, number): (&str, usize)| (format!("NLL_{name}"), number);
+    let refused = |refusal: Refusal| (format!("NLL_REFUSED_{refusal:?}").to_uppercase(), refusal.number().into());
+    limits.map(named).into_iter().chain(Refusal::ALL.map(refused)).chain(faults.map(named)).collect()
 }
 
-/// The place of a fault, which the example in C does not say.
-fn without_place(line: &str) -> &str {
-    line.split(" (block").next().unwrap()
-}
-
-#[test]
-fn both_examples_say_the_same_of_every_job() {
-    let in_c = compile("examples/c/loader.c");
-    // target/PROFILE/deps/TEST and target/PROFILE/examples/loader, which `cargo test -p nll` builds
-    let in_rust = env::current_exe().unwrap().parent().unwrap().join("../examples/loader");
-    let mut jobs = 0;
-    for job in std::fs::read_dir(repository().join("jobs")).unwrap().map(|entry| entry.unwrap().path()) {
-        if job.extension().is_some_and(|extension| extension == "hex") {
-            let (said, status) = run(&in_c, &job);
-            let (expected, expected_status) = run(&in_rust, &job);
-            assert!(said.lines().eq(expected.lines().map(without_place)), "{}", job.display());
-            assert_eq!(status, expected_status, "{}", job.display());
-            jobs += 1;
-        }
-    }
-    assert!(jobs > 20);
-}
-
-fn text_of(file: &str) -> String {
-    std::fs::read_to_string(repository().join(file)).unwrap()
+/// The program prints the constants, and nothing else unless a call of the library or a function of the header is wrong.
+fn prints_the_constants(compiler: &Compiler) {
+    let program = compile(compiler, "rust/nll/tests/header.c");
+    let expected: String = constants().iter().map(|(name, number)| format!("{name} {number}\n")).collect();
+    assert_eq!(printed(&mut Command::new(program)), expected);
 }
 
 #[test]
-fn the_worked_job_is_the_sample() {
-    let document = text_of("docs/INTEGRATION.md");
-    let table =
-        document.lines().skip_while(|line| !line.starts_with("| bytes |")).skip(2).take_while(|line| !line.is_empty());
-    let bytes: Vec<&str> = table.flat_map(|row| row.split('`').nth(1).unwrap().split(' ')).collect();
-    assert_eq!(bytes, text_of("jobs/frames.hex").split_whitespace().collect::<Vec<_>>());
+fn as_c() {
+    prints_the_constants(&C);
 }
 
 #[test]
-fn documents_have_the_words_of_every_refusal() {
-    for file in ["docs/INTEGRATION.md", "examples/c/loader.c"] {
-        let text = text_of(file);
-        for refusal in Refusal::ALL {
-            assert!(text.contains(&refusal.to_string()), "{file}: {refusal}");
-        }
-    }
+fn as_cpp() {
+    prints_the_constants(&CPP);
+}
+
+#[test]
+fn no_constant_is_left_out() {
+    let header = text_of("include/nll.h");
+    let words = header.split(|c: char| !c.is_ascii_alphanumeric() && c != '_');
+    let mut found: Vec<&str> = words.filter(|word| word.starts_with("NLL_") && *word != "NLL_H").collect();
+    found.sort();
+    found.dedup();
+    let mut expected: Vec<String> = constants().into_iter().map(|(name, _)| name).collect();
+    expected.sort();
+    assert_eq!(found, expected);
 }

@@ -1,5 +1,6 @@
 //! The wrapper against the model of document 01, on records from a seed and on those at the boundary of each refusal.
 
+use model::decode::{most, MAX_LENGTH, MAX_POINTS};
 use model::Job;
 use nll::{analyse, sizes, Accepted, Place, Refusal, Sizes};
 
@@ -46,6 +47,12 @@ fn agree_on_places(job: &Job, answer: &Accepted) {
     places.extend((0..job.declared()).map(|region| Place::RegionEnd { region }));
     assert!((0..answer.points()).map(|p| answer.place(p)).eq(places.into_iter().map(Some)));
     assert_eq!(answer.place(answer.points()), None);
+}
+
+#[test]
+fn limits() {
+    assert_eq!((nll::MAX_RECORD, nll::MAX_POINTS), (3 + MAX_LENGTH, MAX_POINTS));
+    assert_eq!((nll::MAX_REGIONS, nll::MAX_DECLARED), (most::REGIONS.into(), most::DECLARED.into()));
 }
 
 #[test]
