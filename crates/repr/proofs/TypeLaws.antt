@@ -253,6 +253,10 @@ module _ {s : List ℕ} {at left : ℕ} {r : OpenedStep} (o : OpenedSays s at le
       fewer-still (read k over) h g = omega arith
       fewer-still (refused k) h g = tt
 
+  -- without arguments
+  pub type-ended : {count few : ℕ} {next : Cursor} → r ≡ Opened count few next → count ≡ 0 → TypeSays s at left (nodesStep.Ended few next)
+  type-ended {count} {few} {next} e z = type-arguments e (along-ended (along-none {s = s} {at = next .at} {count = count} {left = few} refl) (omega (arith, z)) refl z)
+
 -- ---- A whole type
 
 pub end-left : (bs : List ℕ) → ended (type bs) ≡ ended (leftOf (typeWithin (suc maxNodes) maxNodes bs))

@@ -185,7 +185,12 @@ impl Cursor {
                 count,
                 left: few,
                 next,
-            } => next.arguments(s, count, few),
+            } => {
+                if count == 0 {
+                    return NodesStep::Ended { left: few, next };
+                }
+                next.arguments(s, count, few)
+            }
         }
     }
 
