@@ -1,13 +1,15 @@
 -- A round: the constraints of the points of walked blocks, collected in a list and run. Assumes nothing.
-use mathlib.Core.Path.{_≡_, sym, ap, _∙_, subst}
-use mathlib.Core.Logic.{inl, ⊎-elim}
+use mathlib.Core.Path.{_≡_, refl, sym, ap, _∙_, subst}
+use mathlib.Core.Logic.{_⊎_, inl, ⊎-elim}
 use mathlib.Core.Bool.{Bool, true, false, true≢false, cond}
 use mathlib.Core.List.{List, [], _++_, append-nil, append-assoc}
 use Prim.Native.Nat.{ℕ, _+_, _*_, _≤_, _<_}
 use native.Mathlib.Omega.{arith}
 use lib.ListN.{length, length-replicate}
 use Rattle.nll_spec.specs.Lists.{Member}
+use Rattle.nll_spec.specs.Syntax as syntax
 use Rattle.nll_spec.specs.Syntax.{Job, Point}
+use Rattle.nll_spec.specs.Decode.{codeCount}
 use Rattle.nll_spec.specs.Regions.{everyEnd}
 use Rattle.nll_spec.specs.Output.{wordBits}
 use Rattle.nll_spec.specs.Graph.{graphOf, actionAt, isWalked}
@@ -16,6 +18,8 @@ use Rattle.nll_spec.proofs.GraphLaws.{code-count}
 use Rattle.nll_spec.proofs.Members.{member-right}
 use Rattle.bit_set.specs.Bits.{has}
 use Rattle.record.specs.declared.Head.{Head}
+use Rattle.record.specs.Layout.{Layout}
+use Rattle.record.specs.Access.{tagOf}
 use Rattle.constraint_list.specs.Listed.{countIn, roomIn, constraintsIn, firstIn, Adds, Draws}
 use Rattle.constraint_list.proofs.ListLaws.{adds-none, first-none, first-place}
 use Rattle.absent_regions.specs.Absent.{rowBit, Puts, Marks, AllIn}
@@ -33,6 +37,18 @@ use Rattle.constraints.proofs.FewLaws.{few-constraints}
 
 -- ---- A point
 
+-- an action that makes no constraint, by its tag
+none-made : (j : Job) (p : Point) (a : syntax.Action) → (tagOf a < 2) ⊎ (4 < tagOf a) → constraintsAt j p a ≡ []
+unfolding constraintsAt
+none-made j p syntax.Noop e = refl
+none-made j p (syntax.Init d qs) e = refl
+none-made j p (syntax.Borrow d r k q) e = absurd (⊎-elim (λ z. omega (arith, z)) (λ z. omega (arith, z)) e)
+none-made j p (syntax.Assign d q) e = absurd (⊎-elim (λ z. omega (arith, z)) (λ z. omega (arith, z)) e)
+none-made j p (syntax.Constraint sup sub) e = absurd (⊎-elim (λ z. omega (arith, z)) (λ z. omega (arith, z)) e)
+none-made j p (syntax.Use q) e = refl
+none-made j p (syntax.Drop q) e = refl
+none-made j p (syntax.StorageDead v) e = refl
+
 module _ {s t : List ℕ} {h : Head} {walked : List ℕ} {p : Point} where
   -- there are no more points
   near : {code : ℕ} {j : Job} → Known s t h walked code j → p < code → p < 1024
@@ -49,6 +65,18 @@ module _ {s t : List ℕ} {h : Head} {walked : List ℕ} {p : Point} where
 
   pub point-passed : {ls : List ℕ} {b : Bool} → b ≡ has walked (wordBits * 0 + p) → b ≡ false → PointAdds s t h walked p ls ls
   point-passed e f = record { adds = λ j code k l. adds-none (ap (λ (c : Bool). cond c (constraintsAt j p (actionAt (graphOf j) p)) []) (tested e j k l ∙ f)) }
+
+  pub point-idle : {ls : List ℕ} {tag : ℕ} → ((k : Head) (j : Job) → Layout s t k j → p < codeCount (j .blocks) → tag ≡ tagOf (actionAt (graphOf j) p)) → (tag < 2) ⊎ (4 < tag) → PointAdds s t h walked p ls ls
+  point-idle says e = record {
+    adds = λ j code k l.
+        let same = says h j (k .layout) (omega (arith, l, k .points, code-count j)) in
+        let none = none-made j p (actionAt (graphOf j) p) (subst (λ (n : ℕ). (n < 2) ⊎ (4 < n)) same e) in
+        adds-none (ap (λ (cs : List Outlives). cond (isWalked (graphOf j) p) cs []) none ∙ cond-same (isWalked (graphOf j) p));
+  }
+    where
+      cond-same : (b : Bool) → cond {A = List Outlives} b [] [] ≡ []
+      cond-same true = refl
+      cond-same false = refl
 
   pub point-added : {b : Bool} {n : ℕ} {ls ls′ : List ℕ} → b ≡ has walked (wordBits * 0 + p) → b ≡ true → n ≡ p → Constrains s t (record { head = h; at = n }) ls ls′ → PointAdds s t h walked p ls ls′
   point-added {ls = ls} {ls′ = ls′} e f i x = record {

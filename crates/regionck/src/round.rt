@@ -4,6 +4,7 @@ use constraints::constrain;
 use infer::EndRule;
 use infer::Shape;
 use record::Head;
+use record::access::tag_at;
 use relate::Site;
 ghost use mathlib.Core.Path.{_≡_};
 ghost use mathlib.Core.Bool.{cond};
@@ -19,7 +20,7 @@ ghost use Rattle.regionck.specs.Rounds.{PointAdds, Holding, Sound, RunsB
 // No action makes more constraints.
 const MOST: usize = 264;
 
-// Adds the constraints of a point of the blocks, if its block is walked.
+// Adds the constraints of a point of the blocks, if its block is walked. Only Borrow, Assign and Constraint, tags 2 to 4, make any.
 pub fn point(
     s: &[u8],
     layout: &[u16; 1280],
@@ -35,6 +36,13 @@ pub fn point(
         return;
     }
     if !bit_set::test(walked, 0, p) {
+        return;
+    }
+    let tag = tag_at(s, layout, p);
+    if tag < 2 {
+        return;
+    }
+    if 4 < tag {
         return;
     }
     let site = Site { head, at: p as u16 };
