@@ -155,9 +155,17 @@ pub fn flow(
     if pass.len() < 4 * code {
         return;
     }
-    loop {
-        if !round(sets, pass, first, succ, code, direction) {
-            return;
-        }
+    // A loop for each direction, so that no edge has to test it.
+    match direction {
+        Direction::Forward => loop {
+            if !round(sets, pass, first, succ, code, Direction::Forward) {
+                return;
+            }
+        },
+        Direction::Backward => loop {
+            if !round(sets, pass, first, succ, code, Direction::Backward) {
+                return;
+            }
+        },
     }
 }

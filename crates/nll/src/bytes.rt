@@ -59,7 +59,20 @@ pub fn verdicts(
     requires { ⌜ length (now layout) ≡ 1280 ⌝ }
     ensures { λ _. ⌜ Judges (now (s .entry)) (now (layout .entry)) head (now (first .entry)) (now (succ .entry)) (now (walked .entry)) (now (words .entry)) (now (bytes .entry)) (now (bytes .exit)) ⌝ }
 {
-    if head.code <= 128 {
+    if head.code <= 32 {
+        let mut scope = [0; 128];
+        by_scope(
+            s,
+            layout,
+            head,
+            first,
+            succ,
+            walked,
+            words,
+            &mut scope,
+            bytes,
+        );
+    } else if head.code <= 128 {
         let mut scope = [0; 512];
         by_scope(
             s,

@@ -44,7 +44,22 @@ fn seed(
     requires { ⌜ (length (now layout) ≡ 1280) × (length (now walked) ≡ 32) ⌝ }
     ensures { λ _. ⌜ Seeds (now (s .entry)) (now (layout .entry)) head (now (first .entry)) (now (succ .entry)) (now (walked .entry)) width (now (words .entry)) (now (words .exit)) ⌝ }
 {
-    if width <= 4 {
+    if width <= 1 {
+        let mut used = [0; 64];
+        let mut dropped = [0; 64];
+        by_rows(
+            s,
+            layout,
+            head,
+            first,
+            succ,
+            walked,
+            width,
+            &mut used,
+            &mut dropped,
+            words,
+        );
+    } else if width <= 4 {
         let mut used = [0; 256];
         let mut dropped = [0; 256];
         by_rows(

@@ -4,7 +4,7 @@ use mathlib.Core.Bool.{Bool, true, false, _&&_}
 use mathlib.Core.List.{List}
 use Prim.Native.Nat.{ℕ, _-_, _≤_}
 use native.Mathlib.Omega.{arith}
-use native.Mathlib.Nat.{sub-zero}
+use native.Mathlib.Nat.{le-refl, sub-zero}
 use lib.ListN.{drop}
 use Rattle.nll_spec.specs.Syntax.{Ty, UnitTy, RefTy, StructTy, BoundTy, Args, NoArgs, RegionArg, TypeArg}
 use Rattle.nll_spec.specs.Decode.{type}
@@ -150,6 +150,19 @@ module _ {test : Args → Bool} {s : List ℕ} {n left : ℕ} where
               let a : test g ≡ others (x .more) = ap test (x .same) ∙ f (x .item) (x .more) ∙ rw (y .passes) in
               u .says (x .more) bs (subst (λ (o : List ℕ). ArgsTo o (n - 1) (x .more) bs) (sym (y .ends)) (x .others)) (omega arith) ∙ rw (l, a);
         }
+
+-- ---- Part of the way
+
+-- An answer for what is left of the way, with at most few nodes, is the answer for the whole, with at most left.
+pub record Onward (few left : ℕ) (Rest Whole : NodesStep → Type 0) : Type 0 where
+  pub fewer : few ≤ left
+  pub whole : (r : NodesStep) → Rest r → Whole r
+
+pub start : {left : ℕ} {Whole : NodesStep → Type 0} → Onward left left Whole Whole
+start {left} = record { fewer = le-refl left; whole = λ r v. v }
+
+pub further : {l few left : ℕ} {Next Rest Whole : NodesStep → Type 0} → Onward few left Rest Whole → l ≤ few → ((r : NodesStep) → Next r → Rest r) → Onward l left Next Whole
+further x h f = record { fewer = omega arith; whole = λ r v. x .whole r (f r v) }
 
 -- ---- A whole type
 

@@ -90,42 +90,44 @@ fn type_fits(
     requires { ⌜ length (now layout) ≡ 1280 ⌝ }
     ensures { λ r. ⌜ TypeFit (now (s .entry)) (now (layout .entry)) head around (c .at) left r ⌝ }
 {
-    if left == 0 {
-        return NodesStep::Refused(7);
+    let mut at = c;
+    let mut few = left;
+    while few != 0 {
+        few -= 1;
+        match at.type_node(s) {
+            NodeStep::Refused(k) => return NodesStep::Refused(k),
+            NodeStep::Unit(next) => return NodesStep::Ended { left: few, next },
+            NodeStep::Bound(b, next) => {
+                if !bound_fits(s, around, b, Kind::Type) {
+                    return NodesStep::Refused(7);
+                }
+                return NodesStep::Ended { left: few, next };
+            }
+            NodeStep::Ref {
+                kind: _,
+                region,
+                referent,
+            } => {
+                if !region_fits(s, around, region) {
+                    return NodesStep::Refused(7);
+                }
+                at = referent;
+            }
+            NodeStep::Struct {
+                name,
+                count,
+                arguments,
+            } => {
+                let named = struct_decl_at(s, layout, head, name);
+                if named.parameters != count {
+                    return NodesStep::Refused(7);
+                }
+                let declared = named.declared;
+                return arguments_fit(s, layout, head, arguments, count, few, around, declared);
+            }
+        }
     }
-    let less = left - 1;
-    match c.type_node(s) {
-        NodeStep::Refused(k) => NodesStep::Refused(k),
-        NodeStep::Unit(next) => NodesStep::Ended { left: less, next },
-        NodeStep::Bound(b, next) => {
-            if !bound_fits(s, around, b, Kind::Type) {
-                return NodesStep::Refused(7);
-            }
-            NodesStep::Ended { left: less, next }
-        }
-        NodeStep::Ref {
-            kind: _,
-            region,
-            referent,
-        } => {
-            if !region_fits(s, around, region) {
-                return NodesStep::Refused(7);
-            }
-            type_fits(s, layout, head, referent, less, around)
-        }
-        NodeStep::Struct {
-            name,
-            count,
-            arguments,
-        } => {
-            let named = struct_decl_at(s, layout, head, name);
-            if named.parameters != count {
-                return NodesStep::Refused(7);
-            }
-            let declared = named.declared;
-            arguments_fit(s, layout, head, arguments, count, less, around, declared)
-        }
-    }
+    NodesStep::Refused(7)
 }
 
 // So many arguments, of at most `left` nodes together, for as many parameters.
@@ -142,32 +144,42 @@ fn arguments_fit(
     requires { ⌜ length (now layout) ≡ 1280 ⌝ }
     ensures { λ r. ⌜ ArgumentsFit (now (s .entry)) (now (layout .entry)) head around declared (c .at) count left r ⌝ }
 {
-    if count == 0 {
-        return NodesStep::Ended { left, next: c };
-    }
-    let ParameterStep::Parameter(p, others) = declared.parameter(s) else {
-        return NodesStep::Refused(3);
-    };
-    let kind = p.kind;
-    match c.argument(s) {
-        ArgumentStep::Refused(k) => NodesStep::Refused(k),
-        ArgumentStep::Region(region, next) => {
-            if !argument_fits(s, around, kind, region) {
-                return NodesStep::Refused(7);
+    let mut at = c;
+    let mut n = count;
+    let mut few = left;
+    let mut from = declared;
+    while n != 0 {
+        let ParameterStep::Parameter(p, others) = from.parameter(s) else {
+            return NodesStep::Refused(3);
+        };
+        let kind = p.kind;
+        match at.argument(s) {
+            ArgumentStep::Refused(k) => return NodesStep::Refused(k),
+            ArgumentStep::Region(region, next) => {
+                if !argument_fits(s, around, kind, region) {
+                    return NodesStep::Refused(7);
+                }
+                at = next;
             }
-            arguments_fit(s, layout, head, next, count - 1, left, around, others)
-        }
-        ArgumentStep::Type(ty) => {
-            if !same_kind(kind, Kind::Type) {
-                return NodesStep::Refused(7);
-            }
-            match type_fits(s, layout, head, ty, left, around) {
-                NodesStep::Refused(k) => NodesStep::Refused(k),
-                NodesStep::Ended { left: rest, next } => {
-                    arguments_fit(s, layout, head, next, count - 1, rest, around, others)
+            ArgumentStep::Type(ty) => {
+                if !same_kind(kind, Kind::Type) {
+                    return NodesStep::Refused(7);
+                }
+                match type_fits(s, layout, head, ty, few, around) {
+                    NodesStep::Refused(k) => return NodesStep::Refused(k),
+                    NodesStep::Ended { left: rest, next } => {
+                        few = rest;
+                        at = next;
+                    }
                 }
             }
         }
+        from = others;
+        n -= 1;
+    }
+    NodesStep::Ended {
+        left: few,
+        next: at,
     }
 }
 

@@ -26,61 +26,68 @@ fn region_named(region: Region, head: Head) -> bool
 fn type_named(s: &[u8], c: Cursor, left: u8, head: Head) -> NodesStep
     ensures { λ r. ⌜ TypeNamed head (now (s .entry)) (c .at) left r ⌝ }
 {
-    if left == 0 {
-        return NodesStep::Refused(6);
-    }
-    let less = left - 1;
-    match c.type_node(s) {
-        NodeStep::Refused(k) => NodesStep::Refused(k),
-        NodeStep::Unit(next) => NodesStep::Ended { left: less, next },
-        NodeStep::Bound(_, next) => NodesStep::Ended { left: less, next },
-        NodeStep::Ref {
-            kind: _,
-            region,
-            referent,
-        } => {
-            if region_named(region, head) {
-                type_named(s, referent, less, head)
-            } else {
-                NodesStep::Refused(6)
+    let mut at = c;
+    let mut few = left;
+    while few != 0 {
+        few -= 1;
+        match at.type_node(s) {
+            NodeStep::Refused(k) => return NodesStep::Refused(k),
+            NodeStep::Unit(next) => return NodesStep::Ended { left: few, next },
+            NodeStep::Bound(_, next) => return NodesStep::Ended { left: few, next },
+            NodeStep::Ref {
+                kind: _,
+                region,
+                referent,
+            } => {
+                if !region_named(region, head) {
+                    return NodesStep::Refused(6);
+                }
+                at = referent;
+            }
+            NodeStep::Struct {
+                name,
+                count,
+                arguments,
+            } => {
+                if name.0 < head.structs {
+                    return arguments_named(s, arguments, count, few, head);
+                }
+                return NodesStep::Refused(6);
             }
         }
-        NodeStep::Struct {
-            name,
-            count,
-            arguments,
-        } => {
-            if name.0 < head.structs {
-                arguments_named(s, arguments, count, less, head)
-            } else {
-                NodesStep::Refused(6)
-            }
-        }
     }
+    NodesStep::Refused(6)
 }
 
 // So many arguments of a struct, of at most `left` nodes together.
 fn arguments_named(s: &[u8], c: Cursor, count: u8, left: u8, head: Head) -> NodesStep
     ensures { λ r. ⌜ ArgumentsNamed head (now (s .entry)) (c .at) count left r ⌝ }
 {
-    if count == 0 {
-        return NodesStep::Ended { left, next: c };
-    }
-    match c.argument(s) {
-        ArgumentStep::Refused(k) => NodesStep::Refused(k),
-        ArgumentStep::Region(region, next) => {
-            if region_named(region, head) {
-                arguments_named(s, next, count - 1, left, head)
-            } else {
-                NodesStep::Refused(6)
+    let mut at = c;
+    let mut n = count;
+    let mut few = left;
+    while n != 0 {
+        match at.argument(s) {
+            ArgumentStep::Refused(k) => return NodesStep::Refused(k),
+            ArgumentStep::Region(region, next) => {
+                if !region_named(region, head) {
+                    return NodesStep::Refused(6);
+                }
+                at = next;
             }
+            ArgumentStep::Type(ty) => match type_named(s, ty, few, head) {
+                NodesStep::Refused(k) => return NodesStep::Refused(k),
+                NodesStep::Ended { left: rest, next } => {
+                    few = rest;
+                    at = next;
+                }
+            },
         }
-        ArgumentStep::Type(ty) => match type_named(s, ty, left, head) {
-            NodesStep::Refused(k) => NodesStep::Refused(k),
-            NodesStep::Ended { left: rest, next } => {
-                arguments_named(s, next, count - 1, rest, head)
-            }
-        },
+        n -= 1;
+    }
+    NodesStep::Ended {
+        left: few,
+        next: at,
     }
 }
 

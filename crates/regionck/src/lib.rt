@@ -121,10 +121,30 @@ pub fn regionck(
         → Solved (ruleOf rule) j (now (words .entry)) (now (words .exit)) (now (grown .exit))) ⌝ }
 {
     let chain = dfs::chains(first, succ, shape.code);
-    if shape.code <= 64 {
-        let mut list = [0; 513];
-        let mut hot = [0; 257];
-        let mut absent = [0; 256];
+    if shape.code <= 32 {
+        let mut list = [0; 393];
+        let mut hot = [0; 193];
+        let mut absent = [0; 128];
+        solve(
+            s,
+            layout,
+            head,
+            first,
+            succ,
+            &chain,
+            walked,
+            shape,
+            rule,
+            words,
+            grown,
+            &mut list,
+            &mut hot,
+            &mut absent,
+        );
+    } else if shape.code <= 128 {
+        let mut list = [0; 1025];
+        let mut hot = [0; 513];
+        let mut absent = [0; 512];
         solve(
             s,
             layout,
