@@ -8,7 +8,12 @@ use original::Order;
 
 /// A record is called again until so many seconds have been counted.
 const ENOUGH: f64 = 0.02;
-const MOST_CALLS: usize = 1_000;
+const MOST_RUNS: usize = 1_000;
+
+/// Calls are timed in runs of about so many seconds, at most so many in one: reading the clocks takes a good part of a microsecond, and
+/// a call before which they are read takes longer.
+const RUN: f64 = 20e-6;
+const MOST_CALLS: usize = 64;
 
 /// The times of a record, in seconds.
 #[derive(Clone, Copy)]
@@ -30,16 +35,18 @@ impl Times {
 
 pub fn times(record: &[u8], proved: &mut dyn Engine) -> Times {
     let text = original::text_of(record);
-    let mut reading = vec![];
-    let analysis = median_of_calls(|| {
-        let (read, parsed) = seconds(|| original::parse(&text).expect("a record that can be read"));
-        reading.push(read);
-        let (analysis, checked) = seconds(|| original::check(parsed, Order::ReversePostOrder));
-        checked.expect("a record that the original answers");
-        analysis
+    let parse = || original::parse(&text).expect("a record that can be read");
+    let reading = median_of_runs(|calls| {
+        let mut parsed = Vec::with_capacity(calls);
+        seconds(|| parsed.extend((0..calls).map(|_| parse()))).0
     });
-    let judging = median_of_calls(|| seconds(|| proved.call(record, &mut [], &mut [])).0);
-    Times { reading: median(reading), analysis, judging, proved: proved_seconds(record, proved) }
+    let analysis = median_of_runs(|calls| {
+        let parsed: Vec<_> = (0..calls).map(|_| parse()).collect();
+        let check = |parsed| original::check(parsed, Order::ReversePostOrder).expect("a record that the original answers");
+        seconds(|| parsed.into_iter().for_each(check)).0
+    });
+    let judging = median_of_runs(|calls| seconds(|| (0..calls).for_each(|_| drop(proved.call(record, &mut [], &mut [])))).0);
+    Times { reading, analysis, judging, proved: proved_seconds(record, proved) }
 }
 
 /// The call with buffers of an exact fit. They are filled at random before the first call and are not cleared: each
@@ -48,17 +55,20 @@ pub fn proved_seconds(record: &[u8], proved: &mut dyn Engine) -> f64 {
     let job = model::accept(record).expect("an accepted record");
     let (words, bytes) = model::output::needs(&job);
     let mut lent = Lent::filled(&mut Rng::new(1), words, bytes);
-    median_of_calls(|| seconds(|| proved.call(record, &mut lent.words, &mut lent.bytes)).0)
+    let mut call = || drop(proved.call(record, &mut lent.words, &mut lent.bytes));
+    median_of_runs(|calls| seconds(|| (0..calls).for_each(|_| call())).0)
 }
 
-/// The median of the calls that are made until `ENOUGH`, at least one.
-fn median_of_calls(mut call: impl FnMut() -> f64) -> f64 {
-    let mut all = vec![];
-    let mut total = 0.0;
-    while all.is_empty() || total < ENOUGH && all.len() < MOST_CALLS {
-        let one = call();
-        total += one;
-        all.push(one);
+/// The median, over the runs that are made until `ENOUGH`, of the seconds of one call. `run` makes so many calls and gives the seconds
+/// of all. The first run is of one call, which tells how many make up a run, and counts if that is one.
+fn median_of_runs(mut run: impl FnMut(usize) -> f64) -> f64 {
+    let first = run(1);
+    let calls = ((RUN / first) as usize).clamp(1, MOST_CALLS);
+    let (mut all, mut total) = if calls == 1 { (vec![first], first) } else { (vec![], 0.0) };
+    while all.is_empty() || total < ENOUGH && all.len() < MOST_RUNS {
+        let seconds = run(calls);
+        total += seconds;
+        all.push(seconds / calls as f64);
     }
     median(all)
 }

@@ -16,6 +16,7 @@ proved:   the whole call, from the record's bytes to both buffers written
 ratio:    reading and analysis to proved, of the medians; alone: analysis to proved
 least:    the same of the record on which it is least
 buffers:  an exact fit, filled at random before the first call, not cleared before a call
+runs:     calls of less than 20 us are timed several at a time, of the original and of the proved call alike
 
 | class | records | bytes | points | reading | analysis | judging | proved | ratio | alone | least | least alone | proved, slowest |
 |---|---|---|---|---|---|---|---|---|---|---|---|---|";
