@@ -272,7 +272,7 @@ fn mark(grew: &[u8; 128], region: u8) -> u8
     if r < 128 { grew[r] } else { 0 }
 }
 
-// Runs a constraint, and puts it into the list `hot`, if there is room, where by it the outer region gets its mark.
+// Runs a constraint, and puts it into the list `recent`, if there is room, where by it the outer region gets its mark.
 fn run_one(
     words: &mut [u32],
     first: &[u16; 1025],
@@ -282,12 +282,12 @@ fn run_one(
     rule: EndRule,
     last: &[u8; 128],
     grew: &mut [u8; 128],
-    hot: &mut [u32],
+    recent: &mut [u32],
     c: Constraint,
 )
     ensures { λ _. ⌜ Runs shape rule (now (first .entry)) (now (succ .entry)) (now (chain .entry)) (now (last .entry)) (outlivesOf c ∷ [])
         (now (words .entry)) (now (grew .entry)) (now (words .exit)) (now (grew .exit))
-        × Draws (outlivesOf c ∷ []) (now (hot .entry)) (now (hot .exit)) ⌝ }
+        × Draws (outlivesOf c ∷ []) (now (recent .entry)) (now (recent .exit)) ⌝ }
 {
     let before = mark(grew, c.sup);
     let sup = RegionVariable(c.sup);
@@ -309,10 +309,10 @@ fn run_one(
     if mark(grew, c.sup) == before {
         return;
     }
-    constraint_list::add(hot, c);
+    constraint_list::add(recent, c);
 }
 
-// Runs each constraint of the list once. Those by which regions are marked come into the list `hot`, as far as it has room.
+// Runs each constraint of the list once. Those by which regions are marked come into the list `recent`, as far as it has room.
 pub fn run(
     words: &mut [u32],
     first: &[u16; 1025],
@@ -322,18 +322,29 @@ pub fn run(
     rule: EndRule,
     last: &[u8; 128],
     grew: &mut [u8; 128],
-    hot: &mut [u32],
+    recent: &mut [u32],
     list: &[u32],
 )
     ensures { λ _. ⌜ Runs shape rule (now (first .entry)) (now (succ .entry)) (now (chain .entry)) (now (last .entry)) (constraintsIn (now (list .entry)))
         (now (words .entry)) (now (grew .entry)) (now (words .exit)) (now (grew .exit))
-        × Draws (constraintsIn (now (list .entry))) (now (hot .entry)) (now (hot .exit)) ⌝ }
+        × Draws (constraintsIn (now (list .entry))) (now (recent .entry)) (now (recent .exit)) ⌝ }
 {
     let count = constraint_list::count(list);
     let mut i = 0;
     while i < count {
         let c = constraint_list::get(list, i);
-        run_one(words, first, succ, chain, shape, rule, last, grew, hot, c);
+        run_one(
+            words,
+            first,
+            succ,
+            chain,
+            shape,
+            rule,
+            last,
+            grew,
+            recent,
+            c,
+        );
         i += 1;
     }
 }

@@ -39,9 +39,10 @@ use Rattle.infer.specs.declared.EndRule as declared
 use Rattle.infer.specs.declared.Shape.{Shape}
 use Rattle.dfs.specs.Walk.{Chained}
 use Rattle.infer.proofs.RanLaws.{true-T, no-member, sets-has, sets-below, has-sets, first-ready, next-ready, quiet-none, quiet-same, found-mark, rounds-none, rounds-more, rounds-unused, solved}
-use Rattle.regionck.specs.Rounds.{settingOf, noMarks, Known, Own, OwnKept, RoundRuns, Cleared, Noted, Seeded, leastSets, Solved}
-use Rattle.regionck.proofs.NamedLaws.{all-named}
-use Rattle.regionck.proofs.MarkLaws.{blank}
+use Rattle.rerun.specs.Rerun.{settingOf, noMarks, Known, Own, OwnKept, Noted}
+use Rattle.rerun.proofs.NamedLaws.{all-named}
+use Rattle.rerun.proofs.MarkLaws.{blank}
+use Rattle.regionck.specs.Rounds.{RoundRuns, Cleared, Seeded, leastSets, Solved}
 
 missed : (a b : List ℕ) → ((k : ℕ) → has a k ≡ true → has b k ≡ true) → (k : ℕ) → has b k ≡ false → has a k ≡ false
 missed a b kept k e = go (has a k) refl
@@ -228,9 +229,9 @@ module _ (s t : List ℕ) (h : Head) (first succ chain walked : List ℕ) (shape
         size : length (take (j .regions * wordCount (pointCount j)) ws₀) ≤ j .regions * wordCount (pointCount j)
         size = rw length-take (omega arith)
 
-    more : {hot ws last marks ws′ grew marks′ : List ℕ} {left : ℕ} → Going ends j ws₀ ws last marks left → Own j hot → RoundRuns s t h walked shape rule first succ chain last hot ws ws′ grew → anyMarked grew 128 ≡ true → Noted grew marks marks′ 128
+    more : {recent ws last marks ws′ grew marks′ : List ℕ} {left : ℕ} → Going ends j ws₀ ws last marks left → Own j recent → RoundRuns s t h walked shape rule first succ chain last recent ws ws′ grew → anyMarked grew 128 ≡ true → Noted grew marks marks′ 128
         → Going ends j ws₀ ws′ grew marks′ (left - 1)
-    more {hot} {ws} {last} {marks} {ws′} {grew} {marks′} {left} g own y m noted =
+    more {recent} {ws} {last} {marks} {ws′} {grew} {marks′} {left} g own y m noted =
         record {
           rounds = rounds-more e cs (g .rounds) ran;
           ready = next-ready e ran (g .ready) noMarks;
@@ -241,7 +242,7 @@ module _ (s t : List ℕ) (h : Head) (first succ chain walked : List ℕ) (shape
         ran : Ran e last cs ws noMarks ws′ grew
         ran = y .ran j known own (given ws (g .rounds .as-long))
 
-    module _ {hot ws last marks ws′ grew : List ℕ} {left : ℕ} (g : Going ends j ws₀ ws last marks left) (own : Own j hot) (y : RoundRuns s t h walked shape rule first succ chain last hot ws ws′ grew) (m : anyMarked grew 128 ≡ false) where
+    module _ {recent ws last marks ws′ grew : List ℕ} {left : ℕ} (g : Going ends j ws₀ ws last marks left) (own : Own j recent) (y : RoundRuns s t h walked shape rule first succ chain last recent ws ws′ grew) (m : anyMarked grew 128 ≡ false) where
       ran : Ran e last cs ws noMarks ws′ grew
       ran = y .ran j known own (given ws (g .rounds .as-long))
 
@@ -349,30 +350,33 @@ module _ (s t : List ℕ) (h : Head) (first succ chain walked : List ℕ) (shape
             grown = grown;
           }
 
-  -- ---- The loop
-
   -- The constraints of the list are the job's.
-  pub record Kept (hot : List ℕ) : Type 0 where
-    pub own : (j : Job) → Seeded s t h first succ walked shape ws₀ j → Own j hot
+  pub record Kept (recent : List ℕ) : Type 0 where
+    pub own : (j : Job) → Seeded s t h first succ walked shape ws₀ j → Own j recent
 
-  pub kept-none : {hot : List ℕ} → countIn hot ≡ 0 → Kept hot
-  kept-none {hot} e = record { own = λ j x c m. absurd (no-member (subst (λ (cs : List Outlives). Member c cs) (ap (firstIn hot) e ∙ first-none hot) m)) }
+-- ---- The loop
 
-  pub kept-more : {hot hot′ : List ℕ} → Kept hot → OwnKept s t h walked (shape .code) hot hot′ → Kept hot′
+module _ {s t : List ℕ} {h : Head} {first succ chain walked : List ℕ} {shape : Shape} {rule : declared.EndRule} {ws₀ : List ℕ} where
+  pub kept-none : {recent : List ℕ} → countIn recent ≡ 0 → Kept s t h first succ chain walked shape rule ws₀ recent
+  kept-none {recent} e = record { own = λ j x c m. absurd (no-member (subst (λ (cs : List Outlives). Member c cs) (ap (firstIn recent) e ∙ first-none recent) m)) }
+
+  pub kept-more : {recent recent′ : List ℕ} → Kept s t h first succ chain walked shape rule ws₀ recent → OwnKept s t h walked (shape .code) recent recent′ → Kept s t h first succ chain walked shape rule ws₀ recent′
   kept-more k y =
       record { own = λ j x. y .kept j (record { layout = x .layout; accepted = x .accepted; reached = x .reached; points = x .code }) (k .own j x) }
 
-  pub going-start : {marks : List ℕ} → Cleared marks 128 → GoingOn ws₀ (replicate 128 1) marks 131073
-  going-start z = record { going = λ j x ch. start j x ch z }
+  pub going-start : {marks : List ℕ} → Cleared marks 128 → GoingOn s t h first succ chain walked shape rule ws₀ ws₀ (replicate 128 1) marks 131073
+  going-start z = record { going = λ j x ch. start s t h first succ chain walked shape rule ws₀ j x ch z }
 
-  pub going-more : {hot ws last marks ws′ grew marks′ : List ℕ} {left : ℕ} → GoingOn ws last marks left → Kept hot → RoundRuns s t h walked shape rule first succ chain last hot ws ws′ grew → anyMarked grew 128 ≡ true
-      → Noted grew marks marks′ 128 → GoingOn ws′ grew marks′ (left - 1)
-  going-more g k y m noted = record { going = λ j x ch. more j x ch (g .going j x ch) (k .own j x) y m noted }
+  pub going-more : {recent ws last marks ws′ grew marks′ : List ℕ} {left : ℕ} → GoingOn s t h first succ chain walked shape rule ws₀ ws last marks left → Kept s t h first succ chain walked shape rule ws₀ recent
+      → RoundRuns s t h walked shape rule first succ chain last recent ws ws′ grew → anyMarked grew 128 ≡ true → Noted grew marks marks′ 128 → GoingOn s t h first succ chain walked shape rule ws₀ ws′ grew marks′ (left - 1)
+  going-more g k y m noted = record { going = λ j x ch. more s t h first succ chain walked shape rule ws₀ j x ch (g .going j x ch) (k .own j x) y m noted }
 
-  pub going-done : {hot ws last marks ws′ grew : List ℕ} {left : ℕ} → GoingOn ws last marks left → Kept hot → RoundRuns s t h walked shape rule first succ chain last hot ws ws′ grew → anyMarked grew 128 ≡ false
+  pub going-done : {recent ws last marks ws′ grew : List ℕ} {left : ℕ} → GoingOn s t h first succ chain walked shape rule ws₀ ws last marks left → Kept s t h first succ chain walked shape rule ws₀ recent
+      → RoundRuns s t h walked shape rule first succ chain last recent ws ws′ grew → anyMarked grew 128 ≡ false
       → (j : Job) → Seeded s t h first succ walked shape ws₀ j → Chained chain first succ → Solved (ruleOf rule) j ws₀ ws′ marks
-  going-done g k y m j x ch = done j x ch (g .going j x ch) (k .own j x) y m
+  going-done g k y m j x ch = done s t h first succ chain walked shape rule ws₀ j x ch (g .going j x ch) (k .own j x) y m
 
   -- the rounds do not run out
-  pub going-out : {ws last marks : List ℕ} {left : ℕ} → left ≡ 0 → GoingOn ws last marks left → (j : Job) → Seeded s t h first succ walked shape ws₀ j → Chained chain first succ → Solved (ruleOf rule) j ws₀ ws marks
+  pub going-out : {ws last marks : List ℕ} {left : ℕ} → left ≡ 0 → GoingOn s t h first succ chain walked shape rule ws₀ ws last marks left
+      → (j : Job) → Seeded s t h first succ walked shape ws₀ j → Chained chain first succ → Solved (ruleOf rule) j ws₀ ws marks
   going-out e g j x ch = absurd (omega (arith, e, g .going j x ch .less))

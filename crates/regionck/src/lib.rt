@@ -1,22 +1,21 @@
 // The regions' least sets: rounds of the constraints of all actions, until no set grows.
-mod again;
 mod round;
 
 use infer::EndRule;
 use infer::Shape;
 use record::Head;
+use rerun::marks::note;
 use round::collect;
 use round::round;
 ghost use mathlib.Core.Path.{_≡_};
-ghost use mathlib.Core.Bool.{cond, false};
+ghost use mathlib.Core.Bool.{false};
 ghost use Prim.Native.Nat.{ℕ, _≤_};
 ghost use lib.ListN.{length};
-ghost use lib.Dec.{eqb};
 ghost use Rattle.nll_spec.specs.Syntax.{Job};
 ghost use Rattle.bit_set.specs.Bits.{has};
 ghost use Rattle.infer.specs.Search.{ruleOf};
 ghost use Rattle.dfs.specs.Walk.{Chained};
-ghost use Rattle.regionck.specs.Rounds.{Cleared, Noted, Seeded, Solved};
+ghost use Rattle.regionck.specs.Rounds.{Cleared, Seeded, Solved};
 
 // Each round but the last puts a point into a region's set, and 128 sets of 1024 points hold no more.
 const ROUNDS: u32 = 131073;
@@ -31,26 +30,7 @@ fn clear(grown: &mut [u8; 128])
     }
 }
 
-// A region's mark in grown, with that of a round.
-fn marked(grew: u8, grown: u8) -> u8
-    ensures { λ r. ⌜ r ≡ cond (eqb grew 0) grown 1 ⌝ }
-{
-    if grew == 0 {
-        return grown;
-    }
-    1
-}
-
-// Marks in grown, by 1, each region that grew.
-fn note(grew: &[u8; 128], grown: &mut [u8; 128])
-    ensures { λ _. ⌜ (length (now (grown .entry)) ≡ 128 → Noted (now (grew .entry)) (now (grown .entry)) (now (grown .exit)) 128) ⌝ }
-{
-    for r in 0..128 {
-        grown[r] = marked(grew[r], grown[r]);
-    }
-}
-
-// Runs rounds until no set grows. `grown` marks, by 1, the regions whose sets grew. The constraints for which the list has room are derived once; `hot` gets those
+// Runs rounds until no set grows. `grown` marks, by 1, the regions whose sets grew. The constraints for which the list has room are derived once; `recent` gets those
 // by which regions were marked; the rows of `absent` get regions that no constraint of a point has as its inner one.
 fn solve(
     s: &[u8],
@@ -65,7 +45,7 @@ fn solve(
     words: &mut [u32],
     grown: &mut [u8; 128],
     list: &mut [u32],
-    hot: &mut [u32],
+    recent: &mut [u32],
     absent: &mut [u32],
 )
     requires { ⌜ (length (now layout) ≡ 1280) × (length (now grown) ≡ 128) × ((i : ℕ) → has (now absent) i ≡ false) ⌝ }
@@ -73,9 +53,10 @@ fn solve(
         → Chained (now (chain .entry)) (now (first .entry)) (now (succ .entry)) → Solved (ruleOf rule) j (now (words .entry)) (now (words .exit)) (now (grown .exit))) ⌝ }
 {
     clear(grown);
-    constraint_list::clear(hot);
+    constraint_list::clear(recent);
     let to = collect(s, layout, head, walked, shape.code, list);
     let mut last = [1; 128];
+    let mut active = [0; 32];
     let mut left = ROUNDS;
     while left != 0 {
         last = round(
@@ -90,8 +71,9 @@ fn solve(
             succ,
             chain,
             &last,
-            hot,
+            recent,
             absent,
+            &mut active,
             list,
             to,
         );
@@ -100,6 +82,67 @@ fn solve(
         }
         note(&last, grown);
         left -= 1;
+    }
+}
+
+// The same for at most 128 points, by tables of a size for so many.
+fn solve_small(
+    s: &[u8],
+    layout: &[u16; 1280],
+    head: Head,
+    first: &[u16; 1025],
+    succ: &[u16; 1536],
+    chain: &[u32; 32],
+    walked: &[u32; 32],
+    shape: Shape,
+    rule: EndRule,
+    words: &mut [u32],
+    grown: &mut [u8; 128],
+)
+    requires { ⌜ (length (now layout) ≡ 1280) × (length (now grown) ≡ 128) ⌝ }
+    ensures { λ _. ⌜ (length (now (grown .exit)) ≡ 128) × ((j : Job) → Seeded (now (s .entry)) (now (layout .entry)) head (now (first .entry)) (now (succ .entry)) (now (walked .entry)) shape (now (words .entry)) j
+        → Chained (now (chain .entry)) (now (first .entry)) (now (succ .entry)) → Solved (ruleOf rule) j (now (words .entry)) (now (words .exit)) (now (grown .exit))) ⌝ }
+{
+    if shape.code <= 32 {
+        let mut list = [0; 393];
+        let mut recent = [0; 193];
+        let mut absent = [0; 128];
+        solve(
+            s,
+            layout,
+            head,
+            first,
+            succ,
+            chain,
+            walked,
+            shape,
+            rule,
+            words,
+            grown,
+            &mut list,
+            &mut recent,
+            &mut absent,
+        );
+    } else {
+        let mut list = [0; 1025];
+        let mut recent = [0; 513];
+        let mut absent = [0; 512];
+        solve(
+            s,
+            layout,
+            head,
+            first,
+            succ,
+            chain,
+            walked,
+            shape,
+            rule,
+            words,
+            grown,
+            &mut list,
+            &mut recent,
+            &mut absent,
+        );
     }
 }
 
@@ -121,11 +164,8 @@ pub fn regionck(
         → Solved (ruleOf rule) j (now (words .entry)) (now (words .exit)) (now (grown .exit))) ⌝ }
 {
     let chain = dfs::chains(first, succ, shape.code);
-    if shape.code <= 32 {
-        let mut list = [0; 393];
-        let mut hot = [0; 193];
-        let mut absent = [0; 128];
-        solve(
+    if shape.code <= 128 {
+        solve_small(
             s,
             layout,
             head,
@@ -137,49 +177,26 @@ pub fn regionck(
             rule,
             words,
             grown,
-            &mut list,
-            &mut hot,
-            &mut absent,
         );
-    } else if shape.code <= 128 {
-        let mut list = [0; 1025];
-        let mut hot = [0; 513];
-        let mut absent = [0; 512];
-        solve(
-            s,
-            layout,
-            head,
-            first,
-            succ,
-            &chain,
-            walked,
-            shape,
-            rule,
-            words,
-            grown,
-            &mut list,
-            &mut hot,
-            &mut absent,
-        );
-    } else {
-        let mut list = [0; 4097];
-        let mut hot = [0; 4097];
-        let mut absent = [0; 4096];
-        solve(
-            s,
-            layout,
-            head,
-            first,
-            succ,
-            &chain,
-            walked,
-            shape,
-            rule,
-            words,
-            grown,
-            &mut list,
-            &mut hot,
-            &mut absent,
-        );
+        return;
     }
+    let mut list = [0; 4097];
+    let mut recent = [0; 4097];
+    let mut absent = [0; 4096];
+    solve(
+        s,
+        layout,
+        head,
+        first,
+        succ,
+        &chain,
+        walked,
+        shape,
+        rule,
+        words,
+        grown,
+        &mut list,
+        &mut recent,
+        &mut absent,
+    );
 }

@@ -1,11 +1,9 @@
 // One round of the constraints.
-use super::again::repeat;
-use constraints::constrain;
 use infer::EndRule;
 use infer::Shape;
 use record::Head;
-use record::access::tag_at;
-use relate::Site;
+use rerun::point::point;
+use rerun::repeat;
 ghost use mathlib.Core.Path.{_≡_};
 ghost use mathlib.Core.Bool.{cond};
 ghost use mathlib.Core.List.{List, []};
@@ -15,39 +13,11 @@ ghost use lib.Dec.{eqb};
 ghost use Rattle.nll_spec.specs.Output.{wordBits};
 ghost use Rattle.bit_set.specs.Bits.{withBit};
 ghost use Rattle.constraint_list.specs.Listed.{countIn, Draws};
-ghost use Rattle.regionck.specs.Rounds.{PointAdds, Holding, Sound, RunsBelow, OwnKept, RoundRuns};
+ghost use Rattle.rerun.specs.Rerun.{Holding, OwnKept};
+ghost use Rattle.regionck.specs.Rounds.{Sound, RunsBelow, RoundRuns};
 
 // No action makes more constraints.
 const MOST: usize = 264;
-
-// Adds the constraints of a point of the blocks, if its block is walked. Only Borrow, Assign and Constraint, tags 2 to 4, make any.
-pub fn point(
-    s: &[u8],
-    layout: &[u16; 1280],
-    head: Head,
-    walked: &[u32; 32],
-    p: usize,
-    list: &mut [u32],
-)
-    requires { ⌜ length (now layout) ≡ 1280 ⌝ }
-    ensures { λ _. ⌜ PointAdds (now (s .entry)) (now (layout .entry)) head (now (walked .entry)) p (now (list .entry)) (now (list .exit)) ⌝ }
-{
-    if 1024 < p {
-        return;
-    }
-    if !bit_set::test(walked, 0, p) {
-        return;
-    }
-    let tag = tag_at(s, layout, p);
-    if tag < 2 {
-        return;
-    }
-    if 4 < tag {
-        return;
-    }
-    let site = Site { head, at: p as u16 };
-    constrain(s, layout, site, list);
-}
 
 // Puts the constraints of the first points into the list, of as many as it has room for whatever a point makes. Returns the first point left out.
 pub fn collect(
@@ -74,10 +44,10 @@ pub fn collect(
 }
 
 // Puts p among the active points if the list has another length than before.
-fn note_active(hot: &[u32], before: usize, active: &mut [u32; 32], p: usize)
-    ensures { λ _. ⌜ now (active .exit) ≡ cond (eqb (countIn (now (hot .entry))) before) (now (active .entry)) (withBit (now (active .entry)) (wordBits * 0 + p)) ⌝ }
+fn note_active(recent: &[u32], before: usize, active: &mut [u32; 32], p: usize)
+    ensures { λ _. ⌜ now (active .exit) ≡ cond (eqb (countIn (now (recent .entry))) before) (now (active .entry)) (withBit (now (active .entry)) (wordBits * 0 + p)) ⌝ }
 {
-    if constraint_list::count(hot) == before {
+    if constraint_list::count(recent) == before {
         return;
     }
     bit_set::add(active, 0, p);
@@ -98,7 +68,7 @@ fn visit(
     chain: &[u32; 32],
     last: &[u8; 128],
     grew: &mut [u8; 128],
-    hot: &mut [u32],
+    recent: &mut [u32],
     absent: &mut [u32],
     active: &mut [u32; 32],
     p: usize,
@@ -108,7 +78,7 @@ fn visit(
         (now (last .entry)) ws (now (words .entry)) (now (grew .entry)) p
         → RunsBelow (now (s .entry)) (now (layout .entry)) head (now (walked .entry)) shape rule (now (first .entry)) (now (succ .entry)) (now (chain .entry))
         (now (last .entry)) ws (now (words .exit)) (now (grew .exit)) (p + 1))
-        × OwnKept (now (s .entry)) (now (layout .entry)) head (now (walked .entry)) (shape .code) (now (hot .entry)) (now (hot .exit))
+        × OwnKept (now (s .entry)) (now (layout .entry)) head (now (walked .entry)) (shape .code) (now (recent .entry)) (now (recent .exit))
         × Sound (now (s .entry)) (now (layout .entry)) head (now (walked .entry)) (shape .code) (now (absent .exit)) ⌝ }
 {
     let marks = absent_regions::marked(last, grew);
@@ -118,7 +88,7 @@ fn visit(
     let mut list = [0; 265];
     point(s, layout, head, walked, p, &mut list);
     absent_regions::put(&list, p, absent);
-    let before = constraint_list::count(hot);
+    let before = constraint_list::count(recent);
     infer::run(
         words,
         first,
@@ -128,10 +98,10 @@ fn visit(
         rule,
         last,
         grew,
-        hot,
+        recent,
         &list,
     );
-    note_active(hot, before, active, p);
+    note_active(recent, before, active, p);
 }
 
 // Runs the constraints of point `from` and of those after it.
@@ -148,7 +118,7 @@ fn rest(
     chain: &[u32; 32],
     last: &[u8; 128],
     grew: &mut [u8; 128],
-    hot: &mut [u32],
+    recent: &mut [u32],
     absent: &mut [u32],
     active: &mut [u32; 32],
     from: usize,
@@ -158,7 +128,7 @@ fn rest(
         (now (last .entry)) ws (now (words .entry)) (now (grew .entry)) from
         → RunsBelow (now (s .entry)) (now (layout .entry)) head (now (walked .entry)) shape rule (now (first .entry)) (now (succ .entry)) (now (chain .entry))
         (now (last .entry)) ws (now (words .exit)) (now (grew .exit)) (shape .code))
-        × OwnKept (now (s .entry)) (now (layout .entry)) head (now (walked .entry)) (shape .code) (now (hot .entry)) (now (hot .exit))
+        × OwnKept (now (s .entry)) (now (layout .entry)) head (now (walked .entry)) (shape .code) (now (recent .entry)) (now (recent .exit))
         × Sound (now (s .entry)) (now (layout .entry)) head (now (walked .entry)) (shape .code) (now (absent .exit)) ⌝ }
 {
     let code = shape.code;
@@ -177,7 +147,7 @@ fn rest(
             chain,
             last,
             grew,
-            hot,
+            recent,
             absent,
             active,
             p,
@@ -195,9 +165,9 @@ fn make_room(list: &mut [u32])
     }
 }
 
-// Runs the constraints of each point of walked blocks, then some of them again. The list has the constraints of the points before `to`; `hot` gets those by which
-// regions are marked, and is emptied where it is short of room.
-pub fn round(
+// Runs the constraints of each point of walked blocks. The list has the constraints of the points before `to`; `recent` gets those by which regions are marked, and is
+// emptied where it is short of room; points from `to` on by whose constraints a region is marked are put among the active ones.
+fn sweep(
     s: &[u8],
     layout: &[u16; 1280],
     head: Head,
@@ -209,21 +179,21 @@ pub fn round(
     succ: &[u16; 1536],
     chain: &[u32; 32],
     last: &[u8; 128],
-    hot: &mut [u32],
+    recent: &mut [u32],
     absent: &mut [u32],
+    active: &mut [u32; 32],
     list: &[u32],
     to: usize,
 ) -> [u8; 128]
     requires { ⌜ (length (now layout) ≡ 1280) × Holding (now s) (now layout) head (now walked) (shape .code) (now list) 0 to
         × Sound (now s) (now layout) head (now walked) (shape .code) (now absent) ⌝ }
-    ensures { λ r. ⌜ RoundRuns (now (s .entry)) (now (layout .entry)) head (now (walked .entry)) shape rule (now (first .entry)) (now (succ .entry)) (now (chain .entry))
-        (now (last .entry)) (now (hot .entry)) (now (words .entry)) (now (words .exit)) r
-        × OwnKept (now (s .entry)) (now (layout .entry)) head (now (walked .entry)) (shape .code) (now (hot .entry)) (now (hot .exit))
+    ensures { λ r. ⌜ RunsBelow (now (s .entry)) (now (layout .entry)) head (now (walked .entry)) shape rule (now (first .entry)) (now (succ .entry)) (now (chain .entry))
+        (now (last .entry)) (now (words .entry)) (now (words .exit)) r (shape .code)
+        × OwnKept (now (s .entry)) (now (layout .entry)) head (now (walked .entry)) (shape .code) (now (recent .entry)) (now (recent .exit))
         × Sound (now (s .entry)) (now (layout .entry)) head (now (walked .entry)) (shape .code) (now (absent .exit)) ⌝ }
 {
     let mut grew = [0; 128];
-    let mut active = [0; 32];
-    make_room(hot);
+    make_room(recent);
     infer::run(
         words,
         first,
@@ -233,7 +203,7 @@ pub fn round(
         rule,
         last,
         &mut grew,
-        hot,
+        recent,
         list,
     );
     rest(
@@ -249,9 +219,56 @@ pub fn round(
         chain,
         last,
         &mut grew,
-        hot,
+        recent,
         absent,
-        &mut active,
+        active,
+        to,
+    );
+    grew
+}
+
+// The same, and then some of them again.
+pub fn round(
+    s: &[u8],
+    layout: &[u16; 1280],
+    head: Head,
+    walked: &[u32; 32],
+    shape: Shape,
+    rule: EndRule,
+    words: &mut [u32],
+    first: &[u16; 1025],
+    succ: &[u16; 1536],
+    chain: &[u32; 32],
+    last: &[u8; 128],
+    recent: &mut [u32],
+    absent: &mut [u32],
+    active: &mut [u32; 32],
+    list: &[u32],
+    to: usize,
+) -> [u8; 128]
+    requires { ⌜ (length (now layout) ≡ 1280) × Holding (now s) (now layout) head (now walked) (shape .code) (now list) 0 to
+        × Sound (now s) (now layout) head (now walked) (shape .code) (now absent) ⌝ }
+    ensures { λ r. ⌜ RoundRuns (now (s .entry)) (now (layout .entry)) head (now (walked .entry)) shape rule (now (first .entry)) (now (succ .entry)) (now (chain .entry))
+        (now (last .entry)) (now (recent .entry)) (now (words .entry)) (now (words .exit)) r
+        × OwnKept (now (s .entry)) (now (layout .entry)) head (now (walked .entry)) (shape .code) (now (recent .entry)) (now (recent .exit))
+        × Sound (now (s .entry)) (now (layout .entry)) head (now (walked .entry)) (shape .code) (now (absent .exit)) ⌝ }
+{
+    let mut grew = sweep(
+        s,
+        layout,
+        head,
+        walked,
+        shape,
+        rule,
+        words,
+        first,
+        succ,
+        chain,
+        last,
+        recent,
+        absent,
+        active,
+        list,
         to,
     );
     repeat(
@@ -266,8 +283,8 @@ pub fn round(
         succ,
         chain,
         &mut grew,
-        hot,
-        &active,
+        recent,
+        active,
         list,
         to,
     );

@@ -12,12 +12,12 @@ use Rattle.infer.proofs.run.Statement.{statement}
 use Rattle.infer.proofs.run.Tie as tie
 
 abbrev Inv-loop : tie.InvT-loop
-Inv-loop words₀ first succ chain shape rule last grew₀ hot₀ list count i₀ words grew hot i =
-    (i ≤ count) × (length words ≡ length words₀) × (length hot ≡ length hot₀)
-    × Runs shape rule first succ chain last (firstIn list i) words₀ grew₀ words grew × Draws (firstIn list i) hot₀ hot
+Inv-loop words₀ first succ chain shape rule last grew₀ recent₀ list count i₀ words grew recent i =
+    (i ≤ count) × (length words ≡ length words₀) × (length recent ≡ length recent₀)
+    × Runs shape rule first succ chain last (firstIn list i) words₀ grew₀ words grew × Draws (firstIn list i) recent₀ recent
 
 abbrev μ-loop : tie.MeasureT-loop
-μ-loop words₀ first succ chain shape rule last grew₀ hot₀ list count i₀ words grew hot i = count - i
+μ-loop words₀ first succ chain shape rule last grew₀ recent₀ list count i₀ words grew recent i = count - i
 
 count-requires : tie.Need-count-requires Inv-loop μ-loop
 count-requires c κs = search needs

@@ -3,8 +3,8 @@ use Prim.Native.Nat.{_-_, _≤_}
 use mathlib.Core.Path.{_≡_}
 use native.Mathlib.Omega.{arith}
 use lib.ListN.{length}
-use Rattle.regionck.specs.Rounds.{Holding}
-use Rattle.regionck.proofs.RoundLaws.{held-none, held-more}
+use Rattle.rerun.specs.Rerun.{Holding}
+use Rattle.rerun.proofs.PointLaws.{held-none, held-more}
 use borrow.Author.Needs.{needs}
 use Rattle.regionck.proofs.round.collect.Statement.{statement}
 use Rattle.regionck.proofs.round.collect.Tie as tie

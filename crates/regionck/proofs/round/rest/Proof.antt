@@ -5,16 +5,18 @@ use mathlib.Core.List.{List}
 use lib.ListN.{length}
 use native.Mathlib.Omega.{arith}
 use borrow.Author.Needs.{needs}
-use Rattle.regionck.specs.Rounds.{Sound, RunsBelow, OwnKept}
-use Rattle.regionck.proofs.RoundLaws.{below-code, own-same, own-then}
+use Rattle.rerun.specs.Rerun.{OwnKept}
+use Rattle.rerun.proofs.RerunLaws.{own-same, own-then}
+use Rattle.regionck.specs.Rounds.{Sound, RunsBelow}
+use Rattle.regionck.proofs.RoundLaws.{below-code}
 use Rattle.regionck.proofs.round.rest.Statement.{statement}
 use Rattle.regionck.proofs.round.rest.Tie as tie
 
 abbrev Inv-loop : tie.InvT-loop
-Inv-loop s layout head walked shape rule words₀ first succ chain last grew₀ hot₀ absent₀ active₀ from code p₀ words grew hot absent active p = (p ≤ code) × (length words ≡ length words₀) × (length hot ≡ length hot₀) × (length absent ≡ length absent₀) × ((ws : List ℕ) → RunsBelow s layout head walked shape rule first succ chain last ws words₀ grew₀ from → RunsBelow s layout head walked shape rule first succ chain last ws words grew p) × OwnKept s layout head walked (shape .code) hot₀ hot × Sound s layout head walked (shape .code) absent
+Inv-loop s layout head walked shape rule words₀ first succ chain last grew₀ recent₀ absent₀ active₀ from code p₀ words grew recent absent active p = (p ≤ code) × (length words ≡ length words₀) × (length recent ≡ length recent₀) × (length absent ≡ length absent₀) × ((ws : List ℕ) → RunsBelow s layout head walked shape rule first succ chain last ws words₀ grew₀ from → RunsBelow s layout head walked shape rule first succ chain last ws words grew p) × OwnKept s layout head walked (shape .code) recent₀ recent × Sound s layout head walked (shape .code) absent
 
 abbrev μ-loop : tie.MeasureT-loop
-μ-loop s layout head walked shape rule words₀ first succ chain last grew₀ hot₀ absent₀ active₀ from code p₀ words grew hot absent active p = code - p
+μ-loop s layout head walked shape rule words₀ first succ chain last grew₀ recent₀ absent₀ active₀ from code p₀ words grew recent absent active p = code - p
 
 loop-holds : tie.Need-loop-holds Inv-loop μ-loop
 loop-holds c = (c .before .before .before .before .pre .1, search needs, search needs, search needs, λ ws x. x, own-same, c .before .before .before .before .pre .2)
@@ -41,7 +43,7 @@ same-length-3 : tie.Need-same-length-3 Inv-loop μ-loop
 same-length-3 c = search needs
 
 returns : tie.Need-returns Inv-loop μ-loop
-returns c = (λ ws x. below-code (c .before .before .before .before .before .before .args .s .now) (c .before .before .before .before .before .before .args .layout .now) (c .before .before .before .before .before .before .args .head) (c .before .before .before .before .before .before .args .walked .now) (c .before .before .before .before .before .before .args .shape) (c .before .before .before .before .before .before .args .rule) (c .before .before .before .before .before .before .args .first .now) (c .before .before .before .before .before .before .args .succ .now) (c .before .before .before .before .before .before .args .chain .now) (c .before .before .before .before .before .before .args .last .now) ws (c .before .loop .p) (omega arith) (c .before .loop .inv .4 ws x), c .before .loop .inv .5, c .before .loop .inv .6)
+returns c = (λ ws x. below-code (c .before .loop .p) (omega arith) (c .before .loop .inv .4 ws x), c .before .loop .inv .5, c .before .loop .inv .6)
 
 pub rest-spec : {M : Type 1} → statement M
 rest-spec =

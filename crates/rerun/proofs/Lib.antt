@@ -1,0 +1,4 @@
+pub mod NamedLaws
+pub mod MarkLaws
+pub mod PointLaws
+pub mod RerunLaws
