@@ -28,7 +28,7 @@ enum {
     NLL_MAX_DECLARED = 16,
     NLL_MAX_VARIABLES = 64,
     NLL_MAX_BLOCKS = 64,      /* at least 1 */
-    NLL_MAX_PARAMETERS = 4,   /* of a struct */
+    NLL_MAX_PARAMETERS = 4,   /* of a struct, and arguments of a struct in a type */
     NLL_MAX_FIELDS = 8,       /* of a struct */
     NLL_MAX_OUTLIVED = 16,    /* by a declared region */
     NLL_MAX_SUCCESSORS = 8,   /* of a block */
@@ -85,8 +85,8 @@ enum {
  * An action's operands are its paths in the record's order, counted from 0; a StorageDead's one operand, number 0, is its
  * variable.
  *
- * A refusal changes neither buffer. Any bytes may be handed over as a record, and buffers of any length, 0 too; what they hold
- * before the call does not matter.
+ * A refusal changes neither buffer. Any bytes may be handed over as a record, and buffers of any length, 0 too; the call does not
+ * mind what they hold before (nll_points does).
  *
  * Of the pointers the caller owes what C cannot test:
  *   - `record` has `record_len` bytes that can be read, `words` `words_len` words and `bytes` `bytes_len` bytes that can be read
@@ -112,8 +112,9 @@ static inline size_t nll_declared(const uint8_t *record) { return record[5]; }
 enum { NLL_UNWRITTEN = 0xFF };
 
 /*
- * The points of an accepted record, by what was written into a byte buffer that was filled with NLL_UNWRITTEN before the call.
- * Whoever makes the record knows the number without this.
+ * The points of an accepted record, by what was written into a byte buffer that was filled with NLL_UNWRITTEN right before the
+ * call. A buffer that served an earlier call has to be filled again: what is left there would be counted. Whoever makes the
+ * record knows the number without this.
  */
 static inline size_t nll_points(const uint8_t *record, const uint8_t *bytes, size_t bytes_len) {
     size_t written = 0;
@@ -122,7 +123,7 @@ static inline size_t nll_points(const uint8_t *record, const uint8_t *bytes, siz
     return (written - nll_declared(record)) / 2;
 }
 
-/* Whether the set of a region has a point, in the answer to a job of so many points. */
+/* Whether the set of a region has a point, in the answer to a job of so many points. Both have to be the job's. */
 static inline int nll_holds(const uint32_t *words, size_t points, size_t region, size_t point) {
     return (int)(words[region * ((points + 31) / 32) + point / 32] >> (point % 32) & 1);
 }

@@ -1,5 +1,5 @@
 /*
- * A loader in small: reads a job in hexadecimal, has it analysed, tells the operator what was found and decides whether the
+ * A small loader: reads a job in hexadecimal, has it analysed, tells the operator what was found and decides whether the
  * transport may move. In the repository, after `rt staticlib nll`:
  *
  *   cc -std=c99 -Wall -Wextra -pedantic -I include -o target/loader examples/c/loader.c target/staticlib/libnll.a
@@ -85,13 +85,19 @@ static int decide(void) {
 }
 
 int main(int argc, char **argv) {
-    FILE *file = argc == 2 ? fopen(argv[1], "rb") : NULL;
-    if (file == NULL) {
+    if (argc != 2) {
         fprintf(stderr, "usage: loader FILE\n");
+        return 3;
+    }
+    FILE *file = fopen(argv[1], "rb");
+    if (file == NULL) {
+        perror(argv[1]);
         return 3;
     }
     size_t length = read_record(file);
     int failed = ferror(file);
+    if (failed)
+        perror(argv[1]);
     fclose(file);
     if (failed)
         return 3;

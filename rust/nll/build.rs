@@ -6,6 +6,10 @@ use std::{env, process};
 fn main() {
     let default = || PathBuf::from(env::var("CARGO_MANIFEST_DIR").unwrap()).join("../../target/staticlib");
     let folder = env::var("NLL_STATICLIB").map_or_else(|_| default(), PathBuf::from);
+    if folder.is_relative() {
+        eprintln!("NLL_STATICLIB has to be an absolute path: {}", folder.display());
+        process::exit(1);
+    }
     let archive = folder.join("libnll.a");
     println!("cargo:rerun-if-env-changed=NLL_STATICLIB");
     println!("cargo:rerun-if-changed={}", archive.display());

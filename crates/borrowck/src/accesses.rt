@@ -12,7 +12,7 @@ ghost use mathlib.Core.Path.{_≡_};
 ghost use mathlib.Core.List.{[], _∷_};
 ghost use Rattle.borrowck.specs.Accesses.{reading, writing, borrowing, moving, dying, lending, accessesIn, WithSources, AccessesOf};
 
-// The first count of the list.
+// So many accesses, the first `count` of the list.
 pub struct Accesses {
     pub list: [Access; 9],
     pub count: usize,
@@ -91,6 +91,7 @@ fn source_of(kind: BorrowKind, source: Path) -> Access
     }
 }
 
+// One access.
 fn one(x: Access) -> Accesses
     ensures { λ r. ⌜ (r .count ≡ 1) × (accessesIn r ≡ x ∷ []) ⌝ }
 {
@@ -100,6 +101,7 @@ fn one(x: Access) -> Accesses
     }
 }
 
+// Two accesses.
 fn two(x: Access, y: Access) -> Accesses
     ensures { λ r. ⌜ (r .count ≡ 2) × (accessesIn r ≡ x ∷ y ∷ []) ⌝ }
 {

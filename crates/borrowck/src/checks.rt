@@ -8,7 +8,7 @@ ghost use Prim.Native.Nat.{_≤_, _<_, min};
 ghost use lib.ListN.{length};
 ghost use Rattle.borrowck.specs.Faults.{Checked, faultAt};
 
-// No table has more loans.
+// The count, or 128, which no table has more loans than.
 fn at_most(count: usize) -> usize
     ensures { λ r. ⌜ r ≡ min count 128 ⌝ }
 {

@@ -35,7 +35,7 @@ pub fn count(list: &[u32]) -> usize
     wide(list[0])
 }
 
-// No table is used beyond that.
+// The size, or 65,536, beyond which no table is used.
 fn at_most(size: usize) -> usize
     ensures { λ r. ⌜ r ≡ min size 65536 ⌝ }
 {

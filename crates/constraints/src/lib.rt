@@ -47,7 +47,7 @@ fn after(site: Site) -> Site
     }
 }
 
-// How two types are related: the first to the second, or as where a borrow of a region goes to what is borrowed.
+// How two types are related: as an assignment's source to its destination, or as a borrow's destination to a Ref of a region to its source.
 enum Related {
     Assigned,
     Borrowed(RegionName),

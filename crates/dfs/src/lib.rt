@@ -273,7 +273,7 @@ fn search(
     Reached { points, exit }
 }
 
-// The same. A walk that goes along the chain to its end needs no search. A walk from a point that is not of a block, or not in the set, reaches nothing;
+// The same. A walk that ends at a point of the chain needs no search. A walk from a point that is not of a block, or not in the set, reaches nothing;
 // nothing is promised where there are more than 1,024 points.
 pub fn reach(
     chain: &[u32; 32],

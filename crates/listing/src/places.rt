@@ -160,7 +160,7 @@ fn step(words: &[u32], bytes: &[u8], n: Counts, from: Place, out: &mut [u8], at:
     }
 }
 
-// Puts what comes next at a place into a buffer, until it is full or 4,096 steps were made.
+// Puts what comes next at a place into a buffer, until fewer than 32 bytes are left or 4,096 steps were made.
 pub fn fill(words: &[u32], bytes: &[u8], n: Counts, from: Place, out: &mut [u8; 4096]) -> Chunk
     requires { ⌜ length (now out) ≡ 4096 ⌝ }
     ensures { λ r. ⌜ Fills n (now (words .entry)) (now (bytes .entry)) from r (now (out .exit)) ⌝ }

@@ -248,7 +248,7 @@ fn keep_all(
     }
 }
 
-// Puts each loan into the sets of each point, which are empty.
+// Puts each loan into the set of the point where it starts, into those of the points that it may pass, and into those of its region's points. All sets are empty before.
 fn fill(
     s: &[u8],
     layout: &[u16; 1280],
@@ -476,7 +476,7 @@ fn compute(
     }
 }
 
-// The loans in scope at each point, where `scope` has four words for each of at most 1024 points.
+// The loans in scope at each point, where `scope` has four words for each of at most 1024 points. Where there are no loans, it is left as it is.
 pub fn loans_in_scope(
     s: &[u8],
     layout: &[u16; 1280],

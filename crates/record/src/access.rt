@@ -1,4 +1,4 @@
-// Where a part of an accepted job lies, by its number. A number that names nothing is at 0.
+// Where a part of a job that was read lies, by its number. A number that names nothing is at 0.
 use super::BLOCKS;
 use super::END;
 use super::FIRST;

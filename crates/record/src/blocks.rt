@@ -42,7 +42,7 @@ fn action_end(c: Cursor, s: &[u8]) -> CodeStep
     }
 }
 
-// So many actions, which are the points from `first` on, and the end of their block.
+// Keeps where so many actions lie, which are the points from `first` on, and that the end of their block follows. Answers where they end, and how many loans they make.
 fn actions(from: Cursor, s: &[u8], count: u8, first: usize, layout: &mut [u16; 1280]) -> CodeStep
     requires { ⌜ (first ≤ 16384) × (length (now layout) ≡ 1280) × (length (now s) ≤ 65535) ⌝ }
     ensures { λ r. ⌜ ActionsSay (now (s .entry)) from count first (now (layout .entry)) (now (layout .exit)) r ⌝ }
@@ -66,7 +66,7 @@ fn actions(from: Cursor, s: &[u8], count: u8, first: usize, layout: &mut [u16; 1
     CodeStep::Ended { next: c, loans }
 }
 
-// So many blocks.
+// Keeps where so many blocks lie, their first points and their actions. Answers where they end, and how many points and loans they have.
 pub fn blocks(from: Cursor, s: &[u8], count: u8, layout: &mut [u16; 1280]) -> BlocksStep
     requires { ⌜ (count ≤ 64) × (length (now layout) ≡ 1280) × (length (now s) ≤ 65535) ⌝ }
     ensures { λ r. ⌜ BlocksSay (now (s .entry)) from count (now (layout .entry)) (now (layout .exit)) r ⌝ }

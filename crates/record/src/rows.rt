@@ -19,7 +19,7 @@ pub fn offset(c: Cursor) -> u16
     if at < 65535 { at as u16 } else { 65535 }
 }
 
-// The regions that a declared region outlives.
+// Where the list of the regions that a declared region outlives ends.
 pub fn outlives_end(c: Cursor, s: &[u8]) -> EndStep
     ensures { λ r. ⌜ endSays (now (s .entry)) r ≡ ended (counted maxOutlived byte (drop (c .at) (now (s .entry)))) ⌝ }
 {

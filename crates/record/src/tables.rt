@@ -19,7 +19,7 @@ ghost use Prim.Native.Nat.{_≤_};
 ghost use lib.ListN.{length};
 ghost use Rattle.record.specs.Layout.{InRange, CountsSay, LastCountsSay, PartsSay, verdictOf};
 
-// Structs, regions and declared regions.
+// The five counts: structs, regions and declared regions, then the last two.
 pub fn counts(c: Cursor, s: &[u8]) -> CountsStep
     ensures { λ r. ⌜ CountsSay (now (s .entry)) (c .at) r ⌝ }
 {
@@ -35,7 +35,7 @@ pub fn counts(c: Cursor, s: &[u8]) -> CountsStep
     }
 }
 
-// Variables and blocks.
+// The same from the fourth on: variables and blocks.
 fn last_counts(c: Cursor, s: &[u8], structs: u8, regions: u8, declared: u8) -> CountsStep
     requires { ⌜ (structs ≤ 16) × (regions ≤ 128) × (declared ≤ 16) ⌝ }
     ensures { λ r. ⌜ LastCountsSay structs regions declared (now (s .entry)) (c .at) r ⌝ }

@@ -59,6 +59,7 @@ fn own_named(a: Action, head: Head) -> bool
     }
 }
 
+// Where a path ends, if its variable is there.
 fn path_named(s: &[u8], c: Cursor, head: Head) -> EndStep
     ensures { λ r. ⌜ ((j : Job) → Sized head j → Passes path (pathNamed j) (now (s .entry)) (c .at) r) ⌝ }
 {
@@ -74,7 +75,7 @@ fn path_named(s: &[u8], c: Cursor, head: Head) -> EndStep
     }
 }
 
-// So many paths.
+// Where so many paths end, if their variables are there.
 fn paths_named(s: &[u8], from: Cursor, count: u8, head: Head) -> EndStep
     ensures { λ r. ⌜ ((j : Job) → Sized head j → Passes (items count path) (every (pathNamed j)) (now (s .entry)) (from .at) r) ⌝ }
 {
@@ -92,6 +93,7 @@ fn paths_named(s: &[u8], from: Cursor, count: u8, head: Head) -> EndStep
     EndStep::Ended(c)
 }
 
+// Where an action ends, if all that it names is there.
 fn action_named(s: &[u8], c: Cursor, head: Head) -> EndStep
     ensures { λ r. ⌜ ((j : Job) → Sized head j → Passes action (actionNamed j) (now (s .entry)) (c .at) r) ⌝ }
 {
@@ -107,7 +109,7 @@ fn action_named(s: &[u8], c: Cursor, head: Head) -> EndStep
     }
 }
 
-// So many actions.
+// Where so many actions end, if all that they name is there.
 fn actions_named(s: &[u8], from: Cursor, count: u8, head: Head) -> EndStep
     ensures { λ r. ⌜ ((j : Job) → Sized head j → Passes (items count action) (every (actionNamed j)) (now (s .entry)) (from .at) r) ⌝ }
 {
@@ -125,7 +127,7 @@ fn actions_named(s: &[u8], from: Cursor, count: u8, head: Head) -> EndStep
     EndStep::Ended(c)
 }
 
-// A block: its successors, then its actions.
+// Whether the successors of a block, and all that its actions name, are there.
 fn block_named(s: &[u8], c: Cursor, head: Head) -> bool
     ensures { λ r. ⌜ ((j : Job) → Sized head j → Tested block (blockNamed j) (now (s .entry)) (c .at) r) ⌝ }
 {
@@ -142,7 +144,7 @@ fn block_named(s: &[u8], c: Cursor, head: Head) -> bool
     }
 }
 
-// All blocks, whether they are reached or not.
+// The same of all blocks, reached or not.
 pub fn blocks_named(s: &[u8], layout: &[u16; 1280], head: Head) -> bool
     requires { ⌜ length (now layout) ≡ 1280 ⌝ }
     ensures { λ r. ⌜ ((j : Job) → Layout (now (s .entry)) (now (layout .entry)) head j → r ≡ blocksNamed j) ⌝ }

@@ -78,7 +78,7 @@ fn argument_fits(s: &[u8], around: Params, kind: Kind, region: Region) -> bool
     same_kind(kind, Kind::Region) & region_fits(s, around, region)
 }
 
-// A type of at most `left` nodes.
+// Where a type of at most `left` nodes ends, if its arguments and bounds fit.
 fn type_fits(
     s: &[u8],
     layout: &[u16; 1280],
@@ -130,7 +130,7 @@ fn type_fits(
     NodesStep::Refused(7)
 }
 
-// So many arguments, of at most `left` nodes together, for as many parameters.
+// The same of so many arguments, of at most `left` nodes together, for as many parameters.
 fn arguments_fit(
     s: &[u8],
     layout: &[u16; 1280],
@@ -183,7 +183,7 @@ fn arguments_fit(
     }
 }
 
-// A whole type, and where it ends.
+// The same of a whole type.
 pub fn ty_fits(s: &[u8], layout: &[u16; 1280], head: Head, c: Cursor, around: Params) -> EndStep
     requires { ⌜ length (now layout) ≡ 1280 ⌝ }
     ensures { λ r. ⌜ ((j : Job) (ps : List Param) → Within (now (s .entry)) (now (layout .entry)) head around j ps → Passes type (typeFits (j .structs) ps) (now (s .entry)) (c .at) r) ⌝ }

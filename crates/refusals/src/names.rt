@@ -22,7 +22,7 @@ fn region_named(region: Region, head: Head) -> bool
     }
 }
 
-// A type of at most `left` nodes.
+// Where a type of at most `left` nodes ends, if its regions and structs are there.
 fn type_named(s: &[u8], c: Cursor, left: u8, head: Head) -> NodesStep
     ensures { λ r. ⌜ TypeNamed head (now (s .entry)) (c .at) left r ⌝ }
 {
@@ -59,7 +59,7 @@ fn type_named(s: &[u8], c: Cursor, left: u8, head: Head) -> NodesStep
     NodesStep::Refused(6)
 }
 
-// So many arguments of a struct, of at most `left` nodes together.
+// The same of so many arguments of a struct, of at most `left` nodes together.
 fn arguments_named(s: &[u8], c: Cursor, count: u8, left: u8, head: Head) -> NodesStep
     ensures { λ r. ⌜ ArgumentsNamed head (now (s .entry)) (c .at) count left r ⌝ }
 {
@@ -91,7 +91,7 @@ fn arguments_named(s: &[u8], c: Cursor, count: u8, left: u8, head: Head) -> Node
     }
 }
 
-// A whole type, and where it ends.
+// The same of a whole type.
 pub fn ty_named(s: &[u8], c: Cursor, head: Head) -> EndStep
     ensures { λ r. ⌜ ((j : Job) → Sized head j → Passes type (typeNamed j) (now (s .entry)) (c .at) r) ⌝ }
 {

@@ -4,6 +4,7 @@ mod round;
 use infer::EndRule;
 use infer::Shape;
 use record::Head;
+use rerun::keep;
 use rerun::marks::note;
 use round::collect;
 use round::round;
@@ -31,7 +32,8 @@ fn clear(grown: &mut [u8; 128])
 }
 
 // Runs rounds until no set grows. `grown` marks, by 1, the regions whose sets grew. The constraints for which the list has room are derived once; `recent` gets those
-// by which regions were marked; the rows of `absent` get regions that no constraint of a point has as its inner one.
+// by which regions were marked; the rows of `absent` get regions that no constraint of a point has as its inner one; `before` is for the words before a round, and may be
+// shorter.
 fn solve(
     s: &[u8],
     layout: &[u16; 1280],
@@ -47,6 +49,7 @@ fn solve(
     list: &mut [u32],
     recent: &mut [u32],
     absent: &mut [u32],
+    before: &mut [u32],
 )
     requires { ⌜ (length (now layout) ≡ 1280) × (length (now grown) ≡ 128) × ((i : ℕ) → has (now absent) i ≡ false) ⌝ }
     ensures { λ _. ⌜ (length (now (grown .exit)) ≡ 128) × ((j : Job) → Seeded (now (s .entry)) (now (layout .entry)) head (now (first .entry)) (now (succ .entry)) (now (walked .entry)) shape (now (words .entry)) j
@@ -56,9 +59,9 @@ fn solve(
     constraint_list::clear(recent);
     let to = collect(s, layout, head, walked, shape.code, list);
     let mut last = [1; 128];
-    let mut active = [0; 32];
     let mut left = ROUNDS;
     while left != 0 {
+        keep(words, before);
         last = round(
             s,
             layout,
@@ -73,7 +76,7 @@ fn solve(
             &last,
             recent,
             absent,
-            &mut active,
+            before,
             list,
             to,
         );
@@ -100,9 +103,9 @@ fn solve_small(
     grown: &mut [u8; 128],
 )
     requires { ⌜ (length (now layout) ≡ 1280) × (length (now grown) ≡ 128) ⌝ }
-    ensures { λ _. ⌜ (length (now (grown .exit)) ≡ 128) × ((j : Job) → Seeded (now (s .entry)) (now (layout .entry)) head (now (first .entry)) (now (succ .entry)) (now (walked .entry)) shape (now (words .entry)) j
-        → Chained (now (chain .entry)) (now (first .entry)) (now (succ .entry)) → Solved (ruleOf rule) j (now (words .entry)) (now (words .exit)) (now (grown .exit))) ⌝ }
+    ensures { λ _. ⌜ (length (now (grown .exit)) ≡ 128) × ((j : Job) → Seeded (now (s .entry)) (now (layout .entry)) head (now (first .entry)) (now (succ .entry)) (now (walked .entry)) shape (now (words .entry)) j → Chained (now (chain .entry)) (now (first .entry)) (now (succ .entry)) → Solved (ruleOf rule) j (now (words .entry)) (now (words .exit)) (now (grown .exit))) ⌝ }
 {
+    let mut before = [0; 1];
     if shape.code <= 32 {
         let mut list = [0; 393];
         let mut recent = [0; 193];
@@ -122,6 +125,7 @@ fn solve_small(
             &mut list,
             &mut recent,
             &mut absent,
+            &mut before,
         );
     } else {
         let mut list = [0; 1025];
@@ -142,6 +146,7 @@ fn solve_small(
             &mut list,
             &mut recent,
             &mut absent,
+            &mut before,
         );
     }
 }
@@ -183,6 +188,7 @@ pub fn regionck(
     let mut list = [0; 4097];
     let mut recent = [0; 4097];
     let mut absent = [0; 4096];
+    let mut before = [0; 4096];
     solve(
         s,
         layout,
@@ -198,5 +204,6 @@ pub fn regionck(
         &mut list,
         &mut recent,
         &mut absent,
+        &mut before,
     );
 }

@@ -2,6 +2,7 @@
 use infer::EndRule;
 use infer::Shape;
 use record::Head;
+use rerun::make_room;
 use rerun::point::point;
 use rerun::repeat;
 ghost use mathlib.Core.Path.{_≡_};
@@ -43,18 +44,7 @@ pub fn collect(
     p
 }
 
-// Puts p among the active points if the list has another length than before.
-fn note_active(recent: &[u32], before: usize, active: &mut [u32; 32], p: usize)
-    ensures { λ _. ⌜ now (active .exit) ≡ cond (eqb (countIn (now (recent .entry))) before) (now (active .entry)) (withBit (now (active .entry)) (wordBits * 0 + p)) ⌝ }
-{
-    if constraint_list::count(recent) == before {
-        return;
-    }
-    bit_set::add(active, 0, p);
-}
-
-// Runs the constraints of point p. It is passed by if no region with a mark is the inner one of a constraint of the point, by its row of `absent`. If by them a region is
-// marked, p is put among the active points.
+// Runs the constraints of point p. It is passed by if no region with a mark is the inner one of a constraint of the point, by its row of `absent`.
 fn visit(
     s: &[u8],
     layout: &[u16; 1280],
@@ -70,7 +60,6 @@ fn visit(
     grew: &mut [u8; 128],
     recent: &mut [u32],
     absent: &mut [u32],
-    active: &mut [u32; 32],
     p: usize,
 )
     requires { ⌜ (length (now layout) ≡ 1280) × (p < shape .code) × Sound (now s) (now layout) head (now walked) (shape .code) (now absent) ⌝ }
@@ -88,7 +77,6 @@ fn visit(
     let mut list = [0; 265];
     point(s, layout, head, walked, p, &mut list);
     absent_regions::put(&list, p, absent);
-    let before = constraint_list::count(recent);
     infer::run(
         words,
         first,
@@ -101,7 +89,6 @@ fn visit(
         recent,
         &list,
     );
-    note_active(recent, before, active, p);
 }
 
 // Runs the constraints of point `from` and of those after it.
@@ -120,7 +107,6 @@ fn rest(
     grew: &mut [u8; 128],
     recent: &mut [u32],
     absent: &mut [u32],
-    active: &mut [u32; 32],
     from: usize,
 )
     requires { ⌜ (length (now layout) ≡ 1280) × (from ≤ shape .code) × Sound (now s) (now layout) head (now walked) (shape .code) (now absent) ⌝ }
@@ -149,24 +135,14 @@ fn rest(
             grew,
             recent,
             absent,
-            active,
             p,
         );
         p += 1;
     }
 }
 
-// Empties the list if it has no room for a constraint of each region.
-fn make_room(list: &mut [u32])
-    ensures { λ _. ⌜ Draws [] (now (list .entry)) (now (list .exit)) ⌝ }
-{
-    if constraint_list::room(list) < 128 {
-        constraint_list::clear(list);
-    }
-}
-
 // Runs the constraints of each point of walked blocks. The list has the constraints of the points before `to`; `recent` gets those by which regions are marked, and is
-// emptied where it is short of room; points from `to` on by whose constraints a region is marked are put among the active ones.
+// emptied where it is short of room.
 fn sweep(
     s: &[u8],
     layout: &[u16; 1280],
@@ -181,7 +157,6 @@ fn sweep(
     last: &[u8; 128],
     recent: &mut [u32],
     absent: &mut [u32],
-    active: &mut [u32; 32],
     list: &[u32],
     to: usize,
 ) -> [u8; 128]
@@ -221,13 +196,12 @@ fn sweep(
         &mut grew,
         recent,
         absent,
-        active,
         to,
     );
     grew
 }
 
-// The same, and then some of them again.
+// The same, and then some of them again. `before` has the words as they are before.
 pub fn round(
     s: &[u8],
     layout: &[u16; 1280],
@@ -242,12 +216,11 @@ pub fn round(
     last: &[u8; 128],
     recent: &mut [u32],
     absent: &mut [u32],
-    active: &mut [u32; 32],
+    before: &mut [u32],
     list: &[u32],
     to: usize,
 ) -> [u8; 128]
-    requires { ⌜ (length (now layout) ≡ 1280) × Holding (now s) (now layout) head (now walked) (shape .code) (now list) 0 to
-        × Sound (now s) (now layout) head (now walked) (shape .code) (now absent) ⌝ }
+    requires { ⌜ (length (now layout) ≡ 1280) × Holding (now s) (now layout) head (now walked) (shape .code) (now list) 0 to × Sound (now s) (now layout) head (now walked) (shape .code) (now absent) ⌝ }
     ensures { λ r. ⌜ RoundRuns (now (s .entry)) (now (layout .entry)) head (now (walked .entry)) shape rule (now (first .entry)) (now (succ .entry)) (now (chain .entry))
         (now (last .entry)) (now (recent .entry)) (now (words .entry)) (now (words .exit)) r
         × OwnKept (now (s .entry)) (now (layout .entry)) head (now (walked .entry)) (shape .code) (now (recent .entry)) (now (recent .exit))
@@ -267,7 +240,6 @@ pub fn round(
         last,
         recent,
         absent,
-        active,
         list,
         to,
     );
@@ -284,7 +256,8 @@ pub fn round(
         chain,
         &mut grew,
         recent,
-        active,
+        before,
+        absent,
         list,
         to,
     );

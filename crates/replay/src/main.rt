@@ -1,4 +1,5 @@
-// Runs the recorded answers of the original Rust, and the cases that document 01 runs, through the call, and prints how many agree.
+// Runs records through the call and prints how many answers are as recorded: the original Rust's for accepted records, the model's for refused ones, and the cases that
+// document 01 runs.
 mod compare;
 mod file;
 mod run;

@@ -54,7 +54,7 @@ pub struct Cursor {
     pub at: usize,
 }
 
-// An action. That of an Init has so many sources.
+// An action. An Init says how many sources it has, which follow it.
 pub enum Action {
     Noop,
     Init {

@@ -32,7 +32,7 @@ impl Cursor {
         EndStep::Ended(c)
     }
 
-    // A field: its number, then its type.
+    // A field: its number, and where its type begins.
     pub fn field(self, s: &[u8]) -> FieldStep
         ensures { λ r. ⌜ fieldSays (now (s .entry)) r ≡ field (drop (self .at) (now (s .entry))) ⌝ }
     {

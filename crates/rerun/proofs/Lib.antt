@@ -2,3 +2,4 @@ pub mod NamedLaws
 pub mod MarkLaws
 pub mod PointLaws
 pub mod RerunLaws
+pub mod KeepLaws

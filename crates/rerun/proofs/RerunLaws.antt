@@ -84,6 +84,10 @@ module _ {s t : List ℕ} {h : Head} {walked : List ℕ} {shape : Shape} {rule :
       → RunsMore s t h walked shape rule first succ chain recent₁ ws₁ grew₁ recent₂ ws₂ grew₂ → RunsMore s t h walked shape rule first succ chain recent ws grew recent₂ ws₂ grew₂
   more-then x y = record { ran = λ j k o last ws₀ g z. y .ran j k (x .own .kept j k o) last ws₀ g (x .ran j k o last ws₀ g z); own = own-then (x .own) (y .own) }
 
+  -- nothing is run, and nothing comes to `recent`
+  pub more-fewer : {recent recent₁ ws grew : List ℕ} → Draws [] recent recent₁ → RunsMore s t h walked shape rule first succ chain recent ws grew recent₁ ws grew
+  more-fewer x = record { ran = λ j k o last ws₀ g z. z; own = own-fewer x }
+
   -- those of a list that has only constraints of the job
   more-own : (ls : List ℕ) {recent recent₁ ws grew ws₁ grew₁ : List ℕ} → ((j : Job) → Known s t h walked (shape .code) j → Own j recent → Own j ls) → OwnKept s t h walked (shape .code) recent recent₁
       → RunsAgain shape rule first succ chain (constraintsIn ls) ws grew ws₁ grew₁ → RunsMore s t h walked shape rule first succ chain recent ws grew recent₁ ws₁ grew₁

@@ -77,3 +77,8 @@ pub record Noted (grew grown grown′ : List ℕ) (n : ℕ) : Type 0 where
   pub sized : length grown′ ≡ 128
   pub marked : (r : RegionName) → r < n → Marked grew r → getD grown′ r 0 ≡ 1
   pub others : (r : RegionName) → getD grew r 0 ≡ 0 → getD grown′ r 0 ≡ getD grown r 0
+
+-- The first n words of `before` become those of ws.
+pub record Keeps (ws before before′ : List ℕ) (n : ℕ) : Type 0 where
+  pub as-long : length before′ ≡ length before
+  pub same : (i : ℕ) → i < n → getD before′ i 0 ≡ getD ws i 0

@@ -8,11 +8,13 @@ use marks::note;
 use point::point;
 use record::Head;
 ghost use mathlib.Core.Path.{_≡_};
-ghost use Prim.Native.Nat.{_<_};
+ghost use mathlib.Core.List.{[]};
+ghost use Prim.Native.Nat.{_<_, _≤_};
 ghost use lib.ListN.{length};
+ghost use Rattle.nll_spec.specs.Syntax.{Point};
 ghost use Rattle.constraint_list.specs.Listed.{constraintsIn, Draws};
 ghost use Rattle.infer.specs.Ran.{Runs};
-ghost use Rattle.rerun.specs.Rerun.{noMarks, Noted, Holding, RunsAgain, RunsMore};
+ghost use Rattle.rerun.specs.Rerun.{noMarks, Noted, Holding, RunsAgain, RunsMore, Keeps};
 
 // How often constraints are run again, and how many turns there are, at most, before a round of all is due.
 const TIMES: u32 = 65536;
@@ -93,8 +95,73 @@ fn settle(
     }
 }
 
-// If p is an active point, runs its constraints once, those whose inner set has a mark in `last` or gets one. Marks, by 1, the regions whose sets grew, in `fresh` and in
-// `grew`.
+// Puts the words into `before`, as many as it has.
+pub fn keep(words: &[u32], before: &mut [u32])
+    ensures { λ _. ⌜ Keeps (now (words .entry)) (now (before .entry)) (now (before .exit)) (length (now (before .entry))) ⌝ }
+{
+    let many = before.len();
+    let mut i = 0;
+    while i < many {
+        before[i] = bit_slice::word_at(words, i);
+        i += 1;
+    }
+}
+
+// Empties the list if it has no room for a constraint of each region.
+pub fn make_room(list: &mut [u32])
+    ensures { λ _. ⌜ Draws [] (now (list .entry)) (now (list .exit)) ⌝ }
+{
+    if constraint_list::room(list) < 128 {
+        constraint_list::clear(list);
+    }
+}
+
+// The points of a word of a set from which those of `from` are reached, each followed by the next one and all in the set.
+fn lead_within(held: u32, from: u32) -> u32 {
+    let a = from | (held & (from >> 1));
+    let two = held & (held >> 1);
+    let b = a | (two & (a >> 2));
+    let four = two & (two >> 2);
+    let c = b | (four & (b >> 4));
+    let eight = four & (four >> 4);
+    let d = c | (eight & (c >> 8));
+    let sixteen = eight & (eight >> 8);
+    d | (sixteen & (d >> 16))
+}
+
+// Adds to `near` the points of the set from word start on from which a point that it lacked before is reached, and the point before each, whose action may have a constraint there.
+fn lead(words: &[u32], before: &[u32], start: usize, width: usize, near: &mut [u32; 32])
+    requires { ⌜ (width ≤ 32) × (start ≤ 4096) ⌝ }
+{
+    let mut after = 0;
+    for i in 0..width {
+        let k = width - 1 - i;
+        let held = bit_slice::word_at(words, start + k);
+        let old = bit_slice::word_at(before, start + k);
+        let from = (held ^ (held & old)) | (held & after);
+        let lead = lead_within(held, from);
+        near[k] = near[k] | lead | (lead >> 1) | after;
+        after = (lead % 2) * 2147483648;
+    }
+}
+
+// The same for the sets of all regions with a mark. Then `before` gets the words.
+fn leading(words: &[u32], before: &mut [u32], width: usize, marks: &[u8; 128]) -> [u32; 32] {
+    let mut near = [0; 32];
+    if 32 < width {
+        return near;
+    }
+    for r in 0..128 {
+        if marks[r] != 0 {
+            lead(words, before, r * width, width, &mut near);
+        }
+    }
+    keep(words, before);
+    near
+}
+
+// If p is among the points `near`, and a region with a mark may be the inner one of a constraint of it, by its row of `absent`, runs its constraints once, those whose inner set has
+// a mark in `last` or gets one. Marks, by 1, the regions whose sets grew, in `fresh` and in `grew`.
 fn revisit(
     s: &[u8],
     layout: &[u16; 1280],
@@ -110,14 +177,19 @@ fn revisit(
     fresh: &mut [u8; 128],
     grew: &mut [u8; 128],
     recent: &mut [u32],
-    active: &[u32; 32],
+    near: &[u32; 32],
+    absent: &[u32],
     p: usize,
 )
     requires { ⌜ (length (now layout) ≡ 1280) × (p < shape .code) ⌝ }
     ensures { λ _. ⌜ RunsMore (now (s .entry)) (now (layout .entry)) head (now (walked .entry)) shape rule (now (first .entry)) (now (succ .entry)) (now (chain .entry))
         (now (recent .entry)) (now (words .entry)) (now (grew .entry)) (now (recent .exit)) (now (words .exit)) (now (grew .exit)) ⌝ }
 {
-    if !bit_set::test(active, 0, p) {
+    if !bit_set::test(near, 0, p) {
+        return;
+    }
+    let marks = absent_regions::marked(last, fresh);
+    if absent_regions::all_in(absent, p, &marks) {
         return;
     }
     let mut list = [0; 265];
@@ -137,8 +209,8 @@ fn revisit(
     note(&next, fresh);
 }
 
-// The same for each point from `from` on.
-fn revisit_active(
+// The same for each point.
+fn revisit_near(
     s: &[u8],
     layout: &[u16; 1280],
     head: Head,
@@ -153,15 +225,15 @@ fn revisit_active(
     fresh: &mut [u8; 128],
     grew: &mut [u8; 128],
     recent: &mut [u32],
-    active: &[u32; 32],
-    from: usize,
+    near: &[u32; 32],
+    absent: &[u32],
 )
     requires { ⌜ length (now layout) ≡ 1280 ⌝ }
     ensures { λ _. ⌜ RunsMore (now (s .entry)) (now (layout .entry)) head (now (walked .entry)) shape rule (now (first .entry)) (now (succ .entry)) (now (chain .entry))
         (now (recent .entry)) (now (words .entry)) (now (grew .entry)) (now (recent .exit)) (now (words .exit)) (now (grew .exit)) ⌝ }
 {
     let code = shape.code;
-    let mut p = from;
+    let mut p = 0;
     while p < code {
         revisit(
             s,
@@ -178,15 +250,16 @@ fn revisit_active(
             fresh,
             grew,
             recent,
-            active,
+            near,
+            absent,
             p,
         );
         p += 1;
     }
 }
 
-// Runs the constraints of the list and of the active points from `to` on once, those whose inner set has a mark in `last` or gets one. The answer marks, by 1, the regions whose
-// sets grew, and so does `grew`. The list has the constraints of the points before `to`.
+// Runs the constraints of the list once, then those of the points that lead to what is new since `before`, which gets the words: those whose inner set has a mark in `last` or gets one.
+// The answer marks, by 1, the regions whose sets grew, and so does `grew`. The list has the constraints of the first points.
 fn turn(
     s: &[u8],
     layout: &[u16; 1280],
@@ -201,15 +274,17 @@ fn turn(
     last: &[u8; 128],
     grew: &mut [u8; 128],
     recent: &mut [u32],
-    active: &[u32; 32],
+    before: &mut [u32],
+    absent: &[u32],
     list: &[u32],
-    to: usize,
 ) -> [u8; 128]
     requires { ⌜ length (now layout) ≡ 1280 ⌝ }
-    ensures { λ _. ⌜ (Holding (now (s .entry)) (now (layout .entry)) head (now (walked .entry)) (shape .code) (now (list .entry)) 0 to
+    ensures { λ _. ⌜ ((to : Point) → Holding (now (s .entry)) (now (layout .entry)) head (now (walked .entry)) (shape .code) (now (list .entry)) 0 to
         → RunsMore (now (s .entry)) (now (layout .entry)) head (now (walked .entry)) shape rule (now (first .entry)) (now (succ .entry)) (now (chain .entry))
         (now (recent .entry)) (now (words .entry)) (now (grew .entry)) (now (recent .exit)) (now (words .exit)) (now (grew .exit))) ⌝ }
 {
+    let near = leading(words, before, shape.width, last);
+    make_room(recent);
     let mut fresh = rerun(
         words,
         first,
@@ -222,7 +297,7 @@ fn turn(
         recent,
         list,
     );
-    revisit_active(
+    revisit_near(
         s,
         layout,
         head,
@@ -237,13 +312,13 @@ fn turn(
         &mut fresh,
         grew,
         recent,
-        active,
-        to,
+        &near,
+        absent,
     );
     fresh
 }
 
-// The same, and then the constraints of `recent`, until no set grows, at most TIMES times, by the marks `marks` at first.
+// The same, each time with the constraints of `recent` after it, until no set grows, at most TIMES times, by the marks `marks` at first.
 fn turns(
     s: &[u8],
     layout: &[u16; 1280],
@@ -258,12 +333,12 @@ fn turns(
     marks: [u8; 128],
     grew: &mut [u8; 128],
     recent: &mut [u32],
-    active: &[u32; 32],
+    before: &mut [u32],
+    absent: &[u32],
     list: &[u32],
-    to: usize,
 )
     requires { ⌜ length (now layout) ≡ 1280 ⌝ }
-    ensures { λ _. ⌜ (Holding (now (s .entry)) (now (layout .entry)) head (now (walked .entry)) (shape .code) (now (list .entry)) 0 to
+    ensures { λ _. ⌜ ((to : Point) → Holding (now (s .entry)) (now (layout .entry)) head (now (walked .entry)) (shape .code) (now (list .entry)) 0 to
         → RunsMore (now (s .entry)) (now (layout .entry)) head (now (walked .entry)) shape rule (now (first .entry)) (now (succ .entry)) (now (chain .entry))
         (now (recent .entry)) (now (words .entry)) (now (grew .entry)) (now (recent .exit)) (now (words .exit)) (now (grew .exit))) ⌝ }
 {
@@ -287,9 +362,9 @@ fn turns(
             &last,
             grew,
             recent,
-            active,
+            before,
+            absent,
             list,
-            to,
         );
         settle(
             words,
@@ -306,8 +381,8 @@ fn turns(
     }
 }
 
-// Runs the constraints of `recent` until by them no set grows. If there are points from `to` on, runs those of the list and of the active points again too. `grew` marks, by 1, the
-// regions whose sets grew. The list has the constraints of the points before `to`.
+// Runs the constraints of `recent` until by them no set grows. If there are points from `to` on, runs those of the list and of points that lead to what is new again too: `before` has
+// words as they were. `grew` marks, by 1, the regions whose sets grew. The list has the constraints of the points before `to`.
 pub fn repeat(
     s: &[u8],
     layout: &[u16; 1280],
@@ -321,7 +396,8 @@ pub fn repeat(
     chain: &[u32; 32],
     grew: &mut [u8; 128],
     recent: &mut [u32],
-    active: &[u32; 32],
+    before: &mut [u32],
+    absent: &[u32],
     list: &[u32],
     to: usize,
 )
@@ -360,8 +436,8 @@ pub fn repeat(
         last,
         grew,
         recent,
-        active,
+        before,
+        absent,
         list,
-        to,
     );
 }

@@ -14,6 +14,7 @@ ghost use Rattle.nll_spec.specs.Syntax.{Job};
 ghost use Rattle.record.specs.Layout.{Layout};
 ghost use Rattle.seeds.specs.Seeded.{Room, Adds, lent, ended, declaredSeed, spreads, takes, anyTo, liveIn};
 
+// A count of points.
 fn place(x: u16) -> usize
     ensures { λ r. ⌜ (r ≡ x) × (r ≤ 65535) ⌝ }
 {

@@ -23,6 +23,7 @@ pub enum Wanted {
     RefTo(BorrowKind),
 }
 
+// The refusal of types that fit, 0, or do not, 9.
 fn nine(fits: bool) -> u8
     ensures { λ r. ⌜ r ≡ cond fits 0 9 ⌝ }
 {

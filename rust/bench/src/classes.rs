@@ -2,7 +2,7 @@
 
 use generate::jobs::{dense, slow, Size, LARGE, LARGEST, MEDIUM, SMALL, TINY};
 use generate::rng::Rng;
-use generate::worst::{self, Clock, Gates, Relay};
+use generate::worst::{self, Clock, Gates, Relay, Strips};
 use original::Order;
 
 pub struct Class {
@@ -36,6 +36,7 @@ pub fn classes() -> Vec<Class> {
         Class::new("slow", || of_nodes(slow, &[2])),
         Class::new("relay", worst::small_relays),
         Class::new("gates", worst::small_gates),
+        Class::new("strips", worst::small_strips),
     ]
 }
 
@@ -94,6 +95,10 @@ pub fn slowest() -> Vec<(String, Vec<u8>)> {
         held(6),
     ] {
         found.push((format!("{gates:?}"), worst::gates(&gates)));
+    }
+    let largest = Strips::largest();
+    for strips in [largest, Strips { parts: 4, strips: 80, tokens: 4, assignments: 20, ..largest }] {
+        found.push((format!("{strips:?}"), worst::strips(&strips)));
     }
     found.extend([2, 8, 32].map(|nodes| (format!("dense {nodes}"), dense(&mut Rng::new(1), nodes))));
     found.extend([2, 8, 32].map(|nodes| (format!("slow {nodes}"), slow(&mut Rng::new(1), nodes))));

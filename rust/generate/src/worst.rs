@@ -31,6 +31,10 @@ fn init(variable: Variable, sources: &[Variable]) -> Action {
     Action::Init(Path::variable(variable), sources.iter().map(|&source| Path::variable(source)).collect())
 }
 
+fn assign(to: Variable, from: Variable) -> Action {
+    Action::Assign(Path::variable(to), Path::variable(from))
+}
+
 fn reference(kind: BorrowKind, name: RegionName, referent: Ty) -> Ty {
     Ty::Ref(kind, Region::Free(name), Box::new(referent))
 }
@@ -228,13 +232,108 @@ pub fn small_relays() -> Vec<Vec<u8>> {
     relays.iter().map(relay).collect()
 }
 
+// ---- Tokens
+
+/// Tokens are points that the regions of a chain lack at first. They stand in areas, and the last area is followed by the first. A token goes
+/// from the first region of the chain to the last by constraints of its area, which the job has to have. Then others bring the next token,
+/// which is in the next area, to the first region. So the first token of each area comes, then the second of each, and so on.
+struct Tokens {
+    /// The regions of the chain, from region 0 on. Those of the tokens come after them.
+    chain: usize,
+    /// An even number.
+    areas: usize,
+    /// The tokens of an area, which stand in a row.
+    each: usize,
+    /// The first of their variables: for areas of even and of odd number, what is assigned and what to, to bring the next token; one that
+    /// gives the first token; those of the bringing regions.
+    variables: Variable,
+}
+
+impl Tokens {
+    fn calling(&self, area: usize) -> Variable {
+        self.variables + area % 2
+    }
+
+    fn called(&self, area: usize) -> Variable {
+        self.variables + 2 + area % 2
+    }
+
+    /// The variable that gives the first token. It has to be set in each area before the tokens.
+    fn first(&self) -> Variable {
+        self.variables + 4
+    }
+
+    fn bringing(&self, token: usize) -> Variable {
+        self.variables + 5 + 2 * (token / self.areas) + token % 2
+    }
+
+    /// The first variable after these.
+    fn end(&self) -> Variable {
+        self.variables + 5 + 2 * self.each
+    }
+
+    /// Brings the token after one of this area to a region outside the chain, and a token of this area from such a one to region 0.
+    fn call(&self, area: usize) -> [Action; 2] {
+        [init(self.calling(area), &[]), assign(self.called(area), self.calling(area))]
+    }
+
+    /// The tokens of an area.
+    fn row(&self, area: usize) -> impl Iterator<Item = Action> + '_ {
+        (0..self.each).map(move |index| match self.areas * index + area {
+            0 => init(self.bringing(0), &[self.first()]),
+            token => init(self.bringing(token), &[self.bringing(token - 1)]),
+        })
+    }
+
+    /// Regions that go from a token to the next one, where the first is in an area of even or odd number.
+    fn bringing_regions(&self, odd: usize) -> impl Iterator<Item = RegionName> {
+        let chain = self.chain;
+        (0..self.each).map(move |index| chain + 2 * index + odd)
+    }
+
+    /// The region that gets the next token from them.
+    fn brought(&self, odd: usize) -> RegionName {
+        self.chain + 2 * self.each + odd
+    }
+
+    /// The first region after these.
+    fn end_of_regions(&self) -> RegionName {
+        self.brought(2)
+    }
+
+    /// The types of the variables, by a struct of three regions and a type that is covariant: what is assigned to outlives what is assigned.
+    fn types(&self, covariant: StructName) -> Vec<Ty> {
+        let last = || vec![self.chain - 1; self.each].into_iter();
+        let calling = |odd| last().chain(self.bringing_regions(odd)).chain([self.brought(1 - odd)]).collect();
+        let called = |odd| self.bringing_regions(odd).chain(vec![self.brought(odd); self.each]).chain([0]).collect();
+        let pointer = |name| reference(BorrowKind::Shared, name, Ty::Unit);
+        let mut types = [calling(0), calling(1), called(0), called(1)]
+            .map(|names: Vec<RegionName>| in_threes(covariant, names))
+            .to_vec();
+        types.push(pointer(0));
+        types.extend((self.chain..self.brought(0)).map(pointer));
+        types
+    }
+}
+
+/// A type with these regions, by a struct of three regions and a type.
+fn in_threes(name: StructName, names: Vec<RegionName>) -> Ty {
+    let around = |ty, names: &[RegionName]| three_of(name, [0, 1, 2].map(|i| names[i.min(names.len() - 1)]), ty);
+    names.chunks(3).fold(Ty::Unit, around)
+}
+
+/// Struct 1, but covariant.
+fn covariant(structs: &[StructDecl]) -> StructDecl {
+    let params = structs[1].params.iter().map(|param| Param { variance: Variance::Co, ..*param }).collect();
+    StructDecl { params, fields: vec![] }
+}
+
 // ---- Many rounds, in each of which all constraints are run
 
-/// A job in which tokens go through a chain of regions, one token after another. A token is a point that the chain's regions lack at
-/// first. Each region of the chain outlives the one before it by an assignment at the start of the record or by one near its end, in
-/// turn, so that a token goes two regions further in a round. Such a pair of assignments and a row of tokens make up an area, and no
-/// walk through the chain's regions leaves its area. When a token has come to the last region, others bring the next token, which is
-/// in the next area, to the first region. So the constraints of an area are used again only after those of all others.
+/// A job in which tokens go through a chain of regions, one token after another. Each region of the chain outlives the one before it by
+/// an assignment at the start of the record or by one near its end, in turn, so that a token goes two regions further in a round. Such a
+/// pair of assignments and a row of tokens make up an area, and no walk through the chain's regions leaves its area. So the constraints
+/// of an area are used again only after those of all others.
 ///
 /// Between the two assignments of each area stand others, which relate two regions that hold nearly all points. Each of the two has a
 /// point that the other lacks, so that only a walk finds that a constraint adds nothing, and it goes through all blocks.
@@ -261,11 +360,15 @@ impl Gates {
         Gates { chain: 100, areas: 26, tokens: 12, assignments: 439, steps: 6, held: false }
     }
 
+    fn in_areas(&self) -> Tokens {
+        Tokens { chain: self.chain, areas: self.areas, each: self.tokens, variables: LARGE[1] + 1 }
+    }
+
     /// The two variables of the assignments between.
     fn related(&self) -> [Variable; 2] {
-        let after_bringing = BRINGING + 2 * self.tokens;
+        let after_all = self.in_areas().end();
         if self.held {
-            [after_bringing, after_bringing + 1]
+            [after_all, after_all + 1]
         } else {
             LARGE
         }
@@ -281,45 +384,30 @@ impl Gates {
     }
 }
 
-/// The variables of gates: the chain's even regions, its odd ones, and those after these; two of large types; for areas of even and of
-/// odd number, what is assigned and what to, to bring the next token; one that gives the first token; those of the bringing regions; and,
+/// The variables of gates: the chain's even regions, its odd ones, and those after these; two of large types; those of the tokens; and,
 /// where the assignments between are of the chain's regions, two of these.
 const EVEN: Variable = 0;
 const ODD: Variable = 1;
 const AFTER_ODD: Variable = 2;
 const LARGE: [Variable; 2] = [3, 4];
-const CALLING: [Variable; 2] = [5, 6];
-const CALLED: [Variable; 2] = [7, 8];
-const FIRST: Variable = 9;
-const BRINGING: Variable = 10;
 
 pub fn gates(gates: &Gates) -> Vec<u8> {
-    let Gates { chain, tokens, steps, held, .. } = *gates;
+    let Gates { chain, steps, held, .. } = *gates;
+    let tokens = gates.in_areas();
     let mut structs = regions_and_a_type();
     let around = structs.len();
     structs.extend(in_turn(around, steps));
-    // as struct 1, but covariant: what is assigned to outlives what is assigned
-    let covariant = structs.len();
-    let params = structs[1].params.iter().map(|param| Param { variance: Variance::Co, ..*param }).collect();
-    structs.push(StructDecl { params, fields: vec![] });
-    let of = |names: Vec<RegionName>| {
-        let around = |ty, names: &[RegionName]| three_of(covariant, [0, 1, 2].map(|i| names[i.min(names.len() - 1)]), ty);
-        names.chunks(3).fold(Ty::Unit, around)
-    };
-    let every_other = |first: usize| of((first..first + chain).step_by(2).map(|name| name.min(chain - 1)).collect());
-    // Regions that go from a token to the next one, where the first is in an area of even or odd number, and those that get it from them.
-    let bringing = |odd: usize| (0..tokens).map(move |index| chain + 2 * index + odd);
-    let brought = |odd: usize| chain + 2 * tokens + odd;
-    let full = |index: usize| chain + 2 * tokens + 2 + index;
-    let calling = |odd| of(vec![chain - 1; tokens].into_iter().chain(bringing(odd)).chain([brought(1 - odd)]).collect());
-    let called = |odd| of(bringing(odd).chain(vec![brought(odd); tokens]).chain([0]).collect());
+    structs.push(covariant(&structs));
+    let covariant = structs.len() - 1;
+    let every_other =
+        |first: usize| in_threes(covariant, (first..first + chain).step_by(2).map(|name| name.min(chain - 1)).collect());
+    let full = |index: usize| tokens.end_of_regions() + index;
     let within = |ty| if steps == 0 { ty } else { Ty::Struct(around, vec![Arg::Ty(ty)]) };
     let nodes = MAX_NODES - steps.min(1);
     let large = |index| within(large_type(nodes, |_| full(index)));
-    let pointer = |name| reference(BorrowKind::Shared, name, Ty::Unit);
     let mut variables = [0, 1, 2].map(every_other).to_vec();
-    variables.extend([large(0), large(1), calling(0), calling(1), called(0), called(1), pointer(0)]);
-    variables.extend((chain..brought(0)).map(pointer));
+    variables.extend([large(0), large(1)]);
+    variables.extend(tokens.types(covariant));
     if held {
         variables.extend([0, 1].map(|_| within(large_type(nodes, |index| index % chain))));
     }
@@ -328,8 +416,8 @@ pub fn gates(gates: &Gates) -> Vec<u8> {
 
 /// The first assignments of the areas, those between, an end, a block whose point no region holds, and the areas.
 fn gates_blocks(gates: &Gates) -> Vec<Block> {
-    let Gates { areas, tokens, .. } = *gates;
-    let assign = |to, from| Action::Assign(Path::variable(to), Path::variable(from));
+    let areas = gates.areas;
+    let tokens = gates.in_areas();
     let between = gates.between();
     let end = areas + between.len();
     let shut = end + 1;
@@ -347,16 +435,12 @@ fn gates_blocks(gates: &Gates) -> Vec<Block> {
         blocks.push(block(vec![0, blocks.len() + 1], actions));
     }
     let [to, from] = LARGE;
-    let apart = vec![init(FIRST, &LARGE), init(to, &[]), init(from, &[to]), Action::Use(Path::variable(from))];
+    let apart = vec![init(tokens.first(), &LARGE), init(to, &[]), init(from, &[to]), Action::Use(Path::variable(from))];
     blocks.extend([apart, vec![]].map(|actions| Block { successors: vec![], actions }));
-    let bringing = |token: usize| BRINGING + 2 * (token / areas) + token % 2;
     for area in 0..areas {
-        let mut actions = vec![init(CALLING[area % 2], &[]), assign(CALLED[area % 2], CALLING[area % 2])];
-        actions.extend([assign(AFTER_ODD, ODD), init(FIRST, &[EVEN, ODD])]);
-        actions.extend((0..tokens).map(|index| match areas * index + area {
-            0 => init(bringing(0), &[FIRST]),
-            token => init(bringing(token), &[bringing(token - 1)]),
-        }));
+        let mut actions = tokens.call(area).to_vec();
+        actions.extend([assign(AFTER_ODD, ODD), init(tokens.first(), &[EVEN, ODD])]);
+        actions.extend(tokens.row(area));
         actions.extend([init(EVEN, &[]), init(ODD, &[])]);
         blocks.push(block(vec![area_at(area + 1), end], actions));
     }
@@ -374,6 +458,112 @@ pub fn small_gates() -> Vec<Vec<u8>> {
     ];
     let held = plain.map(|gates| Gates { held: true, ..gates });
     plain.iter().chain(&held).map(gates).collect()
+}
+
+// ---- More constraints in use than fit into a list
+
+/// A job in which tokens go through a chain of regions, one token after another, as in gates; but an area is a strip of a few points that
+/// follow each other, so that there are more areas. The constraints by which the tokens go on, one for each strip and region of the chain,
+/// may be more than 4,096, and those of a strip are used again only after those of all others.
+///
+/// The regions of the chain are in parts: region r in part r % parts. A strip has an assignment for each part, by which the next region
+/// after each of the part and this one outlive each other. These stand in the order against that of the parts, so that in a round a token
+/// goes on by one of them, or by the first one and then the last.
+///
+/// Before the strips stand other assignments, of the chain's regions to themselves. Each assignment may have something to do in each round.
+#[derive(Clone, Copy, Debug)]
+pub struct Strips {
+    /// The regions of the chain, at most 94. There are two others, and two for each token of a strip.
+    pub chain: usize,
+    /// The parts of the chain, which are the assignments of a strip.
+    pub parts: usize,
+    /// An even number.
+    pub strips: usize,
+    /// The tokens of a strip.
+    pub tokens: usize,
+    /// The assignments before the strips. Each, as those of the strips, is of 94 pairs of regions, or of 97 without steps, both ways.
+    pub assignments: usize,
+    /// The steps of the assigned paths, each to a type that is the argument of a struct or made by substitution.
+    pub steps: usize,
+}
+
+/// The variables of strips: the chain's regions; two that are assigned before the strips; those of the tokens; and for each part one that it
+/// is assigned to.
+const CHAIN: Variable = 0;
+const BEFORE: [Variable; 2] = [1, 2];
+
+impl Strips {
+    /// The most work of those tried. It has 1,023 points.
+    pub fn largest() -> Strips {
+        Strips { chain: 94, parts: 10, strips: 40, tokens: 10, assignments: 40, steps: 6 }
+    }
+
+    fn in_areas(&self) -> Tokens {
+        Tokens { chain: self.chain, areas: self.strips, each: self.tokens, variables: BEFORE[1] + 1 }
+    }
+
+    fn assigned(&self, variable: Variable) -> Path {
+        path(variable, vec![1; self.steps])
+    }
+
+    /// The assignments before the strips, by blocks.
+    fn before(&self) -> Vec<Vec<Action>> {
+        let set = BEFORE.map(|variable| init(variable, &[]));
+        let [to, from] = BEFORE.map(|variable| self.assigned(variable));
+        let assigned = vec![Action::Assign(to, from); self.assignments];
+        assigned.chunks(ACTIONS - set.len()).map(|assigned| [&set, assigned].concat()).collect()
+    }
+
+    /// The points of a strip. The chain's regions hold those after the first one, where their variable is set, up to the tokens.
+    fn strip(&self, strip: usize) -> Vec<Action> {
+        let tokens = self.in_areas();
+        let after = |part| Path::variable(tokens.end() + part);
+        let mut actions = vec![init(CHAIN, &[])];
+        actions.extend(tokens.call(strip));
+        actions.extend((0..self.parts).rev().map(|part| Action::Assign(after(part), self.assigned(CHAIN))));
+        actions.push(init(tokens.first(), &[CHAIN]));
+        actions.extend(tokens.row(strip));
+        actions
+    }
+
+    /// Blocks in a row, of whole strips, and the first with strips after the last.
+    fn blocks(&self) -> Vec<Block> {
+        let mut found = self.before();
+        let first = found.len();
+        let strips: Vec<Vec<Action>> = (0..self.strips).map(|strip| self.strip(strip)).collect();
+        found.extend(strips.chunks(ACTIONS / strips[0].len()).map(|strips| strips.concat()));
+        let count = found.len();
+        let next = |index| if index + 1 < count { index + 1 } else { first };
+        found.into_iter().enumerate().map(|(index, actions)| Block { successors: vec![next(index)], actions }).collect()
+    }
+}
+
+pub fn strips(strips: &Strips) -> Vec<u8> {
+    let Strips { chain, parts, steps, .. } = *strips;
+    let tokens = strips.in_areas();
+    let mut structs = regions_and_a_type();
+    let around = structs.len();
+    structs.extend(in_turn(around, steps));
+    structs.push(covariant(&structs));
+    let large = |after: Option<usize>| {
+        let next = |index: usize| if after == Some(index % parts) { index + 1 } else { index };
+        large_type(MAX_NODES - steps.min(1), |index| next(index).min(chain - 1))
+    };
+    let within = |ty| if steps == 0 { ty } else { Ty::Struct(around, vec![Arg::Ty(ty)]) };
+    let mut variables = [CHAIN, BEFORE[0], BEFORE[1]].map(|_| within(large(None))).to_vec();
+    variables.extend(tokens.types(structs.len() - 1));
+    variables.extend((0..parts).map(|part| large(Some(part))));
+    record(&Job { structs, regions: tokens.end_of_regions(), outlives: vec![], variables, blocks: strips.blocks() })
+}
+
+/// Strips that take the original and the model some seconds at most, of at most 32 points, at most 128 and more.
+pub fn small_strips() -> Vec<Vec<u8>> {
+    let found = [
+        Strips { chain: 40, parts: 2, strips: 2, tokens: 2, assignments: 1, steps: 0 },
+        Strips { chain: 60, parts: 3, strips: 8, tokens: 2, assignments: 8, steps: 2 },
+        Strips { chain: 30, parts: 5, strips: 10, tokens: 3, assignments: 4, steps: 2 },
+    ];
+    found.iter().map(strips).collect()
 }
 
 // ---- Many loans, much that is live, sets that go far
@@ -539,8 +729,10 @@ mod tests {
             records.extend([few(0), few(1), few(6), many(0), many(6)].iter().map(gates));
         }
         records.push(gates(&Gates::largest()));
+        records.extend([0, 1, 6].map(|steps| strips(&Strips { steps, ..Strips::largest() })));
         records.extend(small_relays());
         records.extend(small_gates());
+        records.extend(small_strips());
         records.extend((0..7).map(loans));
         records.extend(deep());
         records.extend([far(), live()]);
@@ -552,6 +744,12 @@ mod tests {
                 record.len()
             );
         }
+    }
+
+    #[test]
+    fn small_strips_have_few_and_many_points() {
+        let points: Vec<usize> = small_strips().iter().map(|record| model::accept(record).unwrap().points()).collect();
+        assert_eq!(points, [21, 85, 129]);
     }
 
     #[test]

@@ -1,4 +1,4 @@
-//! A loader in small: reads a job, has it analysed, tells the operator what was found and decides whether the transport may
+//! A small loader: reads a job, has it analysed, tells the operator what was found and decides whether the transport may
 //! move.
 //!
 //!     cargo run --release -p nll --example loader -- ../jobs/case5.hex

@@ -120,8 +120,8 @@ impl<'a> Accepted<'a> {
         (0..answer.points()).filter_map(move |point| answer.fault(point))
     }
 
-    /// Whether no point has a fault. Then nothing touches what a borrow into a plain variable lends on any path to a later use
-    /// of a variable that holds the loan, until what was lent, or a prefix of its path, is overwritten.
+    /// Whether no point has a fault. Then no action conflicts with what a borrow into a plain variable lends on any path to a later
+    /// use of a variable that holds the loan, until what was lent, or a prefix of its path, is overwritten.
     pub fn without_access_errors(&self) -> bool {
         self.faults().next().is_none()
     }

@@ -25,14 +25,17 @@ slice-aggregate-solve-2 c = search needs
 slice-aggregate-solve-3 : tie.Need-slice-aggregate-solve-3
 slice-aggregate-solve-3 c = search needs
 
+slice-aggregate-solve-4 : tie.Need-slice-aggregate-solve-4
+slice-aggregate-solve-4 c = search needs
+
 solve-requires : tie.Need-solve-requires
-solve-requires c κs = let start = c .before .before .before .before .before .before .before .before .before .before .before in (start .pre .0, start .pre .1, has-zeros 4096)
+solve-requires c κs = let start = c .before .before .before .before .before .before .before .before .before .before .before .before in (start .pre .0, start .pre .1, has-zeros 4096)
 
 same-length-2 : tie.Need-same-length-2
 same-length-2 c = search needs
 
 returns-2 : tie.Need-returns-2
-returns-2 c = let r = c .before .before .before .before .before .solve .ensures in (r .0, λ j x. r .1 j x (c .before .before .before .before .before .before .before .before .before .before .before .before .before .before .chains .ensures))
+returns-2 c = let r = c .before .before .before .before .before .before .solve .ensures in (r .0, λ j x. r .1 j x (c .before .before .before .before .before .before .before .before .before .before .before .before .before .before .before .before .chains .ensures))
 
 pub regionck-spec : {M : Type 1} → statement M
 regionck-spec =
@@ -45,6 +48,7 @@ regionck-spec =
     slice-aggregate-solve
     slice-aggregate-solve-2
     slice-aggregate-solve-3
+    slice-aggregate-solve-4
     solve-requires
     same-length-2
     returns-2)

@@ -13,11 +13,11 @@ slice-aggregate-solve-2 c = search needs
 slice-aggregate-solve-3 : tie.Need-slice-aggregate-solve-3
 slice-aggregate-solve-3 c = search needs
 
-solve-requires : tie.Need-solve-requires
-solve-requires c κs = let start = c .before .before .before .before .before .before .before .before .before in (start .pre .0, start .pre .1, has-zeros 128)
-
 slice-aggregate-solve-4 : tie.Need-slice-aggregate-solve-4
 slice-aggregate-solve-4 c = search needs
+
+solve-requires : tie.Need-solve-requires
+solve-requires c κs = let start = c .before .before .before .before .before .before .before .before .before .before in (start .pre .0, start .pre .1, has-zeros 128)
 
 slice-aggregate-solve-5 : tie.Need-slice-aggregate-solve-5
 slice-aggregate-solve-5 c = search needs
@@ -25,20 +25,26 @@ slice-aggregate-solve-5 c = search needs
 slice-aggregate-solve-6 : tie.Need-slice-aggregate-solve-6
 slice-aggregate-solve-6 c = search needs
 
+slice-aggregate-solve-7 : tie.Need-slice-aggregate-solve-7
+slice-aggregate-solve-7 c = search needs
+
+slice-aggregate-solve-8 : tie.Need-slice-aggregate-solve-8
+slice-aggregate-solve-8 c = search needs
+
 solve-requires-2 : tie.Need-solve-requires-2
-solve-requires-2 c κs = let start = c .before .before .before .before .before .before .before .before .before in (start .pre .0, start .pre .1, has-zeros 512)
+solve-requires-2 c κs = let start = c .before .before .before .before .before .before .before .before .before .before in (start .pre .0, start .pre .1, has-zeros 512)
 
 same-length : tie.Need-same-length
 same-length c = search needs
 
 returns : tie.Need-returns
-returns c = c .before .before .before .before .before .solve .ensures
+returns c = c .before .before .before .before .before .before .solve .ensures
 
 same-length-2 : tie.Need-same-length-2
 same-length-2 c = search needs
 
 returns-2 : tie.Need-returns-2
-returns-2 c = c .before .before .before .before .before .solve2 .ensures
+returns-2 c = c .before .before .before .before .before .before .solve2 .ensures
 
 pub solve-small-spec : {M : Type 1} → statement M
 solve-small-spec =
@@ -47,10 +53,12 @@ solve-small-spec =
     slice-aggregate-solve
     slice-aggregate-solve-2
     slice-aggregate-solve-3
-    solve-requires
     slice-aggregate-solve-4
+    solve-requires
     slice-aggregate-solve-5
     slice-aggregate-solve-6
+    slice-aggregate-solve-7
+    slice-aggregate-solve-8
     solve-requires-2
     same-length
     returns

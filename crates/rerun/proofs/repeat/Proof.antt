@@ -28,8 +28,11 @@ same-length-3 c = search needs
 same-length-4 : tie.Need-same-length-4
 same-length-4 c = search needs
 
+same-length-5 : tie.Need-same-length-5
+same-length-5 c = search needs
+
 returns-2 : tie.Need-returns-2
-returns-2 c = λ held. more-then (more-recent (c .before .before .before .before .before .before .before .before .before .before .before .before .settle .ensures)) (c .before .before .before .before .turns .ensures held)
+returns-2 c = λ held. more-then (more-recent (c .before .before .before .before .before .before .before .before .before .before .before .before .before .before .before .settle .ensures)) (c .before .before .before .before .before .before .turns .ensures _ held)
 
 pub repeat-spec : {M : Type 1} → statement M
 repeat-spec =
@@ -43,4 +46,5 @@ repeat-spec =
     turns-requires
     same-length-3
     same-length-4
+    same-length-5
     returns-2)

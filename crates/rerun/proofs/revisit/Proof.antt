@@ -13,6 +13,15 @@ test-requires c κs = search needs
 returns : tie.Need-returns
 returns c = more-none
 
+marked-requires : tie.Need-marked-requires
+marked-requires c κs = search needs
+
+all-in-requires : tie.Need-all-in-requires
+all-in-requires c κs = search needs
+
+returns-2 : tie.Need-returns-2
+returns-2 c = more-none
+
 slice-aggregate-point : tie.Need-slice-aggregate-point
 slice-aggregate-point c = search needs
 
@@ -34,10 +43,11 @@ same-length c = search needs
 same-length-2 : tie.Need-same-length-2
 same-length-2 c = search needs
 
-returns-2 : tie.Need-returns-2
-returns-2 c =
-    let p = c .before .before .before .before .before .before .before .before .before .before .before .before .before .before .before .before .before .before .before .before .before in
-    more-held (held-more (c .before .before .before .before .before .before .before .before .before .before .before .before .before .point .ensures) (held-none {from = p .args .p} refl (omega (arith, p .pre .1))) (omega arith) (p .pre .1)) (c .before .before .before .before .before .before .before .rerun .ensures)
+returns-3 : tie.Need-returns-3
+returns-3 c =
+    let start = c .before .before .before .before .before .before .before .before .before .before .before .before .before .before .before .before .before .before .before .before .before .before .before .before .before .before .before in
+    let held = held-more (c .before .before .before .before .before .before .before .before .before .before .before .before .before .point .ensures) (held-none {from = start .args .p} refl (omega (arith, start .pre .1))) (omega arith) (start .pre .1) in
+    more-held held (c .before .before .before .before .before .before .before .rerun .ensures)
 
 pub revisit-spec : {M : Type 1} → statement M
 revisit-spec =
@@ -45,6 +55,9 @@ revisit-spec =
     (tie.spec
     test-requires
     returns
+    marked-requires
+    all-in-requires
+    returns-2
     slice-aggregate-point
     point-requires
     slice-aggregate-rerun
@@ -52,4 +65,4 @@ revisit-spec =
     note-requires
     same-length
     same-length-2
-    returns-2)
+    returns-3)

@@ -13,7 +13,7 @@ run-requires : tie.Need-run-requires
 run-requires c κs = search needs
 
 rest-requires : tie.Need-rest-requires
-rest-requires c κs = let start = c .before .before .before .before .before .before .before .before .before .before .before .before .before .before .before .before .before .before .before .before .before .before in (start .pre .0, start .pre .1 .within, start .pre .2)
+rest-requires c κs = let start = c .before .before .before .before .before .before .before .before .before .before .before .before .before .before .before .before .before .before .before .before .before in (start .pre .0, start .pre .1 .within, start .pre .2)
 
 same-length : tie.Need-same-length
 same-length c = search needs
@@ -26,10 +26,10 @@ same-length-3 c = search needs
 
 returns : tie.Need-returns
 returns c =
-    let start = c .before .before .before .before .before .before .before .before .before .before .before .before .before .before .before .before .before .before .before .before .before .before .before .before .before .before .before .before .before in
-    let run = c .before .before .before .before .before .before .before .before .before .before .before .before .before .before .before .before .run .ensures in
+    let start = c .before .before .before .before .before .before .before .before .before .before .before .before .before .before .before .before .before .before .before .before .before .before .before .before .before .before .before .before in
+    let run = c .before .before .before .before .before .before .before .before .before .before .before .before .before .before .before .run .ensures in
     let rest = c .before .before .before .before .before .before .rest .ensures in
-    (rest .0 (start .args .words .now) (below-more below-none (start .pre .1) (run .0)), own-then (own-then (own-fewer (c .before .before .before .before .before .before .before .before .before .before .before .before .before .before .before .before .before .before .before .before .before .before .make-room .ensures)) (own-drawn (start .pre .1) (run .1))) (rest .1), rest .2)
+    (rest .0 (start .args .words .now) (below-more below-none (start .pre .1) (run .0)), own-then (own-then (own-fewer (c .before .before .before .before .before .before .before .before .before .before .before .before .before .before .before .before .before .before .before .before .before .make-room .ensures)) (own-drawn (start .pre .1) (run .1))) (rest .1), rest .2)
 
 pub sweep-spec : {M : Type 1} → statement M
 sweep-spec =

@@ -32,17 +32,11 @@ slice-aggregate-put c = search needs
 put-requires : tie.Need-put-requires
 put-requires c κs = search needs
 
-count-requires : tie.Need-count-requires
-count-requires c κs = search needs
-
 slice-aggregate-run : tie.Need-slice-aggregate-run
 slice-aggregate-run c = search needs
 
 run-requires : tie.Need-run-requires
 run-requires c κs = search needs
-
-note-active-requires : tie.Need-note-active-requires
-note-active-requires c κs = search needs
 
 same-length-2 : tie.Need-same-length-2
 same-length-2 c = search needs
@@ -55,11 +49,11 @@ same-length-4 c = search needs
 
 returns-2 : tie.Need-returns-2
 returns-2 c =
-    let start = c .before .before .before .before .before .before .before .before .before .before .before .before .before .before .before .before .before .before .before .before .before .before .before .before .before .before .before .before .before .before .before .before in
-    let added = c .before .before .before .before .before .before .before .before .before .before .before .before .before .before .before .before .before .before .before .before .point .ensures in
-    let run = c .before .before .before .before .before .before .before .run .ensures in
+    let start = c .before .before .before .before .before .before .before .before .before .before .before .before .before .before .before .before .before .before .before .before .before .before .before .before .before .before .before in
+    let added = c .before .before .before .before .before .before .before .before .before .before .before .before .before .before .before .point .ensures in
+    let run = c .before .before .before .before .run .ensures in
     let held = held-more added (held-none {from = start .args .p} refl (omega (arith, start .pre .1))) (omega arith) (start .pre .1) in
-    (λ ws x. below-more x held (run .0), own-drawn held (run .1), sound-more (start .pre .2) refl (omega arith) added (start .pre .1) (c .before .before .before .before .before .before .before .before .before .before .before .before .before .before .before .before .put .ensures))
+    (λ ws x. below-more x held (run .0), own-drawn held (run .1), sound-more (start .pre .2) refl (omega arith) added (start .pre .1) (c .before .before .before .before .before .before .before .before .before .before .before .put .ensures))
 
 pub visit-spec : {M : Type 1} → statement M
 visit-spec =
@@ -73,10 +67,8 @@ visit-spec =
     point-requires
     slice-aggregate-put
     put-requires
-    count-requires
     slice-aggregate-run
     run-requires
-    note-active-requires
     same-length-2
     same-length-3
     same-length-4

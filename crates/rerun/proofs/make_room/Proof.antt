@@ -1,8 +1,8 @@
--- `regionck::round::make_room` meets its contract. Assumes nothing.
+-- `rerun::make_room` meets its contract. Assumes nothing.
 use Rattle.constraint_list.proofs.ListLaws.{draws-none, draws-cleared}
 use borrow.Author.Needs.{needs}
-use Rattle.regionck.proofs.round.make_room.Statement.{statement}
-use Rattle.regionck.proofs.round.make_room.Tie as tie
+use Rattle.rerun.proofs.make_room.Statement.{statement}
+use Rattle.rerun.proofs.make_room.Tie as tie
 
 room-requires : tie.Need-room-requires
 room-requires c κs = search needs
