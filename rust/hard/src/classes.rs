@@ -57,6 +57,7 @@ fn much_work() -> Vec<Vec<u8>> {
     ];
     found.extend(worst::small_relays());
     found.extend(worst::small_gates());
+    found.extend(worst::small_strips());
     found.extend((0..7).map(worst::loans));
     found.extend([worst::far(), worst::live()]);
     found.extend((2..5).map(|nodes| dense(&mut Rng::new(1), nodes)));
