@@ -1,3 +1,4 @@
+#![tactic(auto)]
 // For each point a row of four words: regions of which it is known that no constraint of the point has them as its inner region.
 // The public functions require nothing: a row that is not within the table stays as it is, and `all_in` says no of it.
 ghost use Rattle.std.specs.Prelude.{◌≡◌, cond, ◌+◌, ◌*◌, set};

@@ -8,11 +8,11 @@ use lib.ListN.{drop}
 use lib.Dec.{eqb}
 use types.Run.{OneOf, miss}
 use denote.Enum.Declared.{tag_of}
-use Rattle.nll◌spec.specs.Syntax as syntax
+use Rattle.nll_spec.specs.Syntax as syntax
 use Rattle.nll_spec.specs.Syntax.{Ty, UnitTy, RefTy, StructTy, BoundTy, Args, TypeArg, Param}
-use Rattle.nll◌spec.specs.Decode.{read, max_nodes, items, param}
-use Rattle.nll◌spec.specs.Types.{same_kind, head_type, tail_args, type_nodes, arg_nodes}
-use Rattle.nll◌spec.specs.WellFormed.{is_unit, same_shape, same_shapes}
+use Rattle.nll_spec.specs.Decode.{read, max_nodes, items, param}
+use Rattle.nll_spec.specs.Types.{same_kind, head_type, tail_args, type_nodes, arg_nodes}
+use Rattle.nll_spec.specs.WellFormed.{is_unit, same_shape, same_shapes}
 use Rattle.repr.specs.Reading.{rest, borrow_kind_of, region_of, variance_of, parameter_says}
 use Rattle.repr.specs.Types.{node, NodeSays, ArgumentSays, nodes_says}
 use Rattle.repr.specs.Types as repr_types

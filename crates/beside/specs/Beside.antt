@@ -1,12 +1,12 @@
 -- What two types that stand side by side begin with.
 use Rattle.std.specs.Prelude.{◌≡◌, false, cond, ℕ, ◌-◌, ◌≤◌, drop, eqb}
 use mathlib.Core.List.{List, tail}
-use Rattle.nll◌spec.specs.Syntax as syntax
+use Rattle.nll_spec.specs.Syntax as syntax
 use Rattle.nll_spec.specs.Syntax.{Ty, UnitTy, Args, RegionArg, TypeArg, Param}
-use Rattle.nll◌spec.specs.Decode.{max_nodes, items, param}
-use Rattle.nll◌spec.specs.Types.{same_kind, head_region, head_type, tail_args, arg_nodes}
-use Rattle.nll◌spec.specs.Constraints.{head_variance}
-use Rattle.nll◌spec.specs.WellFormed.{is_unit, same_shapes}
+use Rattle.nll_spec.specs.Decode.{max_nodes, items, param}
+use Rattle.nll_spec.specs.Types.{same_kind, head_region, head_type, tail_args, arg_nodes}
+use Rattle.nll_spec.specs.Constraints.{head_variance}
+use Rattle.nll_spec.specs.WellFormed.{is_unit, same_shapes}
 use Rattle.repr.specs.Reading.{rest, borrow_kind_of, variance_of, region_of}
 use Rattle.repr.specs.declared.Cursor.{Cursor}
 use Rattle.repr.specs.declared.BorrowKind.{BorrowKind}

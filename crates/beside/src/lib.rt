@@ -1,3 +1,4 @@
+#![tactic(auto)]
 // Two types side by side where they lie: their first nodes, and the first of their arguments.
 ghost use Rattle.std.specs.Prelude.{◌≡◌, ◌-◌};
 ghost use Rattle.nll_spec.specs.Types.{same_kind};
@@ -10,14 +11,14 @@ use repr::{
 };
 
 // So many arguments or parameters, and where they begin.
-#[derive(Drop)]
+#[derive(Clone, Copy)]
 pub struct Row {
     pub from: Cursor,
     pub count: u8,
 }
 
 // What two types begin with: nodes that are alike, with their regions and where their parts begin, or not.
-#[derive(Drop)]
+#[derive(Clone, Copy)]
 pub enum Heads {
     Units(Cursor, Cursor),
     Refs {
@@ -36,7 +37,7 @@ pub enum Heads {
 }
 
 // The first of some arguments: where its type begins, or, where it has none, what follows it.
-#[derive(Drop)]
+#[derive(Clone, Copy)]
 pub enum First {
     Type(Cursor),
     Other(Cursor),
@@ -44,7 +45,7 @@ pub enum First {
 }
 
 // The first arguments of two rows: regions, and where the others begin; types; or Units, and where the others begin.
-#[derive(Drop)]
+#[derive(Clone, Copy)]
 pub enum Pair {
     Regions {
         r: Region,
@@ -58,7 +59,7 @@ pub enum Pair {
 }
 
 // The first parameter's variance, and the others.
-#[derive(Drop)]
+#[derive(Clone, Copy)]
 pub struct Parameter {
     pub variance: Variance,
     pub others: Row,

@@ -1,6 +1,6 @@
 -- A run of words as a row: words and row determine each other, and what is done to the run is done to the row. Assumes nothing.
 use mathlib.Core.Path.{◌≡◌, refl, sym, ap, ap₂, ◌∙◌}
-use mathlib.Core.Bool.{Bool, true, false, ◌||◌, or_false}
+use mathlib.Core.Bool.{Bool, true, false, ◌||◌, or-false}
 use mathlib.Core.List.{List, [], ◌∷◌}
 use Prim.Native.Nat.{ℕ, zero, suc, ◌+◌, ◌*◌, ◌/◌, ◌%◌, ◌≤◌, ◌<◌}
 use native.Mathlib.Nat.{not-suc-le-zero, le_of_suc-le-suc}
@@ -84,7 +84,7 @@ length-or_row (x ∷ xs) (y ∷ ys) = ap suc (length-or_row xs ys)
 
 get_or-or_row : (xs ys : List Bool) (p : ℕ) → p < length xs → get_or (or_row xs ys) p false ≡ (get_or xs p false || get_or ys p false)
 get_or-or_row [] ys p h = absurd (not-suc-le-zero h)
-get_or-or_row (x ∷ xs) [] p h = sym (or_false (get_or (x ∷ xs) p false))
+get_or-or_row (x ∷ xs) [] p h = sym (or-false (get_or (x ∷ xs) p false))
 get_or-or_row (x ∷ xs) (y ∷ ys) zero h = refl
 get_or-or_row (x ∷ xs) (y ∷ ys) (suc p) h = get_or-or_row xs ys p (le_of_suc-le-suc h)
 

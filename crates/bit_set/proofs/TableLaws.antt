@@ -2,7 +2,7 @@
 -- Assumes nothing.
 use mathlib.Core.Path.{◌≡◌, sym, ap, ap₂, ◌∙◌}
 use mathlib.Core.Logic.{◌⊎◌, inl, inr, ⊎_elim}
-use mathlib.Core.Bool.{Bool, true, false, ◌&&◌, ◌||◌, or_true}
+use mathlib.Core.Bool.{Bool, true, false, ◌&&◌, ◌||◌, or-true}
 use mathlib.Core.List.{List, [], ◌∷◌, ◌++◌}
 use Prim.Native.Nat.{ℕ, suc, ◌+◌, ◌*◌, ◌/◌, ◌%◌, ◌^◌, ◌≤◌, ◌<◌, suc-le-suc}
 use native.Mathlib.Nat.{suc-mul, zero-mul, mul-le-mul_right}
@@ -121,7 +121,7 @@ pub rows-first : (w r q : ℕ) → read_first (r * w) (q * w) w ≡ true
 rows-first w r q = go (dec_lt q r)
   where
     go : Dec (q < r) → read_first (r * w) (q * w) w ≡ true
-    go (yes l) = ap (λ (b : Bool). leb (r * w) (q * w) || b) (le-leb (q * w + w) (r * w) (omega (arith, mul-le-mul_right w l, suc-mul q w))) ∙ or_true (leb (r * w) (q * w))
+    go (yes l) = ap (λ (b : Bool). leb (r * w) (q * w) || b) (le-leb (q * w + w) (r * w) (omega (arith, mul-le-mul_right w l, suc-mul q w))) ∙ or-true (leb (r * w) (q * w))
     go (no m) = let l : r ≤ q = omega (arith, m) in ap (λ (b : Bool). b || fits (r * w) (q * w) w) (le-leb (r * w) (q * w) (mul-le-mul_right w l))
 
 -- a table u that differs from t in row r alone

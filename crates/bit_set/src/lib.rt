@@ -1,3 +1,4 @@
+#![tactic(auto)]
 // Sets of numbers in a lent run of words: number p of the set that starts at word s is bit p % 32 of word s + p / 32.
 // The public functions require nothing: a number past the words is in no set, and a number or a run past the words changes nothing.
 ghost use Rattle.std.specs.Prelude.{◌≡◌, not, ◌+◌, ◌*◌, ◌<◌, length, get_or, set, eqb};

@@ -1,3 +1,4 @@
+#![tactic(auto)]
 // A view of a set that holds the lent words, and thin functions over it, whose work is bit_set's. `some_set` and `word_at` read the words themselves.
 // What takes or makes a view is proved by a walk of its code; `is_set`, `some_set`, `word_at` and `insert_bits_from_slice` have plain parameters, so that their callers need none.
 // No function requires anything: a number past the words is in no set, a run past the words changes nothing, and of such a run `some_set` says yes.
@@ -7,7 +8,7 @@ ghost use Rattle.bit_set.specs.Bits.{has, joined, grows};
 ghost use Rattle.bit_slice.specs.Union.{JoinsAll};
 ghost use Rattle.bit_slice.specs.Some.{SomeSet};
 
-#[derive(Drop)]
+#[derive(Clone, Copy)]
 pub struct BitSlice<'a> {
     pub words: &'a [u32],
 }

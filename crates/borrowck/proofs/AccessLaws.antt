@@ -8,10 +8,10 @@ use lib.ListN.{length, length-map, length-set, set, take, drop}
 use lib.Seq.{take-suc-set, length-take-le}
 use types.Run.{OneOf, miss}
 use denote.Enum.Declared.{tag_of}
-use Rattle.nll◌spec.specs.Syntax.{Path}
-use Rattle.nll◌spec.specs.Syntax as syntax
+use Rattle.nll_spec.specs.Syntax.{Path}
+use Rattle.nll_spec.specs.Syntax as syntax
 use Rattle.nll_spec.specs.Decode.{read, done, items, path}
-use Rattle.nll◌spec.specs.Access.{Access, Read, Write, MutBorrow, Move, Dead, accesses, intersects, freezes, conflicts}
+use Rattle.nll_spec.specs.Access.{Access, Read, Write, MutBorrow, Move, Dead, accesses, intersects, freezes, conflicts}
 use Rattle.repr.specs.Reading.{rest, path_of, path_says}
 use Rattle.repr.specs.Parts.{action_says}
 use Rattle.repr.specs.declared.Cursor.{Cursor}

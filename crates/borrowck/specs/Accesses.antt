@@ -1,10 +1,10 @@
 -- The accesses of an action, as `nll_spec` has them.
 use Rattle.std.specs.Prelude.{◌≡◌, List, [], ◌∷◌, map, ℕ, ◌≤◌, length, take, drop}
-use Rattle.nll◌spec.specs.Syntax as syntax
+use Rattle.nll_spec.specs.Syntax as syntax
 use Rattle.nll_spec.specs.Syntax.{Path, Job}
-use Rattle.nll◌spec.specs.Decode.{read, items, path}
-use Rattle.nll◌spec.specs.Loans as spec
-use Rattle.nll◌spec.specs.Access.{Access, Read, Write, accesses, conflicts, fault_kind}
+use Rattle.nll_spec.specs.Decode.{read, items, path}
+use Rattle.nll_spec.specs.Loans as spec
+use Rattle.nll_spec.specs.Access.{Access, Read, Write, accesses, conflicts, fault_kind}
 use Rattle.repr.specs.Reading.{path_of}
 use Rattle.repr.specs.Parts.{action_says}
 use Rattle.repr.specs.declared.Cursor.{Cursor}

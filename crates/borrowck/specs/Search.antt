@@ -1,9 +1,9 @@
 -- The search for a loan that conflicts with an access.
 use Rattle.std.specs.Prelude.{◌≡◌, Bool, true, false, ◌&&◌, ◌||◌, List, ℕ, ◌≤◌, ◌<◌, length, get_or, eqb}
-use Rattle.nll◌spec.specs.Syntax.{BorrowKind, Path, Job}
-use Rattle.nll◌spec.specs.Syntax as syntax
+use Rattle.nll_spec.specs.Syntax.{BorrowKind, Path, Job}
+use Rattle.nll_spec.specs.Syntax as syntax
 use Rattle.nll_spec.specs.Types.{is_prefix, is_supporting, is_frozen, same_kind}
-use Rattle.nll◌spec.specs.Loans as spec
+use Rattle.nll_spec.specs.Loans as spec
 use Rattle.repr.specs.Reading.{borrow_kind_of, path_of}
 use Rattle.repr.specs.declared.BorrowKind.TheVariants as kinds
 use Rattle.repr.specs.declared.Path as repr

@@ -6,7 +6,7 @@ use super::{Access, Depth, Mode};
 use repr::{Action, BorrowKind, Cursor, Path, PathStep, Variable};
 
 // So many accesses, the first `count` of the list.
-#[derive(Drop)]
+#[derive(Clone, Copy)]
 pub struct Accesses {
     pub list: [Access; 9],
     pub count: usize,

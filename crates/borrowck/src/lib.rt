@@ -1,3 +1,4 @@
+#![tactic(auto)]
 // The verdict at each point: the first operand whose access conflicts with a loan in scope.
 mod accesses;
 mod checks;
@@ -26,20 +27,20 @@ use repr::{ActionStep, Path};
 use scope::some_in_scope;
 
 // How far an access reaches: the path itself, or all that it leads to.
-#[derive(Drop)]
+#[derive(Clone, Copy)]
 pub enum Depth {
     Shallow,
     Deep,
 }
 
-#[derive(Drop)]
+#[derive(Clone, Copy)]
 pub enum Mode {
     Read,
     Write,
 }
 
 // What is done to a path: how far it reaches, whether it reads or writes, and the kind of the fault that it is where it conflicts.
-#[derive(Drop)]
+#[derive(Clone, Copy)]
 pub struct Access {
     pub depth: Depth,
     pub mode: Mode,
@@ -48,21 +49,21 @@ pub struct Access {
 }
 
 // The first loan that conflicts, if one does.
-#[derive(Drop)]
+#[derive(Clone, Copy)]
 pub enum Found {
     At(usize),
     Nothing,
 }
 
 // The first access that conflicts, and the first loan that it conflicts with; past the accesses where none does.
-#[derive(Drop)]
+#[derive(Clone, Copy)]
 pub struct Conflict {
     pub access: usize,
     pub loan: Found,
 }
 
 // The kind of a fault (1 read, 2 write, 3 move, 4 storage dead) and its operand; both 0 without a fault.
-#[derive(Drop)]
+#[derive(Clone, Copy)]
 pub struct Fault {
     pub kind: u8,
     pub operand: u8,

@@ -5,7 +5,7 @@ ghost use Rattle.borrowck.specs.Scope.{SomeIn, Gathered};
 use loans::{Loan, loan_at};
 
 // The first count of the loans are in scope; the next part begins at loan next.
-#[derive(Drop)]
+#[derive(Clone, Copy)]
 pub struct Part {
     pub loans: [Loan; 16],
     pub count: usize,

@@ -1,9 +1,10 @@
+#![tactic(auto)]
 // A list of constraints in a lent table. Number 0 says how many there are; each takes one number, from number 1 on.
 ghost use Rattle.std.specs.Prelude.{◌≡◌, [], ◌∷◌, ◌+◌, min, length, get_or};
 ghost use Rattle.constraint_list.specs.Listed.{outlives_from, outlives_of, count_in, room_in, Adds, Draws};
 
 // "Region sup outlives region sub at the point."
-#[derive(Drop)]
+#[derive(Clone, Copy)]
 pub struct Constraint {
     pub sup: u8,
     pub sub: u8,

@@ -10,15 +10,15 @@ use lib.Dec.{T, eqb, leb}
 use borrow.Author.Tests.{eqb-true, eq-eqb, ne_eqb, le-leb, lt-leb}
 use types.Run.{OneOf, miss}
 use denote.Enum.Declared.{tag_of}
-use Rattle.nll◌spec.specs.Syntax as syntax
+use Rattle.nll_spec.specs.Syntax as syntax
 use Rattle.nll_spec.specs.Syntax.{Job, Point, Free, RefTy, Co, Contra}
-use Rattle.nll◌spec.specs.Decode.{read, done, items, path, code_count}
-use Rattle.nll◌spec.specs.Types.{path_type, variable_type}
-use Rattle.nll◌spec.specs.WellFormed.{shape_fits, refusal}
-use Rattle.nll◌spec.specs.Graph.{graph_of, action_at}
-use Rattle.nll◌spec.specs.Constraints.{Outlives, require_outlives, relate, relate_source, constraints_at}
-use Rattle.nll◌spec.proofs.AcceptedLaws.{accepted-job}
-use Rattle.nll◌spec.proofs.GraphLaws.{code-count}
+use Rattle.nll_spec.specs.Decode.{read, done, items, path, code_count}
+use Rattle.nll_spec.specs.Types.{path_type, variable_type}
+use Rattle.nll_spec.specs.WellFormed.{shape_fits, refusal}
+use Rattle.nll_spec.specs.Graph.{graph_of, action_at}
+use Rattle.nll_spec.specs.Constraints.{Outlives, require_outlives, relate, relate_source, constraints_at}
+use Rattle.nll_spec.proofs.AcceptedLaws.{accepted-job}
+use Rattle.nll_spec.proofs.GraphLaws.{code-count}
 use Rattle.repr.specs.Reading.{rest, path_of, borrow_kind_of}
 use Rattle.repr.specs.Parts.{action_says}
 use Rattle.repr.specs.declared.Cursor.{Cursor}

@@ -1,13 +1,13 @@
 -- What adding the constraints of an action to a list does.
 use Rattle.std.specs.Prelude.{◌≡◌, true, ◌&&◌, not, cond, List, [], ◌++◌, ℕ, ◌+◌, ◌≤◌, ◌<◌, length, get_or, T, eqb, leb}
-use Rattle.nll◌spec.specs.Lists.{gather, below}
-use Rattle.nll◌spec.specs.Syntax as syntax
+use Rattle.nll_spec.specs.Lists.{gather, below}
+use Rattle.nll_spec.specs.Syntax as syntax
 use Rattle.nll_spec.specs.Syntax.{Job, Point, RegionName, BorrowKind, Variance, Co, Contra, Free, Ty, RefTy}
-use Rattle.nll◌spec.specs.Decode.{max_nodes}
-use Rattle.nll◌spec.specs.Types.{variable_type, path_type, type_nodes}
-use Rattle.nll◌spec.specs.WellFormed.{path_fits, same_shape, refusal}
-use Rattle.nll◌spec.specs.Graph.{graph_of, action_at}
-use Rattle.nll◌spec.specs.Constraints.{Outlives, require_outlives, relate, relate_source, constraints_at}
+use Rattle.nll_spec.specs.Decode.{max_nodes}
+use Rattle.nll_spec.specs.Types.{variable_type, path_type, type_nodes}
+use Rattle.nll_spec.specs.WellFormed.{path_fits, same_shape, refusal}
+use Rattle.nll_spec.specs.Graph.{graph_of, action_at}
+use Rattle.nll_spec.specs.Constraints.{Outlives, require_outlives, relate, relate_source, constraints_at}
 use Rattle.repr.specs.Reading.{path_of}
 use Rattle.repr.specs.declared.Path.{Path}
 use Rattle.repr.specs.declared.RegionName as repr

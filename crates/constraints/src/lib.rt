@@ -1,3 +1,4 @@
+#![tactic(auto)]
 // The constraints of an action.
 ghost use Rattle.std.specs.Prelude.{◌≡◌, List, ℕ, ◌≤◌, length};
 ghost use Rattle.repr.specs.declared.Path.{Path};
@@ -37,14 +38,14 @@ fn after(site: Site) -> Site
 }
 
 // How two types are related: as an assignment's source to its destination, or as a borrow's destination to a Ref of a region to its source.
-#[derive(Drop)]
+#[derive(Clone, Copy)]
 enum Related {
     Assigned,
     Borrowed(RegionName),
 }
 
 // Two paths whose types are related.
-#[derive(Drop)]
+#[derive(Clone, Copy)]
 struct Pair {
     how: Related,
     p: Path,
@@ -52,14 +53,14 @@ struct Pair {
 }
 
 // The types of two paths.
-#[derive(Drop)]
+#[derive(Clone, Copy)]
 struct PathTypes {
     p: PathType,
     q: PathType,
 }
 
 // A borrow's region, and how many steps its source has and the source's shortest supporting prefix.
-#[derive(Drop)]
+#[derive(Clone, Copy)]
 struct Source {
     region: RegionName,
     supporting: usize,

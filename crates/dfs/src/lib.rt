@@ -1,3 +1,4 @@
+#![tactic(auto)]
 // The walk of one constraint, "S outlives T at p": the points that are reached from p through T.
 // The points that follow point p are succ[first[p]..first[p + 1]].
 ghost use Rattle.std.specs.Prelude.{◌≡◌, true, ◌+◌, ◌<◌, ◌≤◌, min, length};
@@ -9,7 +10,7 @@ ghost use Rattle.dfs.specs.Walk.{in_code, Follows, Chained, Along, Stopped, Run,
 use graph::tables::up_to;
 
 // The points that a walk reached, and whether one of them has no point after it.
-#[derive(Drop)]
+#[derive(Clone, Copy)]
 pub struct Reached {
     pub points: [u32; 32],
     pub exit: bool,

@@ -12,11 +12,11 @@ use lib.Dec.{leb}
 use lib.ListN.{length, get_or, take, drop, set, length-append, length-set}
 use lib.Seq.{take-append-le, take_at, get_or-set_same, get_or-set_other}
 use borrow.Author.Tests.{ne_eqb, le-leb, lt-leb}
-use Rattle.nll◌spec.specs.Syntax.{BorrowKind, Mut, Shared, Ty, UnitTy, RefTy, StructTy, BoundTy, Args, StructDecl, Job}
-use Rattle.nll◌spec.specs.Syntax as syntax
+use Rattle.nll_spec.specs.Syntax.{BorrowKind, Mut, Shared, Ty, UnitTy, RefTy, StructTy, BoundTy, Args, StructDecl, Job}
+use Rattle.nll_spec.specs.Syntax as syntax
 use Rattle.nll_spec.specs.Decode.{byte, max_nodes}
-use Rattle.nll◌spec.specs.Types.{is_ref, ref_region, type_nodes, arg_nodes, struct_of, subst, field_type, step_type, step, type_after, variable_type, path_type}
-use Rattle.nll◌spec.specs.WellFormed.{steps_fit, path_fits}
+use Rattle.nll_spec.specs.Types.{is_ref, ref_region, type_nodes, arg_nodes, struct_of, subst, field_type, step_type, step, type_after, variable_type, path_type}
+use Rattle.nll_spec.specs.WellFormed.{steps_fit, path_fits}
 use Rattle.repr.specs.Reading.{byte_says, borrow_kind_of, region_of, path_of}
 use Rattle.repr.specs.Types.{node, NodeSays}
 use Rattle.repr.specs.declared.Cursor.{Cursor}

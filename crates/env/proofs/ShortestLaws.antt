@@ -5,10 +5,10 @@ use mathlib.Core.List.{List, []}
 use Prim.Native.Nat.{ℕ, ◌≤◌, ◌<◌}
 use native.Mathlib.Omega.{arith}
 use lib.ListN.{length}
-use Rattle.nll◌spec.specs.Syntax as syntax
+use Rattle.nll_spec.specs.Syntax as syntax
 use Rattle.nll_spec.specs.Syntax.{Job}
-use Rattle.nll◌spec.specs.Types.{variable_type}
-use Rattle.nll◌spec.specs.WellFormed.{path_fits}
+use Rattle.nll_spec.specs.Types.{variable_type}
+use Rattle.nll_spec.specs.WellFormed.{path_fits}
 use Rattle.repr.specs.Reading.{path_of}
 use Rattle.repr.specs.declared.Path.{Path}
 use Rattle.record.specs.Layout.{Layout}

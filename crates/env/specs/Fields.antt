@@ -1,10 +1,10 @@
 -- What the search for a field says.
 use Rattle.std.specs.Prelude.{◌≡◌, List, ℕ, ◌≤◌}
 use Rattle.std.proofs.Math.Option.{Option, none, some}
-use Rattle.nll◌spec.specs.Syntax as syntax
+use Rattle.nll_spec.specs.Syntax as syntax
 use Rattle.nll_spec.specs.Syntax.{Ty}
-use Rattle.nll◌spec.specs.Decode.{max_nodes}
-use Rattle.nll◌spec.specs.Types.{type_nodes, field_type}
+use Rattle.nll_spec.specs.Decode.{max_nodes}
+use Rattle.nll_spec.specs.Types.{type_nodes, field_type}
 use Rattle.repr.specs.declared.StructDecl.{StructDecl}
 use Rattle.record.specs.Access.{Declared}
 use Rattle.repr.specs.Stands.{TypeAt}

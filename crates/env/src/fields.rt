@@ -4,7 +4,7 @@ ghost use Rattle.env.specs.Fields.{FieldSays};
 use repr::{Cursor, EndStep, FieldName, FieldStep, StructDecl};
 
 // Where the type of a field lies.
-#[derive(Drop)]
+#[derive(Clone, Copy)]
 pub enum FieldType {
     At(Cursor),
     Absent,

@@ -1,3 +1,4 @@
+#![tactic(auto)]
 // Types of paths, and prefixes of paths.
 pub mod fields;
 pub mod paths;
@@ -6,7 +7,7 @@ pub mod prefixes;
 ghost use Rattle.std.specs.Prelude.{◌≡◌, ◌≤◌};
 
 // How many steps the shortest supporting and the shortest frozen prefix of a path have.
-#[derive(Drop)]
+#[derive(Clone, Copy)]
 pub struct Shortest {
     pub supporting: u8,
     pub frozen: u8,

@@ -10,7 +10,7 @@ use repr::{BorrowKind, ByteStep, Cursor, FieldName, NodeStep, Path, Region, Stru
 use ty::write::{Whole, copy, subst};
 
 // The type of a path, in the record or written into the lent bytes, from a place on, or refusal 8.
-#[derive(Drop)]
+#[derive(Clone, Copy)]
 pub enum PathType {
     Inside(Cursor),
     Written(Cursor),
@@ -18,7 +18,7 @@ pub enum PathType {
 }
 
 // What a step reaches: a type in the same bytes, one that was written into the others from the first on, or nothing.
-#[derive(Drop)]
+#[derive(Clone, Copy)]
 enum Stepped {
     Inside(Cursor),
     Written,
@@ -26,7 +26,7 @@ enum Stepped {
 }
 
 // What the steps within the same bytes reach: a type in these bytes, or one that a step wrote into the others, from the first on, with the steps that are left; or nothing.
-#[derive(Drop)]
+#[derive(Clone, Copy)]
 enum Along {
     Inside(Cursor),
     Written { at: Cursor, left: u8, i: usize },

@@ -1,3 +1,4 @@
+#![tactic(auto)]
 // Least sets of numbers along the edges of a graph, in four words a point: number b of point p is bit b of the words from 4 * p on.
 // The points that follow point p are succ[first[p]..first[p + 1]].
 ghost use Rattle.std.specs.Prelude.{◌≡◌, ◌+◌, ◌*◌, ◌<◌, ◌≤◌, length};
@@ -9,7 +10,7 @@ ghost use Rattle.flow.specs.Running.{Mixed, Ran, Lanes, Turned, Row, nth, Rows};
 use graph::tables::up_to;
 
 // Whether numbers go from a point to those that follow it, or to those that it follows.
-#[derive(Drop)]
+#[derive(Clone, Copy)]
 pub enum Direction {
     Forward,
     Backward,

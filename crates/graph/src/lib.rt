@@ -1,3 +1,4 @@
+#![tactic(auto)]
 // The control-flow graph of an accepted job: what follows each point, and the walked blocks.
 pub mod edges;
 mod shapes;
@@ -7,7 +8,7 @@ pub mod walked;
 ghost use Rattle.std.specs.Prelude.{◌≡◌, ◌≤◌};
 
 // So many actions, and the row of so many successors, which begins at a place of the record.
-#[derive(Drop)]
+#[derive(Clone, Copy)]
 pub struct Shape {
     pub actions: usize,
     pub count: usize,
@@ -15,7 +16,7 @@ pub struct Shape {
 }
 
 // How far the tables of edges are filled: the points below `point` have rows, in the first `entry` entries.
-#[derive(Drop)]
+#[derive(Clone, Copy)]
 pub struct Place {
     pub point: usize,
     pub entry: usize,

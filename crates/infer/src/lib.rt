@@ -1,3 +1,4 @@
+#![tactic(auto)]
 // "S outlives T at p": the points that a walk from p through T reaches are put into S, and, where it comes to a point without successors, so are the
 // declared ends that the end rule passes on.
 // The points that follow point p are succ[first[p]..first[p + 1]]. Region r's set starts at word r * width.
@@ -14,18 +15,18 @@ use constraint_list::Constraint;
 use dfs::reach;
 
 // A region's number.
-#[derive(Drop)]
+#[derive(Clone, Copy)]
 pub struct RegionVariable(pub u8);
 
 // The declared ends that a walk which comes to a point without successors puts into its outer region: every one, or those that its inner region holds.
-#[derive(Drop)]
+#[derive(Clone, Copy)]
 pub enum EndRule {
     EveryEnd,
     HeldEnds,
 }
 
 // How many words a region's set takes, how many points the blocks have, and how many points there are with the declared ends.
-#[derive(Drop)]
+#[derive(Clone, Copy)]
 pub struct Shape {
     pub width: usize,
     pub code: usize,

@@ -1,3 +1,4 @@
+#![tactic(auto)]
 // What `nll-list` reads and prints, in pieces: the record in hexadecimal, and the lines of its answer.
 mod decimal;
 mod lines;
@@ -12,7 +13,7 @@ pub use reader::{feed, finish, start};
 pub const ROOM: usize = 16388;
 
 // A text that was read so far: how many bytes of its record are kept, a first digit that waits for its second, or 16, and whether other text came.
-#[derive(Drop)]
+#[derive(Clone, Copy)]
 pub struct Hex {
     pub count: usize,
     pub high: u8,
@@ -20,7 +21,7 @@ pub struct Hex {
 }
 
 // How many points, regions and declared regions an answer has.
-#[derive(Drop)]
+#[derive(Clone, Copy)]
 pub struct Counts {
     pub points: u16,
     pub regions: u8,
@@ -28,7 +29,7 @@ pub struct Counts {
 }
 
 // Which part of the answer's lines comes next.
-#[derive(Drop)]
+#[derive(Clone, Copy)]
 pub enum Place {
     Points,
     Region(u8),
@@ -39,7 +40,7 @@ pub enum Place {
 }
 
 // How many bytes of a buffer are used, and the place that follows what stands there.
-#[derive(Drop)]
+#[derive(Clone, Copy)]
 pub struct Chunk {
     pub used: usize,
     pub next: Place,

@@ -9,10 +9,10 @@ use lib.ListN.{length, take, drop, drop_of_length-le}
 use lib.Seq.{drop-cons}
 use lib.Dec.{leb}
 use borrow.Author.Tests.{le-leb, lt-leb}
-use Rattle.nll◌spec.specs.Syntax as syntax
+use Rattle.nll_spec.specs.Syntax as syntax
 use Rattle.nll_spec.specs.Syntax.{Variable}
-use Rattle.nll◌spec.specs.Decode.{read, done, items, path}
-use Rattle.nll◌spec.specs.Liveness.{is_plain, write_def, write_use, defs, uses, drops}
+use Rattle.nll_spec.specs.Decode.{read, done, items, path}
+use Rattle.nll_spec.specs.Liveness.{is_plain, write_def, write_use, defs, uses, drops}
 use Rattle.repr.specs.Reading.{rest, borrow_kind_of, path_of, path_says}
 use Rattle.repr.specs.declared.Cursor.{Cursor}
 use Rattle.repr.specs.declared.Path.{Path}

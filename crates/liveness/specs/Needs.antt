@@ -1,11 +1,11 @@
 -- The points' sets of variables: numbers 0 to 63 of a point are those that are used, 64 to 127 those that are dropped.
 use Rattle.std.specs.Prelude.{◌≡◌, Bool, true, false, not, ◌&&◌, ◌||◌, List, map, ℕ, ◌+◌, ◌-◌, ◌<◌, drop, eqb, leb, ltb}
-use Rattle.nll◌spec.specs.Lists.{contains}
-use Rattle.nll◌spec.specs.Syntax as syntax
+use Rattle.nll_spec.specs.Lists.{contains}
+use Rattle.nll_spec.specs.Syntax as syntax
 use Rattle.nll_spec.specs.Syntax.{Job, Point, Variable}
-use Rattle.nll◌spec.specs.Decode.{read, items, path, code_count}
-use Rattle.nll◌spec.specs.Graph.{graph_of, action_at}
-use Rattle.nll◌spec.specs.Liveness.{defs, uses, drops}
+use Rattle.nll_spec.specs.Decode.{read, items, path, code_count}
+use Rattle.nll_spec.specs.Graph.{graph_of, action_at}
+use Rattle.nll_spec.specs.Liveness.{defs, uses, drops}
 use Rattle.repr.specs.Parts.{action_says}
 use Rattle.repr.specs.declared.Cursor.{Cursor}
 use Rattle.repr.specs.declared.Action.{Action}

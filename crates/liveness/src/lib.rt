@@ -1,3 +1,4 @@
+#![tactic(auto)]
 // The variables that are live on entry to each point of the walked blocks: those used later, and those dropped later.
 mod actions;
 mod rows;

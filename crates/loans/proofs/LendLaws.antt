@@ -8,15 +8,15 @@ use lib.ListN.{length, length-append}
 use lib.Dec.{T}
 use types.Run.{OneOf, miss}
 use denote.Enum.Declared.{tag_of}
-use Rattle.nll◌spec.specs.Syntax.{Path, Point, Action, Borrow, Job}
-use Rattle.nll◌spec.specs.Syntax as syntax
+use Rattle.nll_spec.specs.Syntax.{Path, Point, Action, Borrow, Job}
+use Rattle.nll_spec.specs.Syntax as syntax
 use Rattle.nll_spec.specs.Decode.{read, done, items, path, code_count}
-use Rattle.nll◌spec.specs.WellFormed.{named, paths_fit, path_fits}
-use Rattle.nll◌spec.specs.Graph.{graph_of, action_at, is_walked}
-use Rattle.nll◌spec.specs.Loans as spec
-use Rattle.nll◌spec.specs.Loans.{loan_at, loans_of}
-use Rattle.nll◌spec.specs.Output.{word_bits}
-use Rattle.nll◌spec.proofs.GraphLaws.{code-count}
+use Rattle.nll_spec.specs.WellFormed.{named, paths_fit, path_fits}
+use Rattle.nll_spec.specs.Graph.{graph_of, action_at, is_walked}
+use Rattle.nll_spec.specs.Loans as spec
+use Rattle.nll_spec.specs.Loans.{loan_at, loans_of}
+use Rattle.nll_spec.specs.Output.{word_bits}
+use Rattle.nll_spec.proofs.GraphLaws.{code-count}
 use Rattle.repr.specs.Reading.{rest, path_of, borrow_kind_of}
 use Rattle.repr.specs.Parts.{action_says}
 use Rattle.repr.specs.declared.Cursor.{Cursor}

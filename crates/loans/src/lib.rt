@@ -1,3 +1,4 @@
+#![tactic(auto)]
 // The loans of a job, the borrows of its walked blocks in record order, in a lent table of numbers.
 ghost use Rattle.std.specs.Prelude.{◌≡◌, ◌<◌, ◌≤◌, ◌%◌, min, length, T};
 ghost use Rattle.nll_spec.specs.Syntax.{Job};
@@ -16,7 +17,7 @@ use record::access::{BORROW, action_at, tag_at};
 use repr::{Action, ActionStep, BorrowKind, Cursor, Path, RegionName, Variable};
 
 // What a borrow lends, with the shortest prefixes of its path.
-#[derive(Drop)]
+#[derive(Clone, Copy)]
 pub struct Loan {
     pub point: usize,
     pub region: RegionName,

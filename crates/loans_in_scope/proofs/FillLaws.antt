@@ -7,14 +7,14 @@ use Prim.Native.Nat.{ℕ, ◌+◌, ◌*◌, ◌≤◌, ◌<◌}
 use native.Mathlib.Omega.{arith}
 use native.Mathlib.Decide.{dec_lt}
 use borrow.Author.Tests.{not-true, not-false}
-use Rattle.nll◌spec.specs.Fixpoint.{Table}
-use Rattle.nll◌spec.specs.Syntax as syntax
+use Rattle.nll_spec.specs.Fixpoint.{Table}
+use Rattle.nll_spec.specs.Syntax as syntax
 use Rattle.nll_spec.specs.Syntax.{Job, Point}
-use Rattle.nll◌spec.specs.Decode.{code_count}
-use Rattle.nll◌spec.specs.Graph.{graph_of, action_at}
-use Rattle.nll◌spec.specs.Loans.{overwritten}
-use Rattle.nll◌spec.specs.Loans as loans
-use Rattle.nll◌spec.specs.Output.{word_bits}
+use Rattle.nll_spec.specs.Decode.{code_count}
+use Rattle.nll_spec.specs.Graph.{graph_of, action_at}
+use Rattle.nll_spec.specs.Loans.{overwritten}
+use Rattle.nll_spec.specs.Loans as loans
+use Rattle.nll_spec.specs.Output.{word_bits}
 use Rattle.bit_set.specs.Bits.{has}
 use Rattle.bit_set.proofs.RunLaws.{and_true_left}
 use Rattle.bit_slice.specs.Some.{SomeSet}

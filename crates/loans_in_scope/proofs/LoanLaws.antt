@@ -10,20 +10,20 @@ use native.Mathlib.Decide.{dec_lt}
 use lib.ListN.{length, get_or}
 use lib.Dec.{T, eqb, leb, ltb, ltb→lt}
 use borrow.Author.Tests.{eqb-true, eq-eqb}
-use Rattle.nll◌spec.specs.Types.{is_prefix}
-use Rattle.nll◌spec.specs.Lists.{Member, here, select, below}
-use Rattle.nll◌spec.specs.Fixpoint.{Table, holds}
-use Rattle.nll◌spec.specs.Syntax as syntax
+use Rattle.nll_spec.specs.Types.{is_prefix}
+use Rattle.nll_spec.specs.Lists.{Member, here, select, below}
+use Rattle.nll_spec.specs.Fixpoint.{Table, holds}
+use Rattle.nll_spec.specs.Syntax as syntax
 use Rattle.nll_spec.specs.Syntax.{Job, Point}
-use Rattle.nll◌spec.specs.Decode.{refused, read, items, path, code_count, point_count}
-use Rattle.nll◌spec.specs.WellFormed.{named, structs_named, outlived_named, variables_named, successors_named, actions_named, action_named, is_region, path_named}
-use Rattle.nll◌spec.specs.Graph.{graph_of, statements_of, action_at, is_walked}
-use Rattle.nll◌spec.specs.Loans.{loan_at, loans_of, loan_number, overwritten}
-use Rattle.nll◌spec.specs.Loans as loans
-use Rattle.nll◌spec.proofs.Tests.{and_left, and_right}
-use Rattle.nll◌spec.proofs.Members.{place_member, gather_member}
-use Rattle.nll◌spec.proofs.GraphLaws.{every-action}
-use Rattle.nll◌spec.specs.Output.{word_bits}
+use Rattle.nll_spec.specs.Decode.{refused, read, items, path, code_count, point_count}
+use Rattle.nll_spec.specs.WellFormed.{named, structs_named, outlived_named, variables_named, successors_named, actions_named, action_named, is_region, path_named}
+use Rattle.nll_spec.specs.Graph.{graph_of, statements_of, action_at, is_walked}
+use Rattle.nll_spec.specs.Loans.{loan_at, loans_of, loan_number, overwritten}
+use Rattle.nll_spec.specs.Loans as loans
+use Rattle.nll_spec.proofs.Tests.{and_left, and_right}
+use Rattle.nll_spec.proofs.Members.{place_member, gather_member}
+use Rattle.nll_spec.proofs.GraphLaws.{every-action}
+use Rattle.nll_spec.specs.Output.{word_bits}
 use Rattle.bit_set.specs.Bits.{has}
 use Rattle.bit_set.proofs.RunLaws.{and_true_left}
 use Rattle.flow.proofs.RunningLaws.{has_word}

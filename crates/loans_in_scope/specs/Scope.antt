@@ -1,16 +1,16 @@
 -- The loans in scope at each point, in four words a point.
 use Rattle.std.specs.Prelude.{◌≡◌, Bool, true, not, ◌&&◌, List, [], ◌∷◌, ℕ, ◌*◌, ◌+◌, ◌<◌, ◌≤◌, length, T, eqb}
-use Rattle.nll◌spec.specs.Lists.{any}
-use Rattle.nll◌spec.specs.Fixpoint.{Table, holds}
-use Rattle.nll◌spec.specs.Syntax as syntax
+use Rattle.nll_spec.specs.Lists.{any}
+use Rattle.nll_spec.specs.Fixpoint.{Table, holds}
+use Rattle.nll_spec.specs.Syntax as syntax
 use Rattle.nll_spec.specs.Syntax.{Job, Point}
-use Rattle.nll◌spec.specs.Decode.{code_count, point_count}
-use Rattle.nll◌spec.specs.WellFormed.{named}
-use Rattle.nll◌spec.specs.Types.{is_prefix}
-use Rattle.nll◌spec.specs.Graph.{graph_of, action_at}
-use Rattle.nll◌spec.specs.Loans.{loans_of, loan_number, overwritten, scope_table}
-use Rattle.nll◌spec.specs.Loans as loans
-use Rattle.nll◌spec.specs.Output.{word_bits}
+use Rattle.nll_spec.specs.Decode.{code_count, point_count}
+use Rattle.nll_spec.specs.WellFormed.{named}
+use Rattle.nll_spec.specs.Types.{is_prefix}
+use Rattle.nll_spec.specs.Graph.{graph_of, action_at}
+use Rattle.nll_spec.specs.Loans.{loans_of, loan_number, overwritten, scope_table}
+use Rattle.nll_spec.specs.Loans as loans
+use Rattle.nll_spec.specs.Output.{word_bits}
 use Rattle.bit_set.specs.Bits.{has}
 use Rattle.bit_set.specs.Rows.{Says}
 use Rattle.repr.specs.Reading.{path_of}

@@ -1,3 +1,4 @@
+#![tactic(auto)]
 // Where the loans of a job are in scope: loan i at point p is number i of the four words from 4 * p on.
 // The points that follow point p are succ[first[p]..first[p + 1]]. Region r's set starts at word r * width.
 ghost use Rattle.std.specs.Prelude.{◌≡◌, ◌+◌, ◌*◌, ◌<◌, ◌≤◌, min, length};
@@ -20,7 +21,7 @@ use record::access::action_at;
 use repr::{Action, ActionStep, Path, RegionName};
 
 // The path that an action overwrites.
-#[derive(Drop)]
+#[derive(Clone, Copy)]
 enum Overwritten {
     At(Path),
     Nothing,

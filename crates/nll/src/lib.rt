@@ -1,3 +1,4 @@
+#![tactic(auto)]
 // The analysis of a record: one call, from the record's bytes to the words and bytes of its answer.
 mod answer;
 mod bytes;
@@ -15,7 +16,7 @@ use room::{has_room, shape_of};
 use well_formed::judge;
 
 // The answer: accepted, or a refusal's number.
-#[derive(Drop)]
+#[derive(Clone, Copy)]
 pub enum Analysis {
     Accepted,
     Refused(u8),

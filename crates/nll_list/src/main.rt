@@ -1,3 +1,4 @@
+#![tactic(auto)]
 // The program `nll-list`: reads a record in hexadecimal, and prints what the analysis says of it.
 // No contract says what a call of C's reads and writes. The contracts here say the rest: `read_text` keeps the record of all pieces that were read;
 // `begin`, and then each chunk that `listing::fill` gives, are the listing of that text.
@@ -11,7 +12,7 @@ use libc::{STDIN_FILENO, STDOUT_FILENO};
 use listing::{Counts, Hex, Place};
 
 // What the analysis begins to say: how many bytes of a buffer, and the place that follows what stands there.
-#[derive(Drop)]
+#[derive(Clone, Copy)]
 pub struct Begun {
     pub used: usize,
     pub counts: Counts,
@@ -19,7 +20,7 @@ pub struct Begun {
 }
 
 // The text that was read, and whether more may come.
-#[derive(Drop)]
+#[derive(Clone, Copy)]
 pub struct Piece {
     pub text: Hex,
     pub more: bool,

@@ -36,6 +36,7 @@ plain_steps p h = go p.steps h
   where
     go : (fs : List ℕ) → T (elim fs [ [] ↦ true | f ∷ gs ↦ false ]) → fs ≡ []
     go [] h = refl
+    go (_ ∷ _) h = elim h [ ]
 
 plain_type : (j : Job) (p : Path) → T (is_plain p) → path_type j p ≡ variable_type j p.base
 unfolding path_type type_after
@@ -50,6 +51,18 @@ ref_shape UnitTy (RefTy k r t) h w = absurd h
 ref_shape (RefTy k' r' t') (RefTy k r t) h w = tt
 ref_shape (StructTy s args) (RefTy k r t) h w = absurd h
 ref_shape (BoundTy b) (RefTy k r t) h w = absurd h
+ref_shape UnitTy UnitTy h w = elim w [ ]
+ref_shape UnitTy (StructTy _ _) h w = elim h [ ]
+ref_shape UnitTy (BoundTy _) h w = elim h [ ]
+ref_shape (RefTy k' r' t') UnitTy h w = elim h [ ]
+ref_shape (RefTy k' r' t') (StructTy _ _) h w = elim h [ ]
+ref_shape (RefTy k' r' t') (BoundTy _) h w = elim h [ ]
+ref_shape (StructTy s args) UnitTy h w = elim h [ ]
+ref_shape (StructTy s args) (StructTy _ _) h w = elim w [ ]
+ref_shape (StructTy s args) (BoundTy _) h w = elim h [ ]
+ref_shape (BoundTy b) UnitTy h w = elim h [ ]
+ref_shape (BoundTy b) (StructTy _ _) h w = elim h [ ]
+ref_shape (BoundTy b) (BoundTy _) h w = elim h [ ]
 
 shape_ref : (a b : Ty) → T (same_shape a b) → T (is_ref a) → T (is_ref b)
 unfolding same_shape
@@ -57,6 +70,9 @@ shape_ref (RefTy k r t) UnitTy h w = absurd h
 shape_ref (RefTy k r t) (RefTy k' r' t') h w = tt
 shape_ref (RefTy k r t) (StructTy s args) h w = absurd h
 shape_ref (RefTy k r t) (BoundTy b) h w = absurd h
+shape_ref UnitTy b h w = elim w [ ]
+shape_ref (StructTy _ _) b h w = elim w [ ]
+shape_ref (BoundTy _) b h w = elim h [ ]
 
 -- a variable whose type is a Ref with a region of the job
 pub record RefVariable (j : Job) (v : Variable) : Type 0 where
@@ -75,6 +91,9 @@ module _ (j : Job) (named : T (variables_named j)) (fits : T (variables_fit j)) 
       go : v < length j.variables → (t : Ty) → variable_type j v ≡ t → T (is_ref t) → T (type_named j t) → T (type_fits j.structs [] t) → RefVariable j v
       go l (RefTy k (Free r) t) e w n f =
           record { kind = k; region = r; inner = t; type = e; is-region = ltb→lt r j.regions (and_left (ltb r j.regions) (type_named j t) n); is_variable_lem = l }
+      go l UnitTy e w n f = elim w [ ]
+      go l (StructTy _ _) e w n f = elim w [ ]
+      go l (BoundTy _) e w n f = elim w [ ]
       go l (RefTy k (BoundRegion b) t) e w n f = absurd (not-suc-le-zero (ltb→lt b 0 (and_left (ltb b 0) _ (and_left (region_fits [] (BoundRegion b)) (type_fits j.structs [] t) f))))
 
       within : Dec (v < length j.variables) → RefVariable j v

@@ -234,6 +234,7 @@ module _ (f : Rule) where
           | inr q ↦ closed-row r cs t s hr rest c q hc h
         ] in
         go (or_cases (eqb c d) (contains cs c) hin)
+    closed-row r [] t s hr e c hin hc h = elim hin [ ]
 
     closed-sweep : (k : ℕ) (cs : List ℕ) (t : Table) → Sized n m t → k ≤ n → sweep f k cs t ≡ t
         → (r c : ℕ) → r < k → T (contains cs c) → c < m → T (f t r c) → T (holds t r c)
@@ -254,12 +255,19 @@ same_row→eq : (xs ys : List Bool) → T (same_row xs ys) → xs ≡ ys
 same_row→eq [] [] h = refl
 same_row→eq (true ∷ xs) (true ∷ ys) h = ap (λ (l : List Bool). true ∷ l) (same_row→eq xs ys h)
 same_row→eq (false ∷ xs) (false ∷ ys) h = ap (λ (l : List Bool). false ∷ l) (same_row→eq xs ys h)
+same_row→eq [] (_ ∷ ys) h = elim h [ ]
+same_row→eq (false ∷ xs) [] h = elim h [ ]
+same_row→eq (false ∷ xs) (true ∷ ys) h = elim h [ ]
+same_row→eq (true ∷ xs) [] h = elim h [ ]
+same_row→eq (true ∷ xs) (false ∷ ys) h = elim h [ ]
 
 same_table→eq : (t u : Table) → T (same_table t u) → t ≡ u
 same_table→eq [] [] h = refl
 same_table→eq (x ∷ xs) (y ∷ ys) h =
     ap (λ (r : List Bool). r ∷ xs) (same_row→eq x y (and_left (same_row x y) (same_table xs ys) h))
     ∙ ap (λ (l : Table). y ∷ l) (same_table→eq xs ys (and_right (same_row x y) (same_table xs ys) h))
+same_table→eq [] (y ∷ ys) h = elim h [ ]
+same_table→eq (x ∷ xs) [] h = elim h [ ]
 
 same_row_refl : (xs : List Bool) → T (same_row xs xs)
 same_row_refl [] = tt

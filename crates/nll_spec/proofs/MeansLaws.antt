@@ -33,6 +33,7 @@ bit-set false e = absurd (omega arith)
 
 set-bit : (b : Bool) → T b → bit b ≡ 1
 set-bit true t = refl
+set-bit false t = elim t [ ]
 
 bit-small : (b : Bool) → bit b ≤ 1
 bit-small true = omega arith

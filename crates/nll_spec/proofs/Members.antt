@@ -25,6 +25,7 @@ module _ {A : Type 0} where
   pub member_left : {x : A} (xs ys : List A) → Member x xs → Member x (xs ++ ys)
   member_left (x ∷ xs) ys here = here
   member_left (x ∷ xs) ys (there m) = there (member_left xs ys m)
+  member_left [] ys x'' = elim x'' [ ]
 
   pub member_right : {x : A} (xs ys : List A) → Member x ys → Member x (xs ++ ys)
   member_right [] ys m = m
@@ -50,10 +51,12 @@ module _ {A : Type 0} where
       go : T (f x) ⊎ T (any f xs) → (T (any f xs) → (y : A) × Member y xs × T (f y)) → (y : A) × Member y (x ∷ xs) × T (f y)
       go (inl h) ih = (x, here, h)
       go (inr h) ih = let r = ih h in (r.0, there r.1, r.2)
+  any_element f [] t = elim t [ ]
 
   pub every_member : (f : A → Bool) {x : A} (xs : List A) → T (every f xs) → Member x xs → T (f x)
   every_member f (x ∷ xs) t here = and_left (f x) (every f xs) t
   every_member f (y ∷ xs) t (there m) = every_member f xs (and_right (f y) (every f xs) t) m
+  every_member f [] t x3 = elim x3 [ ]
 
   -- an element of lists one after the other is one of some of them
   pub member_gather : (f : ℕ → List A) (ns : List ℕ) (n : ℕ) {x : A} → T (contains ns n) → Member x (f n) → Member x (gather f ns)
@@ -62,6 +65,7 @@ module _ {A : Type 0} where
       go : T (eqb n m) ⊎ T (contains ns n) → (T (contains ns n) → Member x (gather f ns)) → Member x (gather f (m ∷ ns))
       go (inl q) ih = member_left (f m) (gather f ns) (subst (λ (i : ℕ). Member x (f i)) (eqb→eq n m q) k)
       go (inr q) ih = member_right (f m) (gather f ns) (ih q)
+  member_gather f [] n {x = x} h k = elim h [ ]
 
   pub gather_member : (f : ℕ → List A) (ns : List ℕ) {x : A} → Member x (gather f ns) → (n : ℕ) × T (contains ns n) × Member x (f n)
   gather_member f (m ∷ ns) {x} h = go (member_append (f m) (gather f ns) h) (λ w. gather_member f ns w)
@@ -69,6 +73,7 @@ module _ {A : Type 0} where
       go : Member x (f m) ⊎ Member x (gather f ns) → (Member x (gather f ns) → (n : ℕ) × T (contains ns n) × Member x (f n)) → (n : ℕ) × T (contains (m ∷ ns) n) × Member x (f n)
       go (inl w) ih = (m, contains-here m ns, w)
       go (inr w) ih = let r = ih w in (r.0, any-there (eqb r.0) m ns r.1, r.2)
+  gather_member f [] {x = x} h = elim h [ ]
 
   pub member_map : (f : ℕ → A) (ns : List ℕ) (n : ℕ) → T (contains ns n) → Member (f n) (map f ns)
   member_map f (m ∷ ns) n h = go (or_cases (eqb n m) (contains ns n) h) (λ w. member_map f ns n w)
@@ -76,7 +81,9 @@ module _ {A : Type 0} where
       go : T (eqb n m) ⊎ T (contains ns n) → (T (contains ns n) → Member (f n) (map f ns)) → Member (f n) (f m ∷ map f ns)
       go (inl q) ih = subst (λ (i : ℕ). Member (f n) (f i ∷ map f ns)) (eqb→eq n m q) here
       go (inr q) ih = there (ih q)
+  member_map f [] n h = elim h [ ]
 
   pub map_member : (f : ℕ → A) (ns : List ℕ) {x : A} → Member x (map f ns) → (n : ℕ) × T (contains ns n) × (f n ≡ x)
   map_member f (m ∷ ns) here = (m, contains-here m ns, refl)
   map_member f (m ∷ ns) (there h) = let r = map_member f ns h in (r.0, any-there (eqb r.0) m ns r.1, r.2)
+  map_member f [] x3 = elim x3 [ ]

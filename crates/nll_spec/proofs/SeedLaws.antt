@@ -263,6 +263,7 @@ module _ (j : Job) where
         go : (b : Bool) → T b ⊎ T (live_seed r p) → T (cond b (is_walked (graph_of j) p || end_seed r p) (is_walked (graph_of j) p && live_seed r p))
         go true h = or_left (is_walked (graph_of j) p) (end_seed r p) walked
         go false (inr k) = and_intro (is_walked (graph_of j) p) (live_seed r p) walked k
+        go false (inl x'') = elim x'' [ ]
 
     end_seed_lem : (r e : RegionName) → r < j.regions → r < length j.outlives → DeclaredOutlives j r e → T (holds (seed_table j (graph_of j)) r ((graph_of j).code + e))
     end_seed_lem r e hr h d =

@@ -50,6 +50,9 @@ module _ (j : Job) where
   count_fits NoArgs [] h = refl
   count_fits (RegionArg r rest) (d ∷ ds) h = ap suc (count_fits rest ds (and_right (is_region_kind d.kind && region_fits [] r) (args_fit j.structs [] rest ds) h))
   count_fits (TypeArg t rest) (d ∷ ds) h = ap suc (count_fits rest ds (and_right (is_type_kind d.kind && type_fits j.structs [] t) (args_fit j.structs [] rest ds) h))
+  count_fits NoArgs (d ∷ ds) h = elim h [ ]
+  count_fits (RegionArg r rest) [] h = elim h [ ]
+  count_fits (TypeArg t rest) [] h = elim h [ ]
 
   -- what follows the first argument
   good_tail : (given : Args) (d : Param) (ds : List Param) → GoodArgs given (d ∷ ds) → GoodArgs (tail_args given) ds
@@ -276,6 +279,9 @@ module _ (j : Job) where
     good_ref : (t : Ty) → GoodType t → T (is_ref t) → GoodRegion (ref_region t)
     unfolding type_named type_fits
     good_ref (RefTy k r t) h w = (and_left (region_named j r) (type_named j t) h.0, and_left (region_fits [] r) (type_fits j.structs [] t) h.1)
+    good_ref UnitTy h w = elim w [ ]
+    good_ref (StructTy _ _) h w = elim w [ ]
+    good_ref (BoundTy _) h w = elim w [ ]
 
     module _ (structs-named : T (structs_named j)) (structs-fit : T (fields_fit j)) where
       good_source : (r : RegionName) (t : Ty) (fs : List FieldName) → r < j.regions → GoodType t → T (every is_named (relate_source at j.structs (Free r) t fs))

@@ -46,6 +46,7 @@ judged_fault fault i xs v h = (some_fault i xs v h, λ f e. kind-set i xs v h f.
 
     kind-set : (i : ℕ) (xs : List Access) (v : Verdict) → Judged fault i xs v → (x : Access) → Member x xs → fault x → v.kind ≡ 0 → ⊥
     kind-set i xs v (this {x = y} f) x m g e = fault_kind_lem y e
+    kind-set _ _ _ clean x m g e = elim m [ ]
     kind-set i (y ∷ xs) v (pass calm rest) x here g e = calm g
     kind-set i (y ∷ xs) v (pass calm rest) x (there m) g e = kind-set (suc i) xs v rest x m g e
 
@@ -67,6 +68,14 @@ first-judged j loans fault yes-if if_yes i (x ∷ xs) = go (any (conflicts j x) 
 loan-borrow : (p : Point) (a : Action) (loan : Loan) → Member loan (loan_at p a) → (d : Path) × (a ≡ Borrow d loan.region loan.kind loan.path) × (loan.point ≡ p)
 unfolding loan_at
 loan-borrow p (Borrow d r k q) loan here = (d, refl, refl)
+loan-borrow p Rattle.nll_spec.specs.Syntax.Noop loan x' = elim x' [ ]
+loan-borrow p (Rattle.nll_spec.specs.Syntax.Init _ _) loan x4 = elim x4 [ ]
+loan-borrow p (Borrow d r k q) loan (there x6) = elim x6 [ ]
+loan-borrow p (Rattle.nll_spec.specs.Syntax.Assign _ _) loan x6 = elim x6 [ ]
+loan-borrow p (Rattle.nll_spec.specs.Syntax.Constraint _ _) loan x7 = elim x7 [ ]
+loan-borrow p (Rattle.nll_spec.specs.Syntax.Use _) loan x7 = elim x7 [ ]
+loan-borrow p (Rattle.nll_spec.specs.Syntax.Drop _) loan x8 = elim x8 [ ]
+loan-borrow p (Rattle.nll_spec.specs.Syntax.StorageDead _) loan x9 = elim x9 [ ]
 
 module _ (j : Job) where
   abbrev lent : Point → List Loan

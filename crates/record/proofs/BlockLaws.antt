@@ -9,8 +9,8 @@ use lib.ListN.{length, take, drop, set, length-set, length-append}
 use lib.Seq.{take-set-le, drop-set-add, drop-set-lt, take-take, take-add, take-nil, drop-drop}
 use lib.Dec.{ltb}
 use borrow.Author.Tests.{lt-ltb}
-use Rattle.nll◌spec.specs.Lists.{select, gather}
-use Rattle.nll◌spec.specs.Syntax as syntax
+use Rattle.nll_spec.specs.Lists.{select, gather}
+use Rattle.nll_spec.specs.Syntax as syntax
 use Rattle.nll_spec.specs.Decode.{Reading, refused, read, done, ◌>>=◌, items, action, path, block, is_borrow, code_count}
 use Rattle.repr.specs.Reading.{ended, rest, path_of}
 use Rattle.repr.specs.Parts.{action_says, sources_of, loans_of, block_of}

@@ -1,6 +1,6 @@
 -- What the table gives by number: where a part lies, what a struct declares, what a point does.
 use Rattle.std.specs.Prelude.{◌≡◌, cond, List, ℕ, ◌+◌, get_or, ltb, eqb}
-use Rattle.nll◌spec.specs.Syntax as syntax
+use Rattle.nll_spec.specs.Syntax as syntax
 use Rattle.nll_spec.specs.Decode.{read, items, param, field}
 use Rattle.repr.specs.Reading.{rest}
 use Rattle.repr.specs.Parts.{action_says}

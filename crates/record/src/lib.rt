@@ -1,3 +1,4 @@
+#![tactic(auto)]
 // The whole record: refusals 1 to 5, and a table of where each part of the job lies.
 pub mod access;
 mod blocks;
@@ -28,7 +29,7 @@ pub const POINTS: usize = 256;
 pub const END: u16 = 65535;
 
 // How many parts there are of each kind; `code` counts the points of all blocks.
-#[derive(Drop)]
+#[derive(Clone, Copy)]
 pub struct Head {
     pub structs: u8,
     pub regions: u8,
@@ -39,20 +40,20 @@ pub struct Head {
 }
 
 // What a point of the blocks is: an action, by where it lies, or a block's end.
-#[derive(Drop)]
+#[derive(Clone, Copy)]
 pub enum PointStep {
     Action(Cursor),
     End,
 }
 
-#[derive(Drop)]
+#[derive(Clone, Copy)]
 pub enum Decoded {
     Refused(u8),
     Job(Head),
 }
 
 // The parts that stand in a row of their own.
-#[derive(Drop)]
+#[derive(Clone, Copy)]
 pub enum Part {
     Struct,
     Outlives,
@@ -60,7 +61,7 @@ pub enum Part {
 }
 
 // The five counts.
-#[derive(Drop)]
+#[derive(Clone, Copy)]
 pub struct Counts {
     pub structs: u8,
     pub regions: u8,
@@ -69,21 +70,21 @@ pub struct Counts {
     pub blocks: u8,
 }
 
-#[derive(Drop)]
+#[derive(Clone, Copy)]
 pub enum CountsStep {
     Counts(Counts, Cursor),
     Refused(u8),
 }
 
 // The end of an action or of some, with how many loans they make.
-#[derive(Drop)]
+#[derive(Clone, Copy)]
 pub enum CodeStep {
     Ended { next: Cursor, loans: usize },
     Refused(u8),
 }
 
 // The end of the blocks, with how many points and loans they have.
-#[derive(Drop)]
+#[derive(Clone, Copy)]
 pub enum BlocksStep {
     Ended {
         next: Cursor,

@@ -8,11 +8,11 @@ use native.Mathlib.Nat.{le_refl}
 use lib.ListN.{length, get_or}
 use lib.Dec.{ltb}
 use borrow.Author.Tests.{lt-ltb, le-ltb}
-use Rattle.nll◌spec.specs.Syntax as syntax
+use Rattle.nll_spec.specs.Syntax as syntax
 use Rattle.nll_spec.specs.Syntax.{Ty, Args, NoArgs, RegionArg, TypeArg, Param, StructDecl, Job, Co, RegionKind}
-use Rattle.nll◌spec.specs.Decode.{read, Reader, done, items, param}
-use Rattle.nll◌spec.specs.Types.{struct_of, arg_count}
-use Rattle.nll◌spec.specs.WellFormed.{is_region_kind, is_type_kind, bound_fits, region_fits, type_fits, args_fit, fields_fit, variables_fit, types_fit}
+use Rattle.nll_spec.specs.Decode.{read, Reader, done, items, param}
+use Rattle.nll_spec.specs.Types.{struct_of, arg_count}
+use Rattle.nll_spec.specs.WellFormed.{is_region_kind, is_type_kind, bound_fits, region_fits, type_fits, args_fit, fields_fit, variables_fit, types_fit}
 use Rattle.repr.specs.Reading.{rest, kind_of, region_of, parameter_of, parameter_says, ended, end_says}
 use Rattle.repr.specs.Types.{node, NodeSays, ArgumentSays}
 use Rattle.repr.specs.declared.Cursor.{Cursor}

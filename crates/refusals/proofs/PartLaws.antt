@@ -8,11 +8,11 @@ use native.Mathlib.Decide.{dec_lt}
 use lib.ListN.{length, take, drop}
 use lib.Dec.{ltb, leb}
 use borrow.Author.Tests.{lt-ltb, le-ltb, le-leb, lt-leb, not-false}
-use Rattle.nll◌spec.specs.Lists.{every, gather}
-use Rattle.nll◌spec.specs.Syntax as syntax
+use Rattle.nll_spec.specs.Lists.{every, gather}
+use Rattle.nll_spec.specs.Syntax as syntax
 use Rattle.nll_spec.specs.Syntax.{Ty, Job}
-use Rattle.nll◌spec.specs.Decode.{refused, read, Reader, done, byte, count, items, counted, max_outlived, field, type, path, action, block}
-use Rattle.nll◌spec.specs.WellFormed.{type_named, field_named, path_named, action_named, structs_named, outlived_named, variables_named, successors_named, actions_named, named}
+use Rattle.nll_spec.specs.Decode.{refused, read, Reader, done, byte, count, items, counted, max_outlived, field, type, path, action, block}
+use Rattle.nll_spec.specs.WellFormed.{type_named, field_named, path_named, action_named, structs_named, outlived_named, variables_named, successors_named, actions_named, named}
 use Rattle.repr.specs.Reading.{rest, byte_says, path_says}
 use Rattle.repr.specs.Parts.{field_says, action_says, sources_of, block_of, block_says}
 use Rattle.repr.specs.declared.Cursor.{Cursor}

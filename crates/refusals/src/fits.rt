@@ -12,7 +12,7 @@ use record::access::struct_decl_at;
 use repr::{ArgumentStep, Cursor, EndStep, Kind, NodeStep, NodesStep, ParameterStep, Region};
 
 // So many parameters of a struct, and where they begin.
-#[derive(Drop)]
+#[derive(Clone, Copy)]
 pub struct Params {
     pub declared: Cursor,
     pub count: u8,

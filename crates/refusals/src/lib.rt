@@ -1,3 +1,4 @@
+#![tactic(auto)]
 // Refusals 6 and 7 of a record that was read.
 mod actions;
 mod fits;

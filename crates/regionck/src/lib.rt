@@ -1,3 +1,4 @@
+#![tactic(auto)]
 // The regions' least sets: rounds of the constraints of all actions, until no set grows.
 mod round;
 

@@ -8,13 +8,13 @@ use native.Mathlib.Nat.{le_refl, sub-zero}
 use types.Run.{OneOf, miss}
 use denote.Enum.Declared.{tag_of}
 use denote.Floats.{passes}
-use Rattle.nll◌spec.specs.Syntax as syntax
+use Rattle.nll_spec.specs.Syntax as syntax
 use Rattle.nll_spec.specs.Syntax.{Ty, UnitTy, RefTy, StructTy, Args, NoArgs, RegionArg, TypeArg, Param, Free}
-use Rattle.nll◌spec.specs.Decode.{max_nodes}
-use Rattle.nll◌spec.specs.Types.{struct_of, head_region, head_type, tail_args, type_nodes, arg_nodes}
-use Rattle.nll◌spec.specs.Constraints.{Outlives, invert, within, referent_variance, head_variance, require_outlives, relate_regions, relate, relate_args}
-use Rattle.nll◌spec.specs.WellFormed.{is_ref_of, same_shape, same_shapes}
-use Rattle.nll◌spec.proofs.Tests.{is_true}
+use Rattle.nll_spec.specs.Decode.{max_nodes}
+use Rattle.nll_spec.specs.Types.{struct_of, head_region, head_type, tail_args, type_nodes, arg_nodes}
+use Rattle.nll_spec.specs.Constraints.{Outlives, invert, within, referent_variance, head_variance, require_outlives, relate_regions, relate, relate_args}
+use Rattle.nll_spec.specs.WellFormed.{is_ref_of, same_shape, same_shapes}
+use Rattle.nll_spec.proofs.Tests.{is_true}
 use Rattle.repr.specs.Reading.{rest, borrow_kind_of, variance_of, region_of}
 use Rattle.repr.specs.Types.{node, NodeSays, nodes_says}
 use Rattle.repr.specs.Types as repr_types

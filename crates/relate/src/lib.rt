@@ -1,3 +1,4 @@
+#![tactic(auto)]
 // Two types related under a variance at a point: the constraints of their regions are added to a list.
 mod variance;
 
@@ -14,14 +15,14 @@ use repr::{Cursor, NodeStep, NodesStep, Region, RegionName, StructName, Variance
 use variance::{invert, referent_variance, within};
 
 // What constraints are made with: the record's head, and their point.
-#[derive(Drop)]
+#[derive(Clone, Copy)]
 pub struct Site {
     pub head: Head,
     pub at: u16,
 }
 
 // Where two types begin. The first has at most `left` nodes.
-#[derive(Drop)]
+#[derive(Clone, Copy)]
 struct Types {
     a: Cursor,
     b: Cursor,
@@ -29,7 +30,7 @@ struct Types {
 }
 
 // Two rows of arguments for these parameters. The arguments of the first have at most `left` nodes.
-#[derive(Drop)]
+#[derive(Clone, Copy)]
 struct Rows {
     params: Row,
     a: Row,
@@ -38,7 +39,7 @@ struct Rows {
 }
 
 // Two parts related, with the nodes that are left and where each ends; or not, as they differ.
-#[derive(Drop)]
+#[derive(Clone, Copy)]
 enum Both {
     Ended { left: usize, a: Cursor, b: Cursor },
     Stopped,

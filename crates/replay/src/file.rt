@@ -3,7 +3,7 @@ ghost use Rattle.std.specs.Prelude.{◌≡◌, ◌≤◌, get_or};
 ghost use Rattle.replay.specs.File.{two, four, entry_at};
 
 // An entry: its record stands from `input` to `number`, where the number stands; so many words from `words` on; its bytes from `bytes` to `end`.
-#[derive(Drop)]
+#[derive(Clone, Copy)]
 pub struct Entry {
     pub input: usize,
     pub number: usize,

@@ -1,3 +1,4 @@
+#![tactic(auto)]
 // Runs records through the call and prints how many answers are as recorded: the original Rust's for accepted records, the model's for refused ones, and the cases that
 // document 01 runs.
 mod compare;

@@ -7,7 +7,7 @@ use super::compare::agree;
 use super::file::{entry_at, two_at};
 
 // So many entries, of which so many agree; `whole` if the file is those entries and nothing else.
-#[derive(Drop)]
+#[derive(Clone, Copy)]
 pub struct Count {
     pub entries: usize,
     pub agree: usize,

@@ -6,9 +6,9 @@ use native.Mathlib.Omega.{arith}
 use native.Mathlib.Nat.{le_refl, zero-add}
 use lib.ListN.{drop}
 use borrow.Author.Tests.{eq-eqb, ne_eqb}
-use Rattle.nll◌spec.specs.Syntax as syntax
+use Rattle.nll_spec.specs.Syntax as syntax
 use Rattle.nll_spec.specs.Syntax.{Ty, Args, RegionArg, TypeArg}
-use Rattle.nll◌spec.specs.Decode.{Reading, refused, read, Reader, done, refuse, ◌>>=◌, byte, pick, one_of, Part, part, region, node_tag, args, type_within, type, max_nodes}
+use Rattle.nll_spec.specs.Decode.{Reading, refused, read, Reader, done, refuse, ◌>>=◌, byte, pick, one_of, Part, part, region, node_tag, args, type_within, type, max_nodes}
 use Rattle.repr.specs.Reading.{rest, ended}
 use Rattle.repr.specs.Types.{Inner, node, node_says, NodeSays, argument_says, ArgumentSays, left_of, nodes_says, AtMost, onward, opened_says, Falls, OpenedSays, FirstSays, TypeSays, ArgumentsSay}
 use Rattle.repr.specs.declared.Cursor.{Cursor}

@@ -1,8 +1,8 @@
 -- What the answers about structs, actions and blocks say. Their rows are only counted: reading such a part is reading on where its row begins.
 use Rattle.std.specs.Prelude.{◌≡◌, List, ℕ, take, drop}
-use Rattle.nll◌spec.specs.Syntax as syntax
+use Rattle.nll_spec.specs.Syntax as syntax
 use Rattle.nll_spec.specs.Decode.{Reading, refused, read, Reader, done, ◌>>=◌, byte, items, counted, max_sources, borrow_kind, param, field}
-use Rattle.nll◌spec.specs.Decode.{struct_decl, type, path, action}
+use Rattle.nll_spec.specs.Decode.{struct_decl, type, path, action}
 use Rattle.repr.specs.Reading.{rest, borrow_kind_of, path_of}
 use Rattle.repr.specs.declared.Action.{Action}
 use Rattle.repr.specs.declared.Action.TheVariants.{Noop, Init, Borrow, Assign, Constraint, Use, Drop, StorageDead}

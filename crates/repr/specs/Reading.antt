@@ -1,7 +1,7 @@
 -- What the code's answers say: readings of `Decode`. A cursor stands for the bytes from its place on.
 use Rattle.std.specs.Prelude.{Bool, List, map, ℕ, take, drop}
-use Rattle.nll◌spec.specs.Lists.{below}
-use Rattle.nll◌spec.specs.Syntax as syntax
+use Rattle.nll_spec.specs.Lists.{below}
+use Rattle.nll_spec.specs.Syntax as syntax
 use Rattle.nll_spec.specs.Decode.{Reading, refused, read, Reader, done, one_of}
 use Rattle.repr.specs.declared.Cursor.{Cursor}
 use Rattle.repr.specs.declared.BorrowKind.{BorrowKind}

@@ -1,51 +1,52 @@
+#![tactic(auto)]
 // The parts of a job, as the record's bytes hold them, and the cursor that reads them.
 mod actions;
 mod items;
 mod structs;
 mod types;
 
-#[derive(Drop)]
+#[derive(Clone, Copy)]
 pub struct Variable(pub u8);
 
-#[derive(Drop)]
+#[derive(Clone, Copy)]
 pub struct RegionName(pub u8);
 
-#[derive(Drop)]
+#[derive(Clone, Copy)]
 pub struct StructName(pub u8);
 
-#[derive(Drop)]
+#[derive(Clone, Copy)]
 pub struct FieldName(pub u8);
 
-#[derive(Drop)]
+#[derive(Clone, Copy)]
 pub struct BasicBlockIndex(pub u8);
 
-#[derive(Drop)]
+#[derive(Clone, Copy)]
 pub enum BorrowKind {
     Mut,
     Shared,
 }
 
-#[derive(Drop)]
+#[derive(Clone, Copy)]
 pub enum Variance {
     Co,
     Contra,
     In,
 }
 
-#[derive(Drop)]
+#[derive(Clone, Copy)]
 pub enum Kind {
     Region,
     Type,
 }
 
 // A region in a type: a name, or a parameter of the struct around it by its bound index.
-#[derive(Drop)]
+#[derive(Clone, Copy)]
 pub enum Region {
     Free(RegionName),
     Bound(u8),
 }
 
-#[derive(Drop)]
+#[derive(Clone, Copy)]
 pub struct StructParameter {
     pub variance: Variance,
     pub may_dangle: bool,
@@ -53,7 +54,7 @@ pub struct StructParameter {
 }
 
 // A variable and the steps from it: so many field numbers, from a place of the record on.
-#[derive(Drop)]
+#[derive(Clone, Copy)]
 pub struct Path {
     pub base: Variable,
     pub steps: u8,
@@ -61,13 +62,13 @@ pub struct Path {
 }
 
 // A place of the record.
-#[derive(Drop)]
+#[derive(Clone, Copy)]
 pub struct Cursor {
     pub at: usize,
 }
 
 // An action. An Init says how many sources it has, which follow it.
-#[derive(Drop)]
+#[derive(Clone, Copy)]
 pub enum Action {
     Noop,
     Init {
@@ -94,7 +95,7 @@ pub enum Action {
 }
 
 // So many parameters and fields, and where they begin.
-#[derive(Drop)]
+#[derive(Clone, Copy)]
 pub struct StructDecl {
     pub parameters: u8,
     pub declared: Cursor,
@@ -103,7 +104,7 @@ pub struct StructDecl {
 }
 
 // So many successors and actions, and where they begin.
-#[derive(Drop)]
+#[derive(Clone, Copy)]
 pub struct BasicBlockData {
     pub successors: u8,
     pub targets: Cursor,
@@ -113,82 +114,82 @@ pub struct BasicBlockData {
 
 // ---- What reading at a cursor gives: an item with the next cursor, or a refusal.
 
-#[derive(Drop)]
+#[derive(Clone, Copy)]
 pub enum ByteStep {
     Byte(u8, Cursor),
     Refused(u8),
 }
 
-#[derive(Drop)]
+#[derive(Clone, Copy)]
 pub enum BorrowKindStep {
     BorrowKind(BorrowKind, Cursor),
     Refused(u8),
 }
 
-#[derive(Drop)]
+#[derive(Clone, Copy)]
 pub enum VarianceStep {
     Variance(Variance, Cursor),
     Refused(u8),
 }
 
-#[derive(Drop)]
+#[derive(Clone, Copy)]
 pub enum FlagStep {
     Flag(bool, Cursor),
     Refused(u8),
 }
 
-#[derive(Drop)]
+#[derive(Clone, Copy)]
 pub enum KindStep {
     Kind(Kind, Cursor),
     Refused(u8),
 }
 
-#[derive(Drop)]
+#[derive(Clone, Copy)]
 pub enum ParameterStep {
     Parameter(StructParameter, Cursor),
     Refused(u8),
 }
 
-#[derive(Drop)]
+#[derive(Clone, Copy)]
 pub enum RegionStep {
     Region(Region, Cursor),
     Refused(u8),
 }
 
-#[derive(Drop)]
+#[derive(Clone, Copy)]
 pub enum PathStep {
     Path(Path, Cursor),
     Refused(u8),
 }
 
 // An action with the next cursor, which is at the sources of an Init.
-#[derive(Drop)]
+#[derive(Clone, Copy)]
 pub enum ActionStep {
     Action(Action, Cursor),
     Refused(u8),
 }
 
 // A field's name, and where its type begins.
-#[derive(Drop)]
+#[derive(Clone, Copy)]
 pub enum FieldStep {
     Field(FieldName, Cursor),
     Refused(u8),
 }
 
-#[derive(Drop)]
+#[derive(Clone, Copy)]
 pub enum StructStep {
     Struct(StructDecl),
     Refused(u8),
 }
 
-#[derive(Drop)]
+#[derive(Clone, Copy)]
 pub enum BlockStep {
     Block(BasicBlockData),
     Refused(u8),
 }
 
 // A type's first node, with where its parts begin, or where the type ends if it has none.
-#[derive(Drop)]
+#[derive(Clone, Copy)]
 pub enum NodeStep {
     Unit(Cursor),
     Ref {
@@ -206,7 +207,7 @@ pub enum NodeStep {
 }
 
 // An argument of a struct: a region with the next cursor, or where a type begins.
-#[derive(Drop)]
+#[derive(Clone, Copy)]
 pub enum ArgumentStep {
     Region(Region, Cursor),
     Type(Cursor),
@@ -214,21 +215,21 @@ pub enum ArgumentStep {
 }
 
 // A part of a type up to so many arguments that are to be read yet, with how many more nodes the type may have.
-#[derive(Drop)]
+#[derive(Clone, Copy)]
 enum OpenedStep {
     Opened { count: u8, left: u8, next: Cursor },
     Refused(u8),
 }
 
 // The end of a part of a type, with how many more nodes the type may have.
-#[derive(Drop)]
+#[derive(Clone, Copy)]
 pub enum NodesStep {
     Ended { left: u8, next: Cursor },
     Refused(u8),
 }
 
 // The end of what was read.
-#[derive(Drop)]
+#[derive(Clone, Copy)]
 pub enum EndStep {
     Ended(Cursor),
     Refused(u8),

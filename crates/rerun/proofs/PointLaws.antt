@@ -6,13 +6,13 @@ use mathlib.Core.List.{List, [], ◌++◌, append-nil, append_assoc}
 use Prim.Native.Nat.{ℕ, ◌+◌, ◌*◌, ◌≤◌, ◌<◌}
 use native.Mathlib.Omega.{arith}
 use lib.ListN.{length}
-use Rattle.nll◌spec.specs.Syntax as syntax
+use Rattle.nll_spec.specs.Syntax as syntax
 use Rattle.nll_spec.specs.Syntax.{Job, Point}
-use Rattle.nll◌spec.specs.Decode.{code_count}
-use Rattle.nll◌spec.specs.Output.{word_bits}
-use Rattle.nll◌spec.specs.Graph.{graph_of, action_at, is_walked}
-use Rattle.nll◌spec.specs.Constraints.{Outlives, constraints_at}
-use Rattle.nll◌spec.proofs.GraphLaws.{code-count}
+use Rattle.nll_spec.specs.Decode.{code_count}
+use Rattle.nll_spec.specs.Output.{word_bits}
+use Rattle.nll_spec.specs.Graph.{graph_of, action_at, is_walked}
+use Rattle.nll_spec.specs.Constraints.{Outlives, constraints_at}
+use Rattle.nll_spec.proofs.GraphLaws.{code-count}
 use Rattle.bit_set.specs.Bits.{has}
 use Rattle.record.specs.declared.Head.{Head}
 use Rattle.record.specs.Layout.{Layout}

@@ -1,3 +1,4 @@
+#![tactic(auto)]
 // The constraints of a job, run again within a round. Which ones, and by which marks, is a matter of time alone.
 pub mod marks;
 pub mod point;

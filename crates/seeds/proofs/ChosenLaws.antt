@@ -6,11 +6,11 @@ use Prim.Native.Nat.{ℕ, ◌+◌, ◌-◌, ◌≤◌}
 use native.Mathlib.Omega.{arith}
 use native.Mathlib.Nat.{le_refl, sub-zero}
 use lib.ListN.{drop}
-use Rattle.nll◌spec.specs.Syntax.{Ty, UnitTy, RefTy, StructTy, BoundTy, Args, NoArgs, RegionArg, TypeArg, Param, StructDecl, Job}
-use Rattle.nll◌spec.specs.Syntax as syntax
+use Rattle.nll_spec.specs.Syntax.{Ty, UnitTy, RefTy, StructTy, BoundTy, Args, NoArgs, RegionArg, TypeArg, Param, StructDecl, Job}
+use Rattle.nll_spec.specs.Syntax as syntax
 use Rattle.nll_spec.specs.Types.{struct_of, region_name, regions_of, arg_regions, type_nodes, arg_nodes}
-use Rattle.nll◌spec.specs.Regions.{head_dangles, drop_regions, drop_arg_regions}
-use Rattle.nll◌spec.specs.Decode.{done, items, param, type}
+use Rattle.nll_spec.specs.Regions.{head_dangles, drop_regions, drop_arg_regions}
+use Rattle.nll_spec.specs.Decode.{done, items, param, type}
 use Rattle.repr.specs.Reading.{rest, borrow_kind_of, region_of, parameter_says}
 use Rattle.repr.specs.Types.{node, NodeSays, ArgumentSays}
 use Rattle.repr.specs.declared.Cursor.{Cursor}

@@ -1,3 +1,4 @@
+#![tactic(auto)]
 // The regions' starting sets: a declared region has every walked point and the ends of what it outlives; any other has the walked points on entry to
 // which a variable is live that has it in its type.
 mod declared;
@@ -20,7 +21,7 @@ use repr::Cursor;
 use rows::{fill_declared, fill_live};
 
 // Which regions are taken of a type: every one, those that a drop of it needs, or none.
-#[derive(Drop)]
+#[derive(Clone, Copy)]
 pub enum Which {
     Every,
     Dropped,
@@ -28,14 +29,14 @@ pub enum Which {
 }
 
 // Where a part of a type ends, with how many nodes are left.
-#[derive(Drop)]
+#[derive(Clone, Copy)]
 pub struct Rest {
     pub left: usize,
     pub next: Cursor,
 }
 
 // Whether the first of some parameters may dangle, and the others: so many, and where they begin.
-#[derive(Drop)]
+#[derive(Clone, Copy)]
 pub struct First {
     pub dangles: bool,
     pub count: u8,

@@ -5,10 +5,10 @@ use Prim.Native.Nat.{ℕ, zero, suc, ◌+◌, ◌-◌, ◌*◌, ◌≤◌, ◌<�
 use native.Mathlib.Omega.{arith}
 use native.Mathlib.Nat.{le_refl}
 use lib.ListN.{length, take, drop, set, take-append-drop}
-use Rattle.nll◌spec.specs.Syntax.{BorrowKind, Ty, UnitTy, RefTy, StructTy, BoundTy, Args, NoArgs, RegionArg, TypeArg}
-use Rattle.nll◌spec.specs.Syntax as syntax
+use Rattle.nll_spec.specs.Syntax.{BorrowKind, Ty, UnitTy, RefTy, StructTy, BoundTy, Args, NoArgs, RegionArg, TypeArg}
+use Rattle.nll_spec.specs.Syntax as syntax
 use Rattle.nll_spec.specs.Decode.{max_nodes}
-use Rattle.nll◌spec.specs.Types.{head_type, arg_count, drop_args, bound_args, subst_region, subst, subst_args, type_nodes, arg_nodes}
+use Rattle.nll_spec.specs.Types.{head_type, arg_count, drop_args, bound_args, subst_region, subst, subst_args, type_nodes, arg_nodes}
 use Rattle.repr.specs.Reading.{rest, borrow_kind_of, region_of}
 use Rattle.repr.specs.Types.{node, NodeSays, ArgumentSays}
 use Rattle.repr.specs.declared.Cursor.{Cursor}

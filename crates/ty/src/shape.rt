@@ -6,7 +6,7 @@ use beside::{Heads, Pair, Row, after, beside, first_pair, same_kind};
 use repr::{BorrowKind, Cursor, NodeStep, NodesStep};
 
 // Two types of one shape, with the nodes that are left and where each ends, or not.
-#[derive(Drop)]
+#[derive(Clone, Copy)]
 enum Shape {
     Same { left: usize, a: Cursor, b: Cursor },
     Differ,

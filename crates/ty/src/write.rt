@@ -7,14 +7,14 @@ ghost use Rattle.ty.specs.Written.{Bounded, FoundSays, RegionSays, UnitSays, Cop
 use repr::{ArgumentStep, BorrowKind, Cursor, NodeStep, NodesStep, Region, RegionName, StructName};
 
 // What was written: where the type that was read ends, where the written one ends, and the nodes that are left.
-#[derive(Drop)]
+#[derive(Clone, Copy)]
 enum Wrote {
     Ended { next: Cursor, at: usize, left: u8 },
     Over,
 }
 
 // A whole type that was written, up to a place, or that has more than 32 nodes.
-#[derive(Drop)]
+#[derive(Clone, Copy)]
 pub enum Whole {
     Written(usize),
     TooLarge,

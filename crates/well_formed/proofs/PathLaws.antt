@@ -8,12 +8,12 @@ use lib.ListN.{length, drop}
 use types.Run.{OneOf, miss}
 use denote.Enum.Declared.{tag_of}
 use borrow.Author.Tests.{lt-ltb, le-ltb}
-use Rattle.nll◌spec.specs.Lists.{every}
-use Rattle.nll◌spec.specs.Syntax as syntax
+use Rattle.nll_spec.specs.Lists.{every}
+use Rattle.nll_spec.specs.Syntax as syntax
 use Rattle.nll_spec.specs.Syntax.{Job}
-use Rattle.nll◌spec.specs.Decode.{read, done, items, path}
-use Rattle.nll◌spec.specs.Types.{path_type}
-use Rattle.nll◌spec.specs.WellFormed.{path_fits, paths_of, same_shape, shape_fits}
+use Rattle.nll_spec.specs.Decode.{read, done, items, path}
+use Rattle.nll_spec.specs.Types.{path_type}
+use Rattle.nll_spec.specs.WellFormed.{path_fits, paths_of, same_shape, shape_fits}
 use Rattle.repr.specs.Reading.{rest, borrow_kind_of, path_of, path_says}
 use Rattle.repr.specs.Parts.{action_says, sources_of}
 use Rattle.repr.specs.declared.Cursor.{Cursor}

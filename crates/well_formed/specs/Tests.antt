@@ -1,11 +1,11 @@
 -- What the tests of refusals 8 and 9 say.
 use Rattle.std.specs.Prelude.{◌≡◌, Bool, true, ◌&&◌, cond, List, ℕ, ◌≤◌}
-use Rattle.nll◌spec.specs.Lists.{every}
-use Rattle.nll◌spec.specs.Syntax as syntax
+use Rattle.nll_spec.specs.Lists.{every}
+use Rattle.nll_spec.specs.Syntax as syntax
 use Rattle.nll_spec.specs.Syntax.{Free, Region, Ty, RefTy, Job}
-use Rattle.nll◌spec.specs.Decode.{max_nodes}
-use Rattle.nll◌spec.specs.Types.{type_nodes, path_type}
-use Rattle.nll◌spec.specs.WellFormed.{path_named, path_fits, paths_of, same_shape}
+use Rattle.nll_spec.specs.Decode.{max_nodes}
+use Rattle.nll_spec.specs.Types.{type_nodes, path_type}
+use Rattle.nll_spec.specs.WellFormed.{path_named, path_fits, paths_of, same_shape}
 use Rattle.repr.specs.Reading.{borrow_kind_of, path_of}
 use Rattle.repr.specs.declared.Path.{Path}
 use Rattle.repr.specs.declared.Action.{Action}

@@ -1,3 +1,4 @@
+#![tactic(auto)]
 // Refusals 8 and 9 of a record that was read, and the one number of a record: a refusal, 1 to 9, or none.
 mod paths;
 mod points;

@@ -12,7 +12,7 @@ use repr::{BorrowKind, Cursor, Path};
 use ty::shape::{same_shape, same_shape_ref};
 
 // What the first of two types is to have: the shape of the second, or of a Ref of a kind to it.
-#[derive(Drop)]
+#[derive(Clone, Copy)]
 pub enum Wanted {
     Same,
     RefTo(BorrowKind),

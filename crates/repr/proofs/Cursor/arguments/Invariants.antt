@@ -1,0 +1,12 @@
+-- `repr::Cursor::arguments` meets its contract. The loop's invariant: from c on, n arguments are to be read yet. Assumes nothing.
+use mathlib.Core.Path.{refl}
+use Prim.Native.Nat.{◌+◌, ◌*◌}
+use native.Mathlib.Omega.{arith}
+use Rattle.repr.proofs.TypeLaws.{Along, along-none, along-refused, along-more, along-less, along-ended}
+use Rattle.repr.proofs.Cursor.arguments.Given as goal
+
+abbrev pub invariant-loop-n : goal.invariant-loop-n
+invariant-loop-n l = Along l.s l.initial.c.at l.count l.left l.c.at l.n l.few
+
+abbrev pub decreases-loop-n : goal.decreases-loop-n
+decreases-loop-n l = l.n + 256 * l.few

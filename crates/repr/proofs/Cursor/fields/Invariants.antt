@@ -1,0 +1,14 @@
+-- `repr::Cursor::fields` meets its contract. Assumes nothing.
+use Rattle.repr.proofs.PartLaws.{row-none, row_stop, row_step}
+use Rattle.repr.proofs.ReadLaws.{told}
+use Rattle.repr.specs.Reading.{ended, end_says}
+use Rattle.nll_spec.specs.Decode.{items, field}
+use lib.ListN.{drop}
+use mathlib.Core.Path.{◌≡◌, refl, sym, ◌∙◌}
+use Rattle.repr.proofs.Cursor.fields.Given as goal
+
+abbrev pub invariant-loop-left : goal.invariant-loop-left
+invariant-loop-left l = ended (items l.count field (drop l.initial.c.at l.s)) ≡ ended (items l.left field (drop l.c.at l.s))
+
+abbrev pub decreases-loop-left : goal.decreases-loop-left
+decreases-loop-left l = l.left

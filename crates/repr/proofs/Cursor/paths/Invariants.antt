@@ -1,0 +1,14 @@
+-- `repr::Cursor::paths` meets its contract. Assumes nothing.
+use Rattle.repr.proofs.PartLaws.{row-none, row_stop, row_step}
+use Rattle.repr.proofs.ReadLaws.{told}
+use Rattle.repr.specs.Reading.{ended, path_says}
+use Rattle.nll_spec.specs.Decode.{items, path}
+use lib.ListN.{drop}
+use mathlib.Core.Path.{◌≡◌, refl, sym, ap, ◌∙◌}
+use Rattle.repr.proofs.Cursor.paths.Given as goal
+
+abbrev pub invariant-loop-left : goal.invariant-loop-left
+invariant-loop-left l = ended (items l.count path (drop l.initial.c.at l.s)) ≡ ended (items l.left path (drop l.c.at l.s))
+
+abbrev pub decreases-loop-left : goal.decreases-loop-left
+decreases-loop-left l = l.left
