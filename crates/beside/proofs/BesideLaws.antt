@@ -6,8 +6,6 @@ use Prim.Native.Nat.{ℕ, ◌-◌, ◌≤◌}
 use native.Mathlib.Omega.{arith}
 use lib.ListN.{drop}
 use lib.Dec.{eqb}
-use types.Run.{OneOf, miss}
-use denote.Enum.Declared.{tag_of}
 use Rattle.nll_spec.specs.Syntax as syntax
 use Rattle.nll_spec.specs.Syntax.{Ty, UnitTy, RefTy, StructTy, BoundTy, Args, TypeArg, Param}
 use Rattle.nll_spec.specs.Decode.{read, max_nodes, items, param}
@@ -27,7 +25,6 @@ use Rattle.repr.specs.declared.ParameterStep.TheVariants as parameter_step
 use Rattle.repr.specs.declared.RegionStep.{RegionStep}
 use Rattle.repr.specs.declared.RegionStep.TheVariants as region_step
 use Rattle.repr.specs.declared.NodeStep.{NodeStep}
-use Rattle.repr.specs.contracts.NodeStep.{the_type}
 use Rattle.repr.specs.declared.NodeStep.TheVariants as node_step
 use Rattle.repr.specs.declared.NodesStep.{NodesStep}
 use Rattle.repr.specs.declared.NodesStep.TheVariants as nodes_step
@@ -51,25 +48,25 @@ use Rattle.beside.specs.declared.Parameter.{Parameter}
 
 -- ---- Two nodes
 
--- a node of one kind, and another with the tag of another kind: 0 Unit, 1 Ref, 2 Struct
-pub unit_beside : (c : Cursor) (k : NodeStep) → OneOf (1 ∷ 2 ∷ 3 ∷ 4 ∷ []) (tag_of the_type k) → heads.Differ ≡ unit_heads c k
-unit_beside c (node_step.Unit d) h = absurd (miss (1 ∷ 2 ∷ 3 ∷ 4 ∷ []) 0 tt h)
+-- a node of one kind, and another that is of another kind
+pub unit_beside : (c : Cursor) (k : NodeStep) → ((d : Cursor) → k ≡ node_step.Unit d → ⊥) → heads.Differ ≡ unit_heads c k
+unit_beside c (node_step.Unit d) h = absurd (h d refl)
 unit_beside c (node_step.Ref q r d) h = refl
 unit_beside c (node_step.Struct z n d) h = refl
 unit_beside c (node_step.Bound i d) h = refl
 unit_beside c (node_step.Refused i) h = refl
 
-pub ref_beside : (j : BorrowKind) (r : Region) (c : Cursor) (k : NodeStep) → OneOf (0 ∷ 2 ∷ 3 ∷ 4 ∷ []) (tag_of the_type k) → heads.Differ ≡ ref_heads j r c k
+pub ref_beside : (j : BorrowKind) (r : Region) (c : Cursor) (k : NodeStep) → ((q : BorrowKind) (o : Region) (d : Cursor) → k ≡ node_step.Ref q o d → ⊥) → heads.Differ ≡ ref_heads j r c k
 ref_beside j r c (node_step.Unit d) h = refl
-ref_beside j r c (node_step.Ref q o d) h = absurd (miss (0 ∷ 2 ∷ 3 ∷ 4 ∷ []) 1 tt h)
+ref_beside j r c (node_step.Ref q o d) h = absurd (h q o d refl)
 ref_beside j r c (node_step.Struct z n d) h = refl
 ref_beside j r c (node_step.Bound i d) h = refl
 ref_beside j r c (node_step.Refused i) h = refl
 
-pub struct_beside : (s : StructName) (g : Row) (k : NodeStep) → OneOf (0 ∷ 1 ∷ 3 ∷ 4 ∷ []) (tag_of the_type k) → heads.Differ ≡ struct_heads s g k
+pub struct_beside : (s : StructName) (g : Row) (k : NodeStep) → ((z : StructName) (n : ℕ) (d : Cursor) → k ≡ node_step.Struct z n d → ⊥) → heads.Differ ≡ struct_heads s g k
 struct_beside s g (node_step.Unit d) h = refl
 struct_beside s g (node_step.Ref q r d) h = refl
-struct_beside s g (node_step.Struct z n d) h = absurd (miss (0 ∷ 1 ∷ 3 ∷ 4 ∷ []) 2 tt h)
+struct_beside s g (node_step.Struct z n d) h = absurd (h z n d refl)
 struct_beside s g (node_step.Bound i d) h = refl
 struct_beside s g (node_step.Refused i) h = refl
 
@@ -233,11 +230,11 @@ module _ {s : List ℕ} {at : ℕ} {b : Cursor} {d : NodeStep} (m : NodeSays nod
   pub unit-there : {c : Cursor} → d ≡ node_step.Unit c → UnitSays s at b (pairs.Units c b)
   unit-there e = record { says = λ t over p. let w = on-node m e p in record { same = w.same; ends = w.ends; next = refl } }
 
-  pub unit_other : OneOf (1 ∷ 2 ∷ 3 ∷ 4 ∷ []) (tag_of the_type d) → UnitSays s at b pairs.Differ
+  pub unit_other : ((c : Cursor) → d ≡ node_step.Unit c → ⊥) → UnitSays s at b pairs.Differ
   unit_other f = record { says = λ t over p. go t over d f (node-is m p) }
     where
-      go : (t : Ty) (over : List ℕ) (x : NodeStep) → OneOf (1 ∷ 2 ∷ 3 ∷ 4 ∷ []) (tag_of the_type x) → NodeIs s t over x → is_unit t ≡ false
-      go t over (node_step.Unit c) e w = absurd (miss (1 ∷ 2 ∷ 3 ∷ 4 ∷ []) 0 tt e)
+      go : (t : Ty) (over : List ℕ) (x : NodeStep) → ((c : Cursor) → x ≡ node_step.Unit c → ⊥) → NodeIs s t over x → is_unit t ≡ false
+      go t over (node_step.Unit c) e w = absurd (e c refl)
       go t over (node_step.Ref k r c) e w = rw w.same
       go t over (node_step.Struct z n c) e w = rw w.same
       go t over (node_step.Bound i c) e w = rw w.same

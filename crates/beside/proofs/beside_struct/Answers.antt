@@ -9,4 +9,4 @@ pub returns-else-name-k : goal.returns-else-name-k
 returns-else-name-k c = rw (c.in-Struct.is, ne_eqb _ _ c.if-name-k.false)
 
 pub returns-in_default : goal.returns-in_default
-returns-in_default c = laws.struct_beside c.args.name c.args.a c.args.other c.in_default.in_default-own.keys2
+returns-in_default c = laws.struct_beside c.args.name c.args.a c.args.other c.in_default.not-Struct

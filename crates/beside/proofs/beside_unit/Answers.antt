@@ -5,4 +5,4 @@ pub returns-in-Unit : goal.returns-in-Unit
 returns-in-Unit c = rw c.in-Unit.is
 
 pub returns-in_default : goal.returns-in_default
-returns-in_default c = laws.unit_beside c.args.a c.args.other c.in_default.in_default-own.keys2
+returns-in_default c = laws.unit_beside c.args.a c.args.other c.in_default.not-Unit

@@ -5,4 +5,4 @@ pub returns-in-Unit : goal.returns-in-Unit
 returns-in-Unit c = laws.unit-there c.type_node.ensures c.in-Unit.is
 
 pub returns-in_default : goal.returns-in_default
-returns-in_default c = laws.unit_other c.type_node.ensures c.in_default.in_default-own.keys2
+returns-in_default c = laws.unit_other c.type_node.ensures c.in_default.not-Unit

@@ -12,4 +12,4 @@ returns-in-Refused c = sym (ap ended (stop _ _ _ (told (byte_says _) c.count.ens
 
 pub returns-in-Byte : goal.returns-in-Byte
 unfolding counted
-returns-in-Byte c = bytes-end _ _ _ c.bytes.result ∙ ap ended (c.bytes.ensures ∙ sym (step _ _ _ (told (byte_says _) c.count.ensures c.in-Byte.is)))
+returns-in-Byte c = bytes-end _ c.in-Byte.next c.in-Byte.n c.bytes.result ∙ ap ended (c.bytes.ensures ∙ sym (step _ _ _ (told (byte_says _) c.count.ensures c.in-Byte.is)))
