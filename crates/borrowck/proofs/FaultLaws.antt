@@ -35,7 +35,7 @@ use Rattle.loans.specs.Loans.{loan_of}
 use Rattle.loans.specs.declared.Loan.{Loan}
 use Rattle.borrowck.specs.Search.{meets, no_loan, nth_loan, FirstIs, FoundIn, nth_access, is_found, FirstIn}
 use Rattle.borrowck.specs.Accesses.{Means, accesses_in, Mean, none, more, AccessesOf}
-use Rattle.borrowck.specs.Scope.{loans_in, is_in, is_in_scope, SomeIn, Gathered}
+use Rattle.borrowck.specs.Scope.{loans_in, is_in, held_loans, SomeIn, Gathered}
 use Rattle.borrowck.specs.Faults.{verdict_of, fault_at, Scoped, hits, Known, Checked}
 use Rattle.borrowck.proofs.FewLaws.{few-at}
 use Rattle.borrowck.proofs.ScopeLaws.{select-holds, scope_split, none-at, same_at, known_at}
@@ -95,8 +95,8 @@ module _ {s table scope : List ℕ} {p : Point} {accs : Accesses} where
     low = let o = g.on l in omega arith
 
     -- what an access conflicts with below the part, and in it
-    both : (j : Job) (x : own.Access) → any (hits j s x) (is_in_scope table scope p 0 part.next) ≡ any (hits j s x) (is_in_scope table scope p 0 from) || any (hits j s x) (loans_in part)
-    both j x = rw (scope_split table scope p from part.next low, g.are) (any_append (hits j s x) (is_in_scope table scope p 0 from) (is_in_scope table scope p from part.next))
+    both : (j : Job) (x : own.Access) → any (hits j s x) (held_loans table scope p 0 part.next) ≡ any (hits j s x) (held_loans table scope p 0 from) || any (hits j s x) (loans_in part)
+    both j x = rw (scope_split table scope p from part.next low, g.are) (any_append (hits j s x) (held_loans table scope p 0 from) (held_loans table scope p from part.next))
 
     fewer : (j : Job) → Known j s table part.next → Known j s table from
     fewer j z i h = z i (omega (arith, low))
@@ -111,8 +111,8 @@ module _ {s table scope : List ℕ} {p : Point} {accs : Accesses} where
       here = λ j z h. both j (nth_access accs.list c.access) ∙ go j z h (dec_lt c.access first);
     }
       where
-        go : (j : Job) → Known j s table part.next → c.access < accs.count → Dec (c.access < first) → any (hits j s (nth_access accs.list c.access)) (is_in_scope table scope p 0 from) || any (hits j s (nth_access accs.list c.access)) (loans_in part) ≡ true
-        go j z h (yes o) = rw (found-any (v.here o) j (shortest j z), v.hit o) (or_true (any (hits j s (nth_access accs.list c.access)) (is_in_scope table scope p 0 from)))
+        go : (j : Job) → Known j s table part.next → c.access < accs.count → Dec (c.access < first) → any (hits j s (nth_access accs.list c.access)) (held_loans table scope p 0 from) || any (hits j s (nth_access accs.list c.access)) (loans_in part) ≡ true
+        go j z h (yes o) = rw (found-any (v.here o) j (shortest j z), v.hit o) (or_true (any (hits j s (nth_access accs.list c.access)) (held_loans table scope p 0 from)))
         go j z h (no o) = let e : c.access ≡ first = omega (arith, v.most) in rw (e, w.here j (fewer j z) (omega arith))
 
   pub checked_all : (count : ℕ) {from first : ℕ} → Checked s table scope p accs from first → from ≡ min count 128 → Checked s table scope p accs (min count 128) first
@@ -185,11 +185,11 @@ module _ {s layout table : List ℕ} {count : ℕ} {scope : List ℕ} {p : Point
           given = in_scope_at t (loans_of (graph_of j)) p
 
           -- of the accesses, as the check has it
-          tested : (n : ℕ) → n < accs.count → some s j given (nth_access (accesses_in accs) n) ≡ any (hits j s (nth_access accs.list n)) (is_in_scope table scope p 0 (min count 128))
+          tested : (n : ℕ) → n < accs.count → some s j given (nth_access (accesses_in accs) n) ≡ any (hits j s (nth_access accs.list n)) (held_loans table scope p 0 (min count 128))
           tested n u =
               let f = z.loans.few in
               let b : min count 128 ≡ count = omega arith in
-              rw (b, get_or-take accs.count accs.list n (nth_access [] 0) u, sym (same_at z)) (any-map (meets j (nth_access accs.list n).depth (nth_access accs.list n).mode (path_of s (nth_access accs.list n).path)) (loan_of s) (is_in_scope table scope p 0 count))
+              rw (b, get_or-take accs.count accs.list n (nth_access [] 0) u, sym (same_at z)) (any-map (meets j (nth_access accs.list n).depth (nth_access accs.list n).mode (path_of s (nth_access accs.list n).path)) (loan_of s) (held_loans table scope p 0 count))
 
           known : Known j s table (min count 128)
           known n u = known_at z n (omega arith)

@@ -23,7 +23,7 @@ use Rattle.loans.specs.Table.{entry_of}
 use Rattle.loans.specs.Loans.{loan_of}
 use Rattle.loans.specs.declared.Loan.{Loan}
 use Rattle.loans.proofs.ListLaws.{count-split, select-append}
-use Rattle.borrowck.specs.Scope.{is_in, is_in_scope, SomeIn, Gathered}
+use Rattle.borrowck.specs.Scope.{is_in, held_loans, SomeIn, Gathered}
 use Rattle.borrowck.specs.Faults.{Scoped, Known}
 
 pub apart : true ≡ false → ⊥
@@ -56,24 +56,24 @@ module _ {A : Type 0} where
 
 module _ (table scope : List ℕ) (p : Point) where
   -- the loans below `to` are those below `from` and those from there on
-  pub scope_split : (from to : ℕ) → from ≤ to → is_in_scope table scope p 0 to ≡ is_in_scope table scope p 0 from ++ is_in_scope table scope p from to
+  pub scope_split : (from to : ℕ) → from ≤ to → held_loans table scope p 0 to ≡ held_loans table scope p 0 from ++ held_loans table scope p from to
   scope_split from to l =
       let e : to - 0 ≡ (from - 0) + (to - from) = omega arith in
       let o : 0 + (from - 0) ≡ from = omega arith in
       ap (λ (n : ℕ). map (entry_of table) (select (is_in scope p) (count_from 0 n))) e
       ∙ select-split (is_in scope p) (entry_of table) 0 (from - 0) (to - from)
-      ∙ ap (λ (a : ℕ). is_in_scope table scope p 0 from ++ map (entry_of table) (select (is_in scope p) (count_from a (to - from)))) o
+      ∙ ap (λ (a : ℕ). held_loans table scope p 0 from ++ map (entry_of table) (select (is_in scope p) (count_from a (to - from)))) o
 
   -- one number more
-  scope_more : (from i : ℕ) → from ≤ i → is_in_scope table scope p from (i + 1) ≡ is_in_scope table scope p from i ++ map (entry_of table) (cond (is_in scope p i) (i ∷ []) [])
+  scope_more : (from i : ℕ) → from ≤ i → held_loans table scope p from (i + 1) ≡ held_loans table scope p from i ++ map (entry_of table) (cond (is_in scope p i) (i ∷ []) [])
   scope_more from i l =
       let e : i + 1 - from ≡ (i - from) + 1 = omega arith in
       let o : from + (i - from) ≡ i = omega arith in
       ap (λ (n : ℕ). map (entry_of table) (select (is_in scope p) (count_from from n))) e
       ∙ select-split (is_in scope p) (entry_of table) from (i - from) 1
-      ∙ ap (λ (a : ℕ). is_in_scope table scope p from i ++ map (entry_of table) (select (is_in scope p) (count_from a 1))) o
+      ∙ ap (λ (a : ℕ). held_loans table scope p from i ++ map (entry_of table) (select (is_in scope p) (count_from a 1))) o
 
-  scope_none : (from : ℕ) → is_in_scope table scope p from from ≡ []
+  scope_none : (from : ℕ) → held_loans table scope p from from ≡ []
   scope_none from = let e : from - from ≡ 0 = omega arith in rw e
 
 -- ---- A part
@@ -85,7 +85,7 @@ pub record Gathering (table : List ℕ) (many : ℕ) (scope : List ℕ) (p : Poi
   pub high : from ≤ many → i ≤ many
   pub most : n ≤ i - from
   pub few : n ≤ 16
-  pub are : take n loans ≡ is_in_scope table scope p from i
+  pub are : take n loans ≡ held_loans table scope p from i
 
 -- the bit of loan i at p, as it is tested
 at-bit : (scope : List ℕ) (p i : ℕ) {b : Bool} → b ≡ has scope (word_bits * (4 * p) + i) → b ≡ is_in scope p i
@@ -107,7 +107,7 @@ module _ {table : List ℕ} {many : ℕ} {scope : List ℕ} {p : Point} {from : 
         high = λ o. omega arith;
         most = omega (arith, g.most, g.low);
         few = g.few;
-        are = rw (scope_more table scope p from i g.low, sym is_in_lem, h, append-nil (is_in_scope table scope p from i)) g.are;
+        are = rw (scope_more table scope p from i g.low, sym is_in_lem, h, append-nil (held_loans table scope p from i)) g.are;
       }
 
       pub gathering_more : {x : Loan} → b ≡ true → x ≡ entry_of table i → (n ≡ 16 → ⊥) → Gathering table many scope p from (i + 1) (n + 1) (set loans n x)
@@ -146,7 +146,7 @@ select-none f a zero h = refl
 select-none f a (suc n) h = rw (h a (omega arith)) (select-none f (suc a) n (λ i l. h i (omega arith)))
 
 module _ {s : List ℕ} {j : Job} {table : List ℕ} {count : ℕ} {scope : List ℕ} {p : Point} {t : Table} (z : Scoped s j table count scope p t) where
-  pub same_at : map (loan_of s) (is_in_scope table scope p 0 count) ≡ in_scope_at t (loans_of (graph_of j)) p
+  pub same_at : map (loan_of s) (held_loans table scope p 0 count) ≡ in_scope_at t (loans_of (graph_of j)) p
   unfolding in_scope_at
   same_at =
       let e : count - 0 ≡ count = omega arith in

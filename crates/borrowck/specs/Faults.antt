@@ -16,7 +16,7 @@ use Rattle.loans.specs.Table.{entry_of}
 use Rattle.loans.specs.Loans.{loan_of, LoansAt}
 use Rattle.loans.specs.declared.Loan.{Loan}
 use Rattle.borrowck.specs.Search.{meets, nth_access}
-use Rattle.borrowck.specs.Scope.{is_in_scope}
+use Rattle.borrowck.specs.Scope.{held_loans}
 use Rattle.borrowck.specs.declared.Access.{Access}
 use Rattle.borrowck.specs.declared.Fault.{Fault}
 use Rattle.borrowck.specs.declared.accesses.Accesses.{Accesses}
@@ -44,8 +44,8 @@ Known j s table n = (i : ℕ) → i < n → ShortestOf j (path_of s (entry_of ta
 -- The answer is the first of the accesses that conflicts with a loan in scope at p of the first n; or there is none.
 pub record Checked (s table scope : List ℕ) (p : Point) (accesses : Accesses) (n r : ℕ) : Type 0 where
   pub most : r ≤ accesses.count
-  pub before : (j : Job) → Known j s table n → (k : ℕ) → k < r → any (hits j s (nth_access accesses.list k)) (is_in_scope table scope p 0 n) ≡ false
-  pub here : (j : Job) → Known j s table n → r < accesses.count → any (hits j s (nth_access accesses.list r)) (is_in_scope table scope p 0 n) ≡ true
+  pub before : (j : Job) → Known j s table n → (k : ℕ) → k < r → any (hits j s (nth_access accesses.list k)) (held_loans table scope p 0 n) ≡ false
+  pub here : (j : Job) → Known j s table n → r < accesses.count → any (hits j s (nth_access accesses.list r)) (held_loans table scope p 0 n) ≡ true
 
 -- The answer is the verdict at point p, which may be past the points of the blocks.
 pub record Judged (s layout : List ℕ) (h : Head) (table : List ℕ) (count : ℕ) (scope : List ℕ) (p : Point) (r : Fault) : Type 0 where

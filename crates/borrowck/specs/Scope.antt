@@ -16,8 +16,8 @@ abbrev pub is_in : List ℕ → Point → ℕ → Bool
 is_in scope p i = has scope (128 * p + i)
 
 -- the loans in scope at p from number `from` on and below `to`
-abbrev pub is_in_scope : List ℕ → List ℕ → Point → ℕ → ℕ → List Loan
-is_in_scope table scope p from to = map (entry_of table) (select (is_in scope p) (count_from from (to - from)))
+abbrev pub held_loans : List ℕ → List ℕ → Point → ℕ → ℕ → List Loan
+held_loans table scope p from to = map (entry_of table) (select (is_in scope p) (count_from from (to - from)))
 
 -- Where the answer is no, no loan is in scope at p.
 pub record SomeIn (scope : List ℕ) (p : Point) (r : Bool) : Type 0 where
@@ -29,4 +29,4 @@ pub record Gathered (table : List ℕ) (many : ℕ) (scope : List ℕ) (p : Poin
   pub few : r.count ≤ 16
   pub most : from ≤ many → r.next ≤ many
   pub on : from < many → from < r.next
-  pub are : loans_in r ≡ is_in_scope table scope p from r.next
+  pub are : loans_in r ≡ held_loans table scope p from r.next

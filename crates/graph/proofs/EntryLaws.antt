@@ -25,6 +25,7 @@ contains-at (x ∷ xs) n h = go (or_cases (eqb n x) (contains xs n) h) (λ w. co
     go : T (eqb n x) ⊎ T (contains xs n) → (T (contains xs n) → (k : ℕ) × (k < length xs) × (get_or xs k 0 ≡ n)) → (k : ℕ) × (k < suc (length xs)) × (get_or (x ∷ xs) k 0 ≡ n)
     go (inl e) r = (0, zero-lt-suc (length xs), sym (eqb→eq n x e))
     go (inr w) r = let k = r w in (suc k.0, suc-le-suc k.1, k.2)
+contains-at [] n h = elim h [ ]
 
 at-contains : (xs : List ℕ) (k : ℕ) → k < length xs → T (contains xs (get_or xs k 0))
 at-contains [] k h = absurd (not-suc-le-zero h)

@@ -19,3 +19,4 @@ pub mod VerdictLaws
 pub mod MeansLaws
 pub mod HolderLaws
 pub mod GuaranteeLaws
+pub mod TablesHold

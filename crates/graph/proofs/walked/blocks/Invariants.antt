@@ -1,0 +1,12 @@
+-- `graph::walked::blocks` meets its contract. Assumes nothing.
+use Rattle.graph.proofs.SearchLaws.{work, roomy_none, roomy_pop}
+use Rattle.graph.proofs.WalkLaws.{Turned, turned_none, turned_more, turned_less, turned_all}
+use Rattle.graph.specs.Search.{state}
+use native.Mathlib.Omega.{arith}
+use Rattle.graph.proofs.walked.blocks.Given as goal
+
+abbrev pub invariant-loop-depth : goal.invariant-loop-depth
+invariant-loop-depth l = Turned l.s l.layout (state l.initial.seen l.initial.stack l.initial.depth) (state l.seen l.stack l.depth)
+
+abbrev pub decreases-loop-depth : goal.decreases-loop-depth
+decreases-loop-depth l = work (state l.seen l.stack l.depth)

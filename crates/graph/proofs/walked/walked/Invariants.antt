@@ -1,0 +1,10 @@
+-- `graph::walked::walked` meets its contract. Assumes nothing.
+use Rattle.graph.proofs.PointLaws.{Pointed, pointed_none, pointed_more, pointed_walked}
+use Prim.Native.Nat.{◌-◌}
+use Rattle.graph.proofs.walked.walked.Given as goal
+
+abbrev pub invariant-loop-b : goal.invariant-loop-b
+invariant-loop-b l = Pointed l.s l.layout l.seen l.head l.b l.p l.words
+
+abbrev pub decreases-loop-b : goal.decreases-loop-b
+decreases-loop-b l = l.head.blocks - l.b

@@ -1,0 +1,15 @@
+-- `refusals::actions::blocks_named` meets its contract. Assumes nothing.
+use Prim.Native.Nat.{◌-◌}
+use native.Mathlib.Omega.{arith}
+use borrow.Author.Tests.{not-true, not-false}
+use Rattle.nll_spec.specs.Syntax.{Job}
+use Rattle.record.specs.Layout.{Layout}
+use Rattle.refusals.proofs.RowLaws.{Testing, testing_start, testing_end, testing_fails, testing_more, blocks-row, sized, row-item}
+use Rattle.refusals.specs.Tests.{block_named}
+use Rattle.refusals.proofs.actions.blocks_named.Given as goal
+
+abbrev pub invariant-loop-i : goal.invariant-loop-i
+invariant-loop-i l = (j : Job) → Layout l.s l.layout l.head j → Testing (block_named j) j.blocks l.i
+
+abbrev pub decreases-loop-i : goal.decreases-loop-i
+decreases-loop-i l = l.head.blocks - l.i
