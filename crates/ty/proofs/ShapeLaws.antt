@@ -6,8 +6,6 @@ use Prim.Native.Nat.{ℕ, suc, ◌-◌, ◌≤◌}
 use native.Mathlib.Omega.{arith}
 use native.Mathlib.Nat.{le_refl, sub-zero}
 use lib.ListN.{drop}
-use types.Run.{OneOf, miss}
-use denote.Enum.Declared.{tag_of}
 use Rattle.nll_spec.specs.Syntax.{Ty, UnitTy, RefTy, Args, RegionArg, TypeArg, BorrowKind as Kind, Region as SomeRegion}
 use Rattle.nll_spec.specs.Decode.{max_nodes}
 use Rattle.nll_spec.specs.Types.{same_kind, head_type, tail_args, type_nodes, arg_nodes}
@@ -21,7 +19,6 @@ use Rattle.repr.specs.declared.BorrowKind.{BorrowKind}
 use Rattle.repr.specs.declared.Region.{Region}
 use Rattle.repr.specs.declared.StructName.{StructName}
 use Rattle.repr.specs.declared.NodeStep.{NodeStep}
-use Rattle.repr.specs.contracts.NodeStep.{the_type}
 use Rattle.repr.specs.declared.NodeStep.TheVariants as node_step
 use Rattle.repr.specs.declared.NodesStep.{NodesStep}
 use Rattle.repr.specs.declared.NodesStep.TheVariants as nodes_step
@@ -231,23 +228,23 @@ module _ {a : List ℕ} {x : ℕ} {b : List ℕ} {y : ℕ} {r : Shape} (v : Type
 -- ---- A type, against a Ref
 
 module _ {a : List ℕ} {x : ℕ} {b : List ℕ} {y : ℕ} {d : NodeStep} (m : NodeSays node a x d) (k : Kind) where
-  pub ref_other : OneOf (0 ∷ 2 ∷ 3 ∷ 4 ∷ []) (tag_of the_type d) → SameAsRef k a x b y false
+  pub ref_other : ((j : BorrowKind) (r : Region) (c : Cursor) → d ≡ node_step.Ref j r c → ⊥) → SameAsRef k a x b y false
   unfolding same_shape
   ref_other f = record { says = λ t u o p q h i. go t u o p.over d f (node-is m p.stands) }
     where
-      go : (t u : Ty) (o : SomeRegion) (over : List ℕ) (n : NodeStep) → OneOf (0 ∷ 2 ∷ 3 ∷ 4 ∷ []) (tag_of the_type n) → NodeIs a t over n → false ≡ same_shape t (RefTy k o u)
+      go : (t u : Ty) (o : SomeRegion) (over : List ℕ) (n : NodeStep) → ((j : BorrowKind) (r : Region) (c : Cursor) → n ≡ node_step.Ref j r c → ⊥) → NodeIs a t over n → false ≡ same_shape t (RefTy k o u)
       go t u o over (node_step.Unit c) e w = rw w.same
-      go t u o over (node_step.Ref j r c) e w = absurd (miss (0 ∷ 2 ∷ 3 ∷ 4 ∷ []) 1 tt e)
+      go t u o over (node_step.Ref j r c) e w = absurd (e j r c refl)
       go t u o over (node_step.Struct z n c) e w = rw w.same
       go t u o over (node_step.Bound i c) e w = rw w.same
       go t u o over (node_step.Refused j) e w = absurd w
 
-  module _ {j : BorrowKind} {o : Region} {c : Cursor} (e : d ≡ node_step.Ref j o c) {same_kind : Bool} (i : same_kind ≡ same_kind (borrow_kind_of j) k) where
-    pub ref_differ : same_kind ≡ false → SameAsRef k a x b y false
+  module _ {j : BorrowKind} {o : Region} {c : Cursor} (e : d ≡ node_step.Ref j o c) {alike : Bool} (i : alike ≡ same_kind (borrow_kind_of j) k) where
+    pub ref_differ : alike ≡ false → SameAsRef k a x b y false
     unfolding same_shape
     ref_differ f = record { says = λ t u r p q h g. let w = on-node m e p.stands in rw (w.same, ← i, f) }
 
-    pub ref_same : {r : Bool} → same_kind ≡ true → SameShape a c.at b y r → SameAsRef k a x b y r
+    pub ref_same : {r : Bool} → alike ≡ true → SameShape a c.at b y r → SameAsRef k a x b y r
     unfolding same_shape type_nodes
     ref_same f v = record {
       says = λ t u r p q h g.

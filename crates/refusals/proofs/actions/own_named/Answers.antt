@@ -5,7 +5,7 @@ pub returns-in-Noop : goal.returns-in-Noop
 returns-in-Noop c = rw c.in-Noop.is
 
 pub returns-in-Init : goal.returns-in-Init
-returns-in-Init c = rw c.in-Init.is c.is_variable_lem.ensures
+returns-in-Init c = rw c.in-Init.is c.is_variable.ensures
 
 pub returns-in-Borrow : goal.returns-in-Borrow
 returns-in-Borrow c = rw (c.in-Borrow.is, c.is_variable-in-Borrow.ensures, c.is_region.ensures, c.is_variable-in-Borrow-2.ensures)

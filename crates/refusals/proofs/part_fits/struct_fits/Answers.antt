@@ -4,4 +4,4 @@ use Rattle.refusals.proofs.FitLaws.{around_fields}
 use Rattle.refusals.proofs.part_fits.struct_fits.Goals as goal
 
 pub returns : goal.returns
-returns c = λ j x w v. fields_tested v (only_test (c.fields_fit.ensures j x.params (around_fields w v)) c.passed.ensures)
+returns c = λ j x w v. fields_tested _ v (only_test (c.fields_fit.ensures j x.params (around_fields w v)) c.passed.ensures)

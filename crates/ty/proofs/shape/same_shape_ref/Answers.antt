@@ -8,4 +8,4 @@ pub returns-else-same_kind : goal.returns-else-same_kind
 returns-else-same_kind c = laws.ref_differ c.type_node.ensures _ c.in-Ref.is c.same_kind.ensures c.if-same_kind.false
 
 pub returns-in_default : goal.returns-in_default
-returns-in_default c = laws.ref_other c.type_node.ensures _ c.in_default.in_default-own.keys2
+returns-in_default c = laws.ref_other c.type_node.ensures _ c.in_default.not-Ref

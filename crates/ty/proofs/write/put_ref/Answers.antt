@@ -11,7 +11,7 @@ pub put_region-requires : goal.put_region-requires
 put_region-requires c = simp length-set (omega arith)
 
 pub shape_of-out : goal.shape_of-out
-shape_of-out c = c.put_region.auto.0 ∙ simp length-set
+shape_of-out c = c.put_region.auto.out ∙ simp length-set
 
 pub returns : goal.returns
 returns c = rw (← c.kind_byte.ensures) (after_two _ _ _ _ _ _ _ c.requires c.put_region.ensures)
