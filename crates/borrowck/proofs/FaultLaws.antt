@@ -65,9 +65,9 @@ any_append f (x ∷ xs) ys = go (f x) (any_append f xs ys)
     go true e = refl
     go false e = e
 
-or_true : (b : Bool) → b || true ≡ true
-or_true true = refl
-or_true false = refl
+or-true : (b : Bool) → b || true ≡ true
+or-true true = refl
+or-true false = refl
 
 module _ {A : Type 0} (f : A → Bool) (d : A) where
   any_at : (xs : List A) (i : ℕ) → i < length xs → f (get_or xs i d) ≡ true → any f xs ≡ true
@@ -112,7 +112,7 @@ module _ {s table scope : List ℕ} {p : Point} {accs : Accesses} where
     }
       where
         go : (j : Job) → Known j s table part.next → c.access < accs.count → Dec (c.access < first) → any (hits j s (nth_access accs.list c.access)) (held_loans table scope p 0 from) || any (hits j s (nth_access accs.list c.access)) (loans_in part) ≡ true
-        go j z h (yes o) = rw (found-any (v.here o) j (shortest j z), v.hit o) (or_true (any (hits j s (nth_access accs.list c.access)) (held_loans table scope p 0 from)))
+        go j z h (yes o) = rw (found-any (v.here o) j (shortest j z), v.hit o) (or-true (any (hits j s (nth_access accs.list c.access)) (held_loans table scope p 0 from)))
         go j z h (no o) = let e : c.access ≡ first = omega (arith, v.most) in rw (e, w.here j (fewer j z) (omega arith))
 
   pub checked_all : (count : ℕ) {from first : ℕ} → Checked s table scope p accs from first → from ≡ min count 128 → Checked s table scope p accs (min count 128) first

@@ -35,9 +35,9 @@ pub touches_says : {s : List ℕ} {loan : Loan} {x : Access} {k : ℕ} {a b : Bo
     → ((j : Job) → ShortestOf j (path_of s loan.path) loan.shortest → b ≡ own_at j s x.depth loan x.path k) → Touches s loan x k (a || b)
 touches_says {s} {loan} {x} {k} {a} {b} lent own = record { says = λ j z. ap (λ (c : Bool). c || b) (lent j) ∙ ap (λ (c : Bool). lent_at j s loan x.path k || c) (own j z) }
 
-or_false : (a b : Bool) → a || b ≡ false → (a ≡ false) × (b ≡ false)
-or_false true b e = (e, absurd (let z : T false = subst T e tt in z))
-or_false false b e = (refl, e)
+or-false : (a b : Bool) → a || b ≡ false → (a ≡ false) × (b ≡ false)
+or-false true b e = (e, absurd (let z : T false = subst T e tt in z))
+or-false false b e = (refl, e)
 
 fails : (b : Bool) → T (not b) → b ≡ false
 fails true h = absurd h
@@ -87,7 +87,7 @@ module _ (s : List ℕ) (loan : Loan) (x : Access) where
       where
         go : (j : Job) → ShortestOf j (path_of s loan.path) loan.shortest → (m : ℕ) → m < k + 1 → Dec (m < k) → (lent_at j s loan x.path m ≡ false) × (own_at j s x.depth loan x.path m ≡ false)
         go j z m h (yes l) = w.before j z m l
-        go j z m h (no l) = let i : m ≡ k = omega arith in rw i (or_false (lent_at j s loan x.path k) (own_at j s x.depth loan x.path k) (sym (touch.says j z) ∙ fails r e))
+        go j z m h (no l) = let i : m ≡ k = omega arith in rw i (or-false (lent_at j s loan x.path k) (own_at j s x.depth loan x.path k) (sym (touch.says j z) ∙ fails r e))
 
     -- a prefix that conflicts
     touched : T r → (j : Job) → ShortestOf j (path_of s loan.path) loan.shortest → is_prefix j (path_of s loan.path) (path_of s x.path) || near j x.depth (path_of s x.path) (path_of s loan.path) ≡ true
@@ -97,11 +97,11 @@ module _ (s : List ℕ) (loan : Loan) (x : Access) where
         go true true u v h = refl
         go true false true v h = h
         go true false false v h = absurd (let i : T false = subst T (sym h) tt in i)
-        go false b u true h = or_true b
+        go false b u true h = or-true b
           where
-            or_true : (c : Bool) → c || true ≡ true
-            or_true true = refl
-            or_true false = refl
+            or-true : (c : Bool) → c || true ≡ true
+            or-true true = refl
+            or-true false = refl
         go false b true false h = absurd (let i : T false = subst T (sym h) tt in i)
         go false b false false h = absurd (let i : T false = subst T (sym h) tt in i)
 

@@ -2,7 +2,7 @@
 -- Assumes nothing.
 use mathlib.Core.Path.{◌≡◌, refl, sym, ap, ◌∙◌, subst}
 use mathlib.Core.Logic.{◌⊎◌, inl, inr, ⊎_elim}
-use mathlib.Core.Bool.{Bool, true, false, not, ◌&&◌, ◌||◌, and-eq-true_iff, or_true, cond, true≢false}
+use mathlib.Core.Bool.{Bool, true, false, not, ◌&&◌, ◌||◌, and-eq-true_iff, or-true, cond, true≢false}
 use mathlib.Core.List.{List}
 use Prim.Native.Nat.{ℕ, zero, suc, ◌+◌, ◌-◌, ◌*◌, ◌≤◌, ◌<◌}
 use native.Mathlib.Nat.{not-suc-le-zero}
@@ -380,7 +380,7 @@ module _ (chain first succ : List ℕ) (h : ℕ → Bool) (p : ℕ) (small : (s 
         to : (x : ℕ) → is_leaf chain first x ≡ true → (has ps x ≡ true) ⊎ ((q ≤ x) × (x ≤ e)) → (b || is_leaf chain first e) ≡ true
         to x i (inl m) = rw (g.exits.exits x m i)
         to x i (inr w) = elim (ℕ_discrete x e) [
-          | yes z ↦ ap (λ (c : Bool). b || c) (subst (λ (y : ℕ). is_leaf chain first y ≡ true) z i) ∙ or_true b
+          | yes z ↦ ap (λ (c : Bool). b || c) (subst (λ (y : ℕ). is_leaf chain first y ≡ true) z i) ∙ or-true b
           | no z ↦ absurd (leaf_unlinked chain first x (al.linked x w.0 (omega (arith, w.1, z))) i)
         ]
 
@@ -450,7 +450,7 @@ module _ (chain first succ : List ℕ) (h : ℕ → Bool) (p : ℕ) (small : (s 
         sound = λ x m. down (g.walked.sound x m);
         complete = λ x r. all r;
         leaf = λ k. let w = g.exits.leaf k in (w.0, down (g.walked.sound w.0 w.1), leb-true _ _ ((and-eq-true_iff (not (has chain w.0)) _).0 w.2).1);
-        exits = λ x r l. g.exits.exits x (all r) (is_leaf x l (has chain x) refl);
+        exits = λ x r l. g.exits.exits x (all r) (leaf_ends x l (has chain x) refl);
       }
     where
       marked-put : (x : ℕ) → Marked st.seen x → has ps x ≡ true
@@ -472,9 +472,9 @@ module _ (chain first succ : List ℕ) (h : ℕ → Bool) (p : ℕ) (small : (s 
       all (here e) = marked-put p g.start
       all (step {q = x} {s = s} r e k) = ⊎_elim (marked-put s) (λ m. m) (g.walked.closed x (all r) s (steps (has chain x) x s refl e) k)
 
-      is_leaf : (x : ℕ) → Leaf first x → (c : Bool) → has chain x ≡ c → is_leaf chain first x ≡ true
-      is_leaf x l true e = let w = (ch.links x e).next in absurd (omega (arith, w.1, w.2, l, up_to_le (row_end first x)))
-      is_leaf x l false e = rw (e, le-leb (row_end first x) (row_start first x) l)
+      leaf_ends : (x : ℕ) → Leaf first x → (c : Bool) → has chain x ≡ c → is_leaf chain first x ≡ true
+      leaf_ends x l true e = let w = (ch.links x e).next in absurd (omega (arith, w.1, w.2, l, up_to_le (row_end first x)))
+      leaf_ends x l false e = rw (e, le-leb (row_end first x) (row_start first x) l)
 
   -- a walk that goes along the chain to its end reaches the points along it
   pub straight : (ps : List ℕ) (e : ℕ) (t : Bool) → h p ≡ true → Along chain h (with_bit (replicate 32 0) p) ps p e × Stopped chain h ps e → t ≡ has chain (word_bits * 0 + e) → t ≡ true

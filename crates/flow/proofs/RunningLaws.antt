@@ -1,7 +1,7 @@
 -- Edges are run one after the other: the laws of `Ran`. Assumes nothing.
 use mathlib.Core.Path.{◌≡◌, refl, sym, ap, ap₂, ◌∙◌, subst}
 use mathlib.Core.Logic.{◌⊎◌, inl, inr}
-use mathlib.Core.Bool.{Bool, true, false, not, ◌&&◌, ◌||◌, or_true, or_false, true≢false}
+use mathlib.Core.Bool.{Bool, true, false, not, ◌&&◌, ◌||◌, or-true, or-false, true≢false}
 use mathlib.Core.List.{List, [], ◌∷◌}
 use Prim.Native.Nat.{ℕ, zero, suc, ◌+◌, ◌-◌, ◌*◌, ◌/◌, ◌%◌, ◌^◌, ◌≤◌, ◌<◌}
 use native.Mathlib.Omega.{arith}
@@ -112,7 +112,7 @@ module _ (pass ws : List ℕ) (v w : ℕ) where
         closed = λ e x y b t l hv hp.
             let k : has ws (word_bits * v + b) ≡ true = rw (← t.0) hv in
             let m : has pass (word_bits * w + b) ≡ true = rw (← t.1) hp in
-            rw t.1 (ap (λ (l : List ℕ). has l (word_bits * w + b)) (sym (grows-not ws w (shared ∷ []) 0 1 e)) ∙ has-put h b l ∙ ap₂ (λ (x y : Bool). has ws (word_bits * w + b) || (x && y)) k m ∙ or_true (has ws (word_bits * w + b)));
+            rw t.1 (ap (λ (l : List ℕ). has l (word_bits * w + b)) (sym (grows-not ws w (shared ∷ []) 0 1 e)) ∙ has-put h b l ∙ ap₂ (λ (x y : Bool). has ws (word_bits * w + b) || (x && y)) k m ∙ or-true (has ws (word_bits * w + b)));
         grew = put-grew fw fv h;
       }
 
@@ -187,8 +187,8 @@ ran_then {E} {F} {G} {pass} {ws} {u} {x} r s a c e f g = go r s a c
     go true s a c =
         record {
           since = both a c;
-          same = λ q. absurd (true≢false (sym (or_true s) ∙ q));
-          closed = λ q. absurd (true≢false (sym (or_true s) ∙ q));
+          same = λ q. absurd (true≢false (sym (or-true s) ∙ q));
+          closed = λ q. absurd (true≢false (sym (or-true s) ∙ q));
           grew = λ q. let n = a.grew refl in (n.0, n.1, c.since.kept n.0 n.2);
         }
 
@@ -244,7 +244,7 @@ module _ (pass ws : List ℕ) (p q : ℕ) (size : 4 * q + 4 ≤ length ws) where
           let y : 4 * q + 0 ≡ 4 * q = omega arith in
           let x : 4 * p + 0 ≡ 4 * p = omega arith in
           let d : Done pass ws p q 1 (set ws (4 * q + 0) c₀) (not (eqb (get_or ws (4 * q + 0) 0) c₀) || false) = done_more 0 (omega arith) done_none (rw (y, x) m₀) in
-          subst (λ (z : ℕ). Done pass ws p q 1 (set ws z c₀) (not (eqb (get_or ws z 0) c₀))) y (subst (Done pass ws p q 1 (set ws (4 * q + 0) c₀)) (or_false (not (eqb (get_or ws (4 * q + 0) 0) c₀))) d)
+          subst (λ (z : ℕ). Done pass ws p q 1 (set ws z c₀) (not (eqb (get_or ws z 0) c₀))) y (subst (Done pass ws p q 1 (set ws (4 * q + 0) c₀)) (or-false (not (eqb (get_or ws (4 * q + 0) 0) c₀))) d)
 
 module _ (d : Direction) (code p s q : ℕ) (e : q ≡ s) where
   pub turned_out : (pass ws : List ℕ) → code ≤ q → Ran (Turned d code p s) pass ws ws false

@@ -1,6 +1,6 @@
 -- From the points' sets to the variables' rows. Assumes nothing.
 use mathlib.Core.Path.{◌≡◌, refl, sym, ap, ap₂, ◌∙◌}
-use mathlib.Core.Bool.{Bool, true, false, ◌&&◌, ◌||◌, and-true, and-false, or_true, or_false}
+use mathlib.Core.Bool.{Bool, true, false, ◌&&◌, ◌||◌, and-true, and-false, or-true, or-false}
 use mathlib.Core.List.{List}
 use Prim.Native.Nat.{ℕ, ◌+◌, ◌-◌, ◌*◌, ◌/◌, ◌%◌, ◌^◌, ◌≤◌, ◌<◌}
 use native.Mathlib.Omega.{arith}
@@ -50,13 +50,13 @@ module _ (w n x : ℕ) (ws : List ℕ) (size : 64 * w ≤ length ws) (hn : n < 6
       go (yes e) (yes k) =
           let z : row_bit w v p ≡ row_bit w n x = rw (e, k) in
           ap (has (with_bit ws (row_bit w n x))) z ∙ has_with ws (row_bit w n x) (omega (arith, row_room w n 64 hn))
-          ∙ sym (ap₂ (λ (a b : Bool). has ws (row_bit w v p) || (a && b)) (eq-eqb p x e) (eq-eqb v n k) ∙ or_true (has ws (row_bit w v p)))
+          ∙ sym (ap₂ (λ (a b : Bool). has ws (row_bit w v p) || (a && b)) (eq-eqb p x e) (eq-eqb v n k) ∙ or-true (has ws (row_bit w v p)))
       go (yes e) (no k) =
           has_with_other ws (row_bit w n x) (row_bit w v p) (λ z. k (same_row_lem w v n p x l hx z))
-          ∙ sym (ap₂ (λ (a b : Bool). has ws (row_bit w v p) || (a && b)) (eq-eqb p x e) (ne_eqb v n k) ∙ or_false (has ws (row_bit w v p)))
+          ∙ sym (ap₂ (λ (a b : Bool). has ws (row_bit w v p) || (a && b)) (eq-eqb p x e) (ne_eqb v n k) ∙ or-false (has ws (row_bit w v p)))
       go (no e) d =
           has_with_other ws (row_bit w n x) (row_bit w v p) (λ z. e (same_point w v n p x l hx z))
-          ∙ sym (ap (λ (a : Bool). has ws (row_bit w v p) || (a && eqb v n)) (ne_eqb p x e) ∙ or_false (has ws (row_bit w v p)))
+          ∙ sym (ap (λ (a : Bool). has ws (row_bit w v p) || (a && eqb v n)) (ne_eqb p x e) ∙ or-false (has ws (row_bit w v p)))
 
 -- ---- The rows of one point
 
@@ -66,7 +66,7 @@ module _ (w : ℕ) (f : ℕ → Bool) (x : ℕ) (rows : List ℕ) where
   column_none n h =
       record {
         size = refl;
-        bits = λ v p k. sym (ap (λ (c : Bool). has rows (row_bit w v p) || (eqb p x && c)) (none v (dec_lt v n)) ∙ ap (λ (c : Bool). has rows (row_bit w v p) || c) (and-false (eqb p x)) ∙ or_false (has rows (row_bit w v p)));
+        bits = λ v p k. sym (ap (λ (c : Bool). has rows (row_bit w v p) || (eqb p x && c)) (none v (dec_lt v n)) ∙ ap (λ (c : Bool). has rows (row_bit w v p) || c) (and-false (eqb p x)) ∙ or-false (has rows (row_bit w v p)));
       }
     where
       none : (v : ℕ) → Dec (v < n) → (ltb v n && f v) ≡ false
@@ -93,7 +93,7 @@ module _ (w : ℕ) (f : ℕ → Bool) (x : ℕ) (rows : List ℕ) where
         record {
           size = ap length q ∙ g.size;
           bits = λ v p k.
-              ap (λ (l : List ℕ). has l (row_bit w v p)) q ∙ sym (ap (λ (c : Bool). has ws (row_bit w v p) || c) (and-false (eqb p x)) ∙ or_false (has ws (row_bit w v p)))
+              ap (λ (l : List ℕ). has l (row_bit w v p)) q ∙ sym (ap (λ (c : Bool). has ws (row_bit w v p) || c) (and-false (eqb p x)) ∙ or-false (has ws (row_bit w v p)))
               ∙ more v p k (ap (λ (c : Bool). eqb v n && c) (sym is ∙ e) ∙ and-false (eqb v n));
         }
 
@@ -152,7 +152,7 @@ module _ (sets : List ℕ) (x from : ℕ) (part : from % 32 ≡ 0) where
       where
         same : (v : ℕ) → Dec (v < 32) → Dec (v < many) → ((ltb v 32 && in_word low 0 v) || (ltb v many && in_word high 32 v)) ≡ (ltb v many && in_set sets x from v)
         same v (yes a) d =
-            ap₂ (λ (b c : Bool). (b && in_word low 0 v) || c) (lt-ltb v 32 a) (ap (λ (c : Bool). ltb v many && c) (before_word high 32 v a) ∙ and-false (ltb v many)) ∙ or_false (in_word low 0 v) ∙ low_bit v a
+            ap₂ (λ (b c : Bool). (b && in_word low 0 v) || c) (lt-ltb v 32 a) (ap (λ (c : Bool). ltb v many && c) (before_word high 32 v a) ∙ and-false (ltb v many)) ∙ or-false (in_word low 0 v) ∙ low_bit v a
             ∙ sym (ap (λ (c : Bool). c && in_set sets x from v) (lt-ltb v many (omega arith)))
         same v (no b) (yes d) =
             ap (λ (c : Bool). (c && in_word low 0 v) || (ltb v many && in_word high 32 v)) (le-ltb v 32 (omega (arith, b)))
@@ -193,7 +193,7 @@ module _ (w many from : ℕ) (small : many ≤ 64) (walked sets : List ℕ) wher
         record {
           bits = λ v p h k.
               ap (λ (l : List ℕ). has l (row_bit w v p)) q ∙ g.bits v p h k
-              ∙ sym (ap (λ (a : Bool). (ltb p n && (has walked p && has sets (bit_at p (from + v)))) || (eqb p n && a)) (said v e) ∙ ap (λ (a : Bool). (ltb p n && (has walked p && has sets (bit_at p (from + v)))) || a) (and-false (eqb p n)) ∙ or_false (ltb p n && (has walked p && has sets (bit_at p (from + v)))))
+              ∙ sym (ap (λ (a : Bool). (ltb p n && (has walked p && has sets (bit_at p (from + v)))) || (eqb p n && a)) (said v e) ∙ ap (λ (a : Bool). (ltb p n && (has walked p && has sets (bit_at p (from + v)))) || a) (and-false (eqb p n)) ∙ or-false (ltb p n && (has walked p && has sets (bit_at p (from + v)))))
               ∙ one_more (λ q. has walked q && has sets (bit_at q (from + v))) p n;
         }
 

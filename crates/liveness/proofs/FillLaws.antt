@@ -1,6 +1,6 @@
 -- The points' sets, filled one by one. Assumes nothing.
 use mathlib.Core.Path.{◌≡◌, refl, sym, ap, ap₂, subst, ◌∙◌}
-use mathlib.Core.Bool.{Bool, true, false, not, ◌&&◌, ◌||◌, or_false}
+use mathlib.Core.Bool.{Bool, true, false, not, ◌&&◌, ◌||◌, or-false}
 use mathlib.Core.List.{List}
 use Prim.Native.Nat.{ℕ, ◌+◌, ◌*◌, ◌/◌, ◌%◌, ◌^◌, ◌≤◌, ◌<◌}
 use native.Mathlib.Omega.{arith}
@@ -38,7 +38,7 @@ one_more f p x = go (ℕ_discrete p x) (dec_lt p x)
   where
     go : Dec (p ≡ x) → Dec (p < x) → ((ltb p x && f p) || (eqb p x && f x)) ≡ (ltb p (x + 1) && f p)
     go (yes e) d = ap₂ (λ (a b : Bool). (a && f p) || (b && f x)) (le-ltb p x (omega arith)) (eq-eqb p x e) ∙ ap f (sym e) ∙ sym (ap (λ (a : Bool). a && f p) (lt-ltb p (x + 1) (omega arith)))
-    go (no n) (yes l) = ap₂ (λ (a b : Bool). (a && f p) || (b && f x)) (lt-ltb p x l) (ne_eqb p x n) ∙ or_false (f p) ∙ sym (ap (λ (a : Bool). a && f p) (lt-ltb p (x + 1) (omega arith)))
+    go (no n) (yes l) = ap₂ (λ (a b : Bool). (a && f p) || (b && f x)) (lt-ltb p x l) (ne_eqb p x n) ∙ or-false (f p) ∙ sym (ap (λ (a : Bool). a && f p) (lt-ltb p (x + 1) (omega arith)))
     go (no n) (no l) = ap₂ (λ (a b : Bool). (a && f p) || (b && f x)) (le-ltb p x (omega (arith, l))) (ne_eqb p x n) ∙ sym (ap (λ (a : Bool). a && f p) (le-ltb p (x + 1) (omega (arith, l, n))))
 
 not_or : (a b : Bool) → (not a && not b) ≡ not (a || b)

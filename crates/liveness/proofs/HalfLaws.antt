@@ -1,6 +1,6 @@
 -- Numbers of variables in the halves of a point's set, put in and taken out. Assumes nothing.
 use mathlib.Core.Path.{◌≡◌, refl, sym, ap, ap₂, ◌∙◌}
-use mathlib.Core.Bool.{Bool, true, false, not, ◌&&◌, ◌||◌, and-true, and-false, or_true, or_false, or_assoc, and-or_distrib_left}
+use mathlib.Core.Bool.{Bool, true, false, not, ◌&&◌, ◌||◌, and-true, and-false, or-true, or-false, or_assoc, and-or_distrib_left}
 use mathlib.Core.List.{List, [], ◌∷◌, ◌++◌}
 use Prim.Native.Nat.{ℕ, ◌+◌, ◌-◌, ◌*◌, ◌≤◌, ◌<◌}
 use native.Mathlib.Omega.{arith}
@@ -57,7 +57,7 @@ half_one from v b h = go (dec_lt b from) (dec_lt b (from + 64))
         at = omega (arith, l)
 
         here : in_half from (v ∷ []) b ≡ eqb k v
-        here = ap (in_half from (v ∷ [])) (sym at) ∙ half_at from (v ∷ []) k (omega arith) ∙ or_false (eqb k v)
+        here = ap (in_half from (v ∷ [])) (sym at) ∙ half_at from (v ∷ []) k (omega arith) ∙ or-false (eqb k v)
 
         same : Dec (b ≡ from + v) → eqb b (from + v) ≡ in_half from (v ∷ []) b
         same (yes e) = eq-eqb b (from + v) e ∙ sym (here ∙ eq-eqb k v (omega arith))
@@ -72,7 +72,7 @@ half_large from v b h = sym (go (dec_lt b (from + 64)))
 
 -- the number v of a used variable, and the number 64 + v of a dropped one
 pub first_half : (us ds : List ℕ) (v : ℕ) → v < 64 → (in_half 0 us (0 + v) || in_half 64 ds (0 + v)) ≡ contains us v
-first_half us ds v h = ap₂ (λ (c d : Bool). c || d) (half_at 0 us v h) (half_before 64 ds (0 + v) (omega arith)) ∙ or_false (contains us v)
+first_half us ds v h = ap₂ (λ (c d : Bool). c || d) (half_at 0 us v h) (half_before 64 ds (0 + v) (omega arith)) ∙ or-false (contains us v)
 
 pub second_half : (us ds : List ℕ) (v : ℕ) → v < 64 → (in_half 0 us (64 + v) || in_half 64 ds (64 + v)) ≡ contains ds v
 second_half us ds v h = ap₂ (λ (c d : Bool). c || d) (half_past 0 us (64 + v) (omega arith)) (half_at 64 ds v h)
@@ -95,7 +95,7 @@ module _ (x : ℕ) where
   added_as {ws = ws} a e = record { bits = λ p b m. a.bits p b m ∙ ap (λ (c : Bool). has ws (bit_at p b) || (eqb p x && c)) (e b) }
 
   pub added_none : {f : ℕ → Bool} (ws : List ℕ) → ((b : ℕ) → false ≡ f b) → Added x f ws ws
-  added_none {f} ws e = added_as {f = λ b. false} (record { bits = λ p b m. sym (ap (λ (c : Bool). has ws (bit_at p b) || c) (and-false (eqb p x)) ∙ or_false (has ws (bit_at p b))) }) e
+  added_none {f} ws e = added_as {f = λ b. false} (record { bits = λ p b m. sym (ap (λ (c : Bool). has ws (bit_at p b) || c) (and-false (eqb p x)) ∙ or-false (has ws (bit_at p b))) }) e
 
   pub added_then : {f g : ℕ → Bool} {ws u w : List ℕ} → Added x f ws u → Added x g u w → Added x (λ b. f b || g b) ws w
   added_then {f} {g} {ws} a c =
@@ -128,9 +128,9 @@ module _ (x n : ℕ) (hn : n < 128) where
     where
       go : (p b : ℕ) → b < 128 → Dec (bit_at p b ≡ bit_at x n) → has (with_bit ws (bit_at x n)) (bit_at p b) ≡ (has ws (bit_at p b) || (eqb p x && eqb b n))
       go p b m (yes e) =
-          ap (has (with_bit ws (bit_at x n))) e ∙ has_with ws (bit_at x n) (omega arith) ∙ sym (ap (λ (c : Bool). has ws (bit_at p b) || c) (together p b m e) ∙ or_true (has ws (bit_at p b)))
+          ap (has (with_bit ws (bit_at x n))) e ∙ has_with ws (bit_at x n) (omega arith) ∙ sym (ap (λ (c : Bool). has ws (bit_at p b) || c) (together p b m e) ∙ or-true (has ws (bit_at p b)))
       go p b m (no e) =
-          has_with_other ws (bit_at x n) (bit_at p b) e ∙ sym (ap (λ (c : Bool). has ws (bit_at p b) || c) (apart p b m (ℕ_discrete p x) (ℕ_discrete b n) e) ∙ or_false (has ws (bit_at p b)))
+          has_with_other ws (bit_at x n) (bit_at p b) e ∙ sym (ap (λ (c : Bool). has ws (bit_at p b) || c) (apart p b m (ℕ_discrete p x) (ℕ_discrete b n) e) ∙ or-false (has ws (bit_at p b)))
 
   removed_one : (ws : List ℕ) → Removed x (λ b. eqb b n) ws (without_bit ws (bit_at x n))
   removed_one ws = record { bits = λ p b m. go p b m (ℕ_discrete (bit_at p b) (bit_at x n)) }

@@ -1,6 +1,6 @@
 -- What one action puts into its point's set, and takes out. Assumes nothing.
 use mathlib.Core.Path.{◌≡◌, refl, sym, ap, ap₂, subst, ◌∙◌}
-use mathlib.Core.Bool.{Bool, true, false, ◌||◌, or_false}
+use mathlib.Core.Bool.{Bool, true, false, ◌||◌, or-false}
 use mathlib.Core.List.{List, [], ◌∷◌, map}
 use Prim.Native.Nat.{ℕ, zero, suc, ◌-◌, ◌<◌}
 use native.Mathlib.Omega.{arith}
@@ -109,7 +109,7 @@ module _ (x : ℕ) (b : syntax.Action) {ws : List ℕ} where
   quiet e f = added_none x ws (λ n. rw (e, f) (ap₂ (λ (c d : Bool). c || d) (half_none 0 n) (half_none 64 n)))
 
   spending : {u vs : List ℕ} → uses b ≡ vs → drops b ≡ [] → Added x (in_half 0 vs) ws u → Added x (needed_by b) ws u
-  spending {u} {vs} e f a = added_as x a (λ n. rw (e, f) (sym (or_false (in_half 0 vs n)) ∙ ap (λ (c : Bool). in_half 0 vs n || c) (half_none 64 n)))
+  spending {u} {vs} e f a = added_as x a (λ n. rw (e, f) (sym (or-false (in_half 0 vs n)) ∙ ap (λ (c : Bool). in_half 0 vs n || c) (half_none 64 n)))
 
   disposing : {u vs : List ℕ} → uses b ≡ [] → drops b ≡ vs → Added x (in_half 64 vs) ws u → Added x (needed_by b) ws u
   disposing {u} {vs} e f a = added_as x a (λ n. rw (e, f) (ap (λ (c : Bool). c || in_half 64 vs n) (half_none 0 n)))

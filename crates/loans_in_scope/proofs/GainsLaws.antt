@@ -1,7 +1,7 @@
 -- Numbers that come to sets of points, one after the other: the laws of `Gains`. Assumes nothing.
 use mathlib.Core.Path.{◌≡◌, refl, sym, ap, ap₂, ◌∙◌, subst}
 use mathlib.Core.Logic.{◌⊎◌, inl, inr}
-use mathlib.Core.Bool.{Bool, true, false, ◌&&◌, ◌||◌, or_true, true≢false}
+use mathlib.Core.Bool.{Bool, true, false, ◌&&◌, ◌||◌, or-true, true≢false}
 use mathlib.Core.List.{List}
 use Prim.Native.Nat.{ℕ, ◌+◌, ◌-◌, ◌*◌, ◌/◌, ◌%◌, ◌^◌, ◌≤◌, ◌<◌}
 use native.Mathlib.Omega.{arith}
@@ -195,7 +195,7 @@ module _ (ws from : List ℕ) (code p q : ℕ) where
       record {
         as_long = length-joined ws (4 * q) from (4 * p) 4;
         old = λ x i n h. old x i n h (ℕ_discrete x q);
-        new = λ x i n e. rw e.1 (here i n ∙ ap (λ (b : Bool). has ws (bit_at q i) || b) e.2 ∙ or_true (has ws (bit_at q i)));
+        new = λ x i n e. rw e.1 (here i n ∙ ap (λ (b : Bool). has ws (bit_at q i) || b) e.2 ∙ or-true (has ws (bit_at q i)));
         only = λ x i n h. only x i n h (ℕ_discrete x q);
       }
     where

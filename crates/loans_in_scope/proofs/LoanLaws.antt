@@ -1,7 +1,7 @@
 -- A loan at the point where it starts and at those of its region, by the table of loans and by the job. Assumes nothing.
 use mathlib.Core.Path.{◌≡◌, refl, sym, ap, ◌∙◌, subst}
 use mathlib.Core.Logic.{◌⊎◌, inl, inr}
-use mathlib.Core.Bool.{Bool, true, false, not, ◌&&◌, or_false}
+use mathlib.Core.Bool.{Bool, true, false, not, ◌&&◌, or-false}
 use mathlib.Core.List.{List}
 use Prim.Native.Nat.{ℕ, ◌+◌, ◌-◌, ◌*◌, ◌/◌, ◌%◌, ◌^◌, ◌≤◌, ◌<◌, min}
 use native.Mathlib.Nat.{mul-le-mul_right}
@@ -122,7 +122,7 @@ killed-none s e loan j = rw e
 
 pub killed-at : (s : List ℕ) {d : Overwritten} {q : Path} → d ≡ At q → (loan : Loan) {r : Bool} → ((j : Job) → r ≡ is_prefix j (path_of s q) (path_of s loan.path)) → (j : Job)
     → r ≡ killed j (paths_of s d) (loan_of s loan)
-killed-at s {d} {q} e loan h j = h j ∙ sym (or_false (is_prefix j (path_of s q) (path_of s loan.path))) ∙ ap (λ (x : Overwritten). killed j (paths_of s x) (loan_of s loan)) (sym e)
+killed-at s {d} {q} e loan h j = h j ∙ sym (or-false (is_prefix j (path_of s q) (path_of s loan.path))) ∙ ap (λ (x : Overwritten). killed j (paths_of s x) (loan_of s loan)) (sym e)
 
 -- ---- The points of a region
 

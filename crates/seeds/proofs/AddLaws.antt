@@ -1,6 +1,6 @@
 -- Numbers put into words one after the other. Assumes nothing.
 use mathlib.Core.Path.{◌≡◌, refl, sym, ap, ap₂, ◌∙◌}
-use mathlib.Core.Bool.{Bool, ◌||◌, or_assoc, or_true, or_false}
+use mathlib.Core.Bool.{Bool, ◌||◌, or_assoc, or-true, or-false}
 use mathlib.Core.List.{List, [], ◌∷◌, ◌++◌}
 use Prim.Native.Nat.{ℕ, ◌+◌, ◌-◌, ◌*◌, ◌/◌, ◌<◌}
 use native.Mathlib.Omega.{arith}
@@ -36,11 +36,11 @@ pub has_one : (ws : List ℕ) (j i : ℕ) → i / word_bits < length ws → has 
 has_one ws j i h = go (ℕ_discrete i j)
   where
     go : Dec (i ≡ j) → has (with_bit ws j) i ≡ (has ws i || eqb i j)
-    go (yes e) = rw (eq-eqb i j e, e) (has_with ws j (rw e at h) ∙ sym (or_true (has ws j)))
-    go (no n) = has_with_other ws j i n ∙ sym (rw (ne_eqb i j n) (or_false (has ws i)))
+    go (yes e) = rw (eq-eqb i j e, e) (has_with ws j (rw e at h) ∙ sym (or-true (has ws j)))
+    go (no n) = has_with_other ws j i n ∙ sym (rw (ne_eqb i j n) (or-false (has ws i)))
 
 pub has_add : (ws : List ℕ) (s : ℕ) (xs : List ℕ) (i : ℕ) → i / word_bits < length ws → has (add_all ws s xs) i ≡ (has ws i || any (λ x. eqb i (word_bits * s + x)) xs)
-has_add ws s [] i h = sym (or_false (has ws i))
+has_add ws s [] i h = sym (or-false (has ws i))
 has_add ws s (x ∷ xs) i h =
     has_add (with_bit ws (word_bits * s + x)) s xs i (rw length_with h)
     ∙ ap (λ (b : Bool). b || any (λ x. eqb i (word_bits * s + x)) xs) (has_one ws (word_bits * s + x) i h)

@@ -1,7 +1,7 @@
 -- The rows of declared regions are closed: row k is put into each row that has k, for each k. Assumes nothing.
 use mathlib.Core.Path.{◌≡◌, refl, sym, ap, ap₂, subst, ◌∙◌}
 use mathlib.Core.Logic.{◌⊎◌, inl, inr}
-use mathlib.Core.Bool.{Bool, true, false, ◌&&◌, ◌||◌, cond, or_true, or_false}
+use mathlib.Core.Bool.{Bool, true, false, ◌&&◌, ◌||◌, cond, or-true, or-false}
 use mathlib.Core.List.{List, [], ◌∷◌}
 use Prim.Native.Nat.{ℕ, zero, suc, ◌+◌, ◌*◌, ◌≤◌, ◌<◌}
 use native.Mathlib.Omega.{arith}
@@ -72,7 +72,7 @@ words-first : (r k : ℕ) → read_first r k 1 ≡ true
 words-first r k = go (dec_lt k r)
   where
     go : Dec (k < r) → read_first r k 1 ≡ true
-    go (yes l) = rw (le-leb (k + 1) r (omega arith)) (or_true (leb r k))
+    go (yes l) = rw (le-leb (k + 1) r (omega arith)) (or-true (leb r k))
     go (no l) = rw (le-leb r k (omega arith))
 
 module _ (ws : List ℕ) (r k : ℕ) where
@@ -81,7 +81,7 @@ module _ (ws : List ℕ) (r k : ℕ) where
     where
       go : (b : Bool) → has (cond b (joined_within ws r k 1) ws) (word_bits * r + e) ≡ (has ws (word_bits * r + e) || b && has ws (word_bits * k + e))
       go true = has_within ws r k 1 (words-first r k) (omega arith) (omega arith) e (omega arith)
-      go false = sym (or_false (has ws (word_bits * r + e)))
+      go false = sym (or-false (has ws (word_bits * r + e)))
 
   linked_other : (m e : ℕ) → (m ≡ r → ⊥) → e < word_bits → has (linked ws r k) (word_bits * m + e) ≡ has ws (word_bits * m + e)
   linked_other m e ne he = cond_list (λ (l : List ℕ). has l (word_bits * m + e) ≡ has ws (word_bits * m + e)) (has ws (word_bits * r + k)) (joined_within ws r k 1) ws
@@ -195,7 +195,7 @@ module _ (j : Job) (valid : T (outlived_named j)) (few : length j.outlives ≤ 1
       go r e hr he (no q) =
           has_add (with_bit ws (word_bits * i + i)) i xs (word_bits * r + e) (omega (arith, room))
           ∙ ap₂ (λ (a b : Bool). a || b) (has_with_other ws (word_bits * i + i) (word_bits * r + e) (λ k. q (omega arith)) ∙ w.bits r e hr he) (none_other r i e xs q he (small i l))
-          ∙ or_false (ltb r i && (eqb e r || contains (get_or j.outlives r []) e))
+          ∙ or-false (ltb r i && (eqb e r || contains (get_or j.outlives r []) e))
           ∙ ap (λ (b : Bool). b && (eqb e r || contains (get_or j.outlives r []) e)) (less r q (dec_lt r i))
 
   -- ---- The closure

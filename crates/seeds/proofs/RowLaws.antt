@@ -1,7 +1,7 @@
 -- Points that are put into rows of words, step by step. Assumes nothing.
 use mathlib.Core.Path.{◌≡◌, refl, sym, ap, ap₂, subst, ◌∙◌}
 use mathlib.Core.Logic.{◌⊎◌, inr, ⊎_elim}
-use mathlib.Core.Bool.{Bool, true, false, ◌&&◌, ◌||◌, cond, or_false, or_assoc}
+use mathlib.Core.Bool.{Bool, true, false, ◌&&◌, ◌||◌, cond, or-false, or_assoc}
 use mathlib.Core.List.{List}
 use Prim.Native.Nat.{ℕ, ◌+◌, ◌-◌, ◌*◌, ◌/◌, ◌≤◌, ◌<◌}
 use native.Mathlib.Nat.{suc-mul, mul-le-mul_right}
@@ -36,7 +36,7 @@ row_inside w n r h = omega (arith, mul-le-mul_right w h, suc-mul r w)
 -- ---- Steps
 
 pub adds_none : (w n : ℕ) (g : ℕ → ℕ → Bool) (ws : List ℕ) → ((r p : ℕ) → r < n → p < word_bits * w → g r p ≡ false) → Adds w n g ws ws
-adds_none w n g ws h = record { size = refl; others = λ k l. refl; bits = λ r p hr hp. sym (rw (h r p hr hp) (or_false (has ws (word_bits * (r * w) + p)))) }
+adds_none w n g ws h = record { size = refl; others = λ k l. refl; bits = λ r p hr hp. sym (rw (h r p hr hp) (or-false (has ws (word_bits * (r * w) + p)))) }
 
 module _ {w n : ℕ} {g : ℕ → ℕ → Bool} {a b : List ℕ} (x : Adds w n g a b) where
   pub adds_same : (h : ℕ → ℕ → Bool) → ((r p : ℕ) → r < n → p < word_bits * w → g r p ≡ h r p) → Adds w n h a b
@@ -59,7 +59,7 @@ adds-joined w n r ws fs s hr hn hs = record {
   where
     go : (k p : ℕ) → p < word_bits * w → Dec (k ≡ r) → has (joined ws (r * w) fs s w) (word_bits * (k * w) + p) ≡ (has ws (word_bits * (k * w) + p) || eqb k r && has fs (word_bits * s + p))
     go k p hp (yes e) = rw (eq-eqb k r e, e) (has-joined ws (r * w) fs s w (omega (arith, hn, row_inside w n r hr)) hs p hp)
-    go k p hp (no e) = has-joined_other ws (r * w) fs s w (word_bits * (k * w) + p) (outside w r k p e hp) ∙ sym (rw (ne_eqb k r e) (or_false (has ws (word_bits * (k * w) + p))))
+    go k p hp (no e) = has-joined_other ws (r * w) fs s w (word_bits * (k * w) + p) (outside w r k p e hp) ∙ sym (rw (ne_eqb k r e) (or-false (has ws (word_bits * (k * w) + p))))
 
 -- a point put into row r
 adds-point : (w n r c : ℕ) (ws : List ℕ) → r < n → n * w ≤ length ws → c < word_bits * w → Adds w n (λ k p. eqb k r && eqb p c) ws (with_bit ws (word_bits * (r * w) + c))
@@ -88,7 +88,7 @@ less-more : (k i : ℕ) (x : Bool) → (ltb k i && x || eqb k i && x) ≡ (ltb k
 less-more k i x = go (dec_lt k i) (ℕ_discrete k i)
   where
     go : Dec (k < i) → Dec (k ≡ i) → (ltb k i && x || eqb k i && x) ≡ (ltb k (i + 1) && x)
-    go (yes l) d = rw (lt-ltb k i l, lt-ltb k (i + 1) (omega arith), ne_eqb k i (λ e. omega arith)) (or_false x)
+    go (yes l) d = rw (lt-ltb k i l, lt-ltb k (i + 1) (omega arith), ne_eqb k i (λ e. omega arith)) (or-false x)
     go (no l) (yes e) = rw (le-ltb k i (omega arith), lt-ltb k (i + 1) (omega arith), eq-eqb k i e)
     go (no l) (no e) = rw (le-ltb k i (omega arith), le-ltb k (i + 1) (omega (arith, e)), ne_eqb k i e)
 
@@ -197,7 +197,7 @@ end_more code i ends r p = go (dec_lt p code) (dec_lt (p - code) i) (ℕ_discret
 
     go : Dec (p < code) → Dec (p - code < i) → Dec (p ≡ code + i) → (end_seed code i ends r p || y && eqb p (code + i)) ≡ end_seed code (i + 1) ends r p
     go (yes l) d e = rw (lt-leb code p l, ne_eqb p (code + i) (λ q. omega arith)) (and_no y)
-    go (no l) (yes d) e = rw (le-leb code p (omega arith), lt-ltb (p - code) i d, lt-ltb (p - code) (i + 1) (omega arith), ne_eqb p (code + i) (λ q. omega arith)) (ap (λ (b : Bool). x || b) (and_no y) ∙ or_false x)
+    go (no l) (yes d) e = rw (le-leb code p (omega arith), lt-ltb (p - code) i d, lt-ltb (p - code) (i + 1) (omega arith), ne_eqb p (code + i) (λ q. omega arith)) (ap (λ (b : Bool). x || b) (and_no y) ∙ or-false x)
     go (no l) (no d) (yes e) =
         let q : p - code ≡ i = omega arith in
         rw (le-leb code p (omega arith), le-ltb (p - code) i (omega arith), lt-ltb (p - code) (i + 1) (omega arith), eq-eqb p (code + i) e) (and_yes y ∙ ap (λ (z : ℕ). has ends (word_bits * r + z)) (sym q))

@@ -1,7 +1,7 @@
 -- The rows that were filled are the definition's seeds. Assumes nothing.
 use mathlib.Core.Path.{◌≡◌, refl, sym, ap, ap₂, subst, ◌∙◌}
 use mathlib.Core.Logic.{inl, inr}
-use mathlib.Core.Bool.{Bool, true, false, ◌&&◌, ◌||◌, cond, or_false, and_comm}
+use mathlib.Core.Bool.{Bool, true, false, ◌&&◌, ◌||◌, cond, or-false, and_comm}
 use mathlib.Core.List.{List}
 use Prim.Native.Nat.{ℕ, zero, suc, ◌+◌, ◌-◌, ◌*◌, ◌≤◌, ◌<◌}
 use native.Mathlib.Nat.{suc-mul, mul-le-mul_right}
@@ -142,7 +142,7 @@ module _ (j : Job) (w : ℕ) (walked used dropped ends : List ℕ) where
             (is_walked (graph_of j) p && any (λ v. has_live j (live_table uses j (graph_of j)) (live_table drops j (graph_of j)) r p v) (below (length j.variables)))
 
         go : Dec (r < length j.outlives) → put r p ≡ seed r p
-        go (yes l) = rw (declared_live r p l, lt-ltb r (length j.outlives) l, is_w p (omega arith), end_is r p l hp) (or_false (is_walked (graph_of j) p || leb code p && holds (outlives_table j) r (p - code)))
+        go (yes l) = rw (declared_live r p l, lt-ltb r (length j.outlives) l, is_w p (omega arith), end_is r p l hp) (or-false (is_walked (graph_of j) p || leb code p && holds (outlives_table j) r (p - code)))
         go (no l) = rw (le-ltb r (length j.outlives) (omega arith), other_live r p (omega arith) hk)
 
     is_seed : (r p : ℕ) → r < j.regions → p < word_bits * w → put r p ≡ holds (seed_table j (graph_of j)) r p

@@ -13,3 +13,15 @@ decreases-arguments_fit l = 2 * l.left + 1
 
 abbrev pub decreases-type_fits : goal.decreases-type_fits
 decreases-type_fits l = 2 * l.left
+
+abbrev pub invariant-arguments_fit-loop-n : goal.invariant-arguments_fit-loop-n
+invariant-arguments_fit-loop-n l = walks.Onward l.few l.left (ArgumentsFit l.s l.layout l.head l.around l.from l.at.at l.n l.few) (ArgumentsFit l.s l.layout l.head l.around l.initial.from l.initial.at.at l.count l.left)
+
+abbrev pub decreases-arguments_fit-loop-n : goal.decreases-arguments_fit-loop-n
+decreases-arguments_fit-loop-n l = l.n
+
+abbrev pub invariant-type_fits-loop-few : goal.invariant-type_fits-loop-few
+invariant-type_fits-loop-few l = walks.Onward l.few l.left (TypeFit l.s l.layout l.head l.around l.at.at l.few) (TypeFit l.s l.layout l.head l.around l.initial.at.at l.left)
+
+abbrev pub decreases-type_fits-loop-few : goal.decreases-type_fits-loop-few
+decreases-type_fits-loop-few l = l.few

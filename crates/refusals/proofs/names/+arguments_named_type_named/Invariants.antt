@@ -13,3 +13,15 @@ decreases-arguments_named l = 2 * l.left + 1
 
 abbrev pub decreases-type_named : goal.decreases-type_named
 decreases-type_named l = 2 * l.left
+
+abbrev pub invariant-arguments_named-loop-n : goal.invariant-arguments_named-loop-n
+invariant-arguments_named-loop-n l = walks.Onward l.few l.left (ArgumentsNamed l.head l.s l.at.at l.n l.few) (ArgumentsNamed l.head l.s l.initial.at.at l.count l.left)
+
+abbrev pub decreases-arguments_named-loop-n : goal.decreases-arguments_named-loop-n
+decreases-arguments_named-loop-n l = l.n
+
+abbrev pub invariant-type_named-loop-few : goal.invariant-type_named-loop-few
+invariant-type_named-loop-few l = walks.Onward l.few l.left (TypeNamed l.head l.s l.at.at l.few) (TypeNamed l.head l.s l.initial.at.at l.left)
+
+abbrev pub decreases-type_named-loop-few : goal.decreases-type_named-loop-few
+decreases-type_named-loop-few l = l.few

@@ -16,10 +16,10 @@ loop-i-init c = λ j w. testing_start _ _
 
 pub returns-then-not-outlived_named : goal.returns-then-not-outlived_named
 unfolding outlived_named
-returns-then-not-outlived_named c = λ j w. testing_fails w.declared_count (c.loop-i.invariant j w) (omega arith) (row-item (outlives-row w) (omega arith) c.outlives_at.ensures (outlived_declared (sized w) c.before.outlived_named_lem.ensures)) c.if-not-outlived_named.true
+returns-then-not-outlived_named c = λ j w. testing_fails w.declared_count (c.loop-i.invariant j w) (omega arith) (row-item (outlives-row w) (omega arith) c.outlives_at.ensures (outlived_declared (sized w) c.outlived_named.ensures)) c.if-not-outlived_named.true
 
 pub loop-i-preserved : goal.loop-i-preserved
-loop-i-preserved c = λ j w. testing_more w.declared_count (c.loop-i.invariant j w) (omega arith) (row-item (outlives-row w) (omega arith) c.outlives_at.ensures (outlived_declared (sized w) c.before.outlived_named_lem.ensures)) c.if-not-outlived_named.false
+loop-i-preserved c = λ j w. testing_more w.declared_count (c.loop-i.invariant j w) (omega arith) (row-item (outlives-row w) (omega arith) c.outlives_at.ensures (outlived_declared (sized w) c.outlived_named.ensures)) c.if-not-outlived_named.false
 
 pub returns : goal.returns
 unfolding outlived_named

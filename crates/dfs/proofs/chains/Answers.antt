@@ -1,0 +1,31 @@
+-- `dfs::chains`. The loop's invariant: `Chained`. Assumes nothing.
+use Prim.Native.Nat.{ℕ, ◌-◌, ◌≤◌}
+use mathlib.Core.Path.{◌≡◌, sym, ap, ◌∙◌, subst}
+use mathlib.Core.List.{List}
+use mathlib.Core.Logic.{⊎_elim}
+use native.Mathlib.Omega.{arith}
+use lib.ListN.{length, length-replicate}
+use Rattle.dfs.specs.Walk.{Chained}
+use Rattle.dfs.proofs.ChainLaws.{with_sized, chained_none, chained_more}
+use Rattle.dfs.proofs.chains.Goals as goal
+use Rattle.dfs.proofs.chains.Goals.{then-follows, else-follows}
+
+pub returns-then-code-gt1024 : goal.returns-then-code-gt1024
+returns-then-code-gt1024 c = chained_none _ _
+
+pub loop-q-init : goal.loop-q-init
+loop-q-init c = (omega arith, length-replicate {A = ℕ} 32 0, chained_none _ _)
+
+pub follows-requires : goal.follows-requires
+follows-requires c = omega arith
+
+pub loop-q-preserved : goal.loop-q-preserved
+loop-q-preserved c = let a = c.args in
+    let l = c.loop-q in
+    elim c.if-follows.branch [
+      | then-follows w ↦ let e = w.chain-is ∙ w.add.ensures.0 in (omega arith, with_sized l.chain c.if-follows.chain _ e l.invariant.1, chained_more l.chain a.first.now a.succ.now l.q c.if-follows.chain e l.invariant.2 (c.follows.ensures w.if-follows.true))
+      | else-follows w ↦ (omega arith, ap length w.chain-is ∙ l.invariant.1, subst (λ (x : List ℕ). Chained x a.first.now a.succ.now) (sym w.chain-is) l.invariant.2)
+    ]
+
+pub returns : goal.returns
+returns c = c.loop-q.invariant.2

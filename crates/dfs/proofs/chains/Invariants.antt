@@ -1,0 +1,16 @@
+-- `dfs::chains`. The loop's invariant: `Chained`. Assumes nothing.
+use Prim.Native.Nat.{ℕ, ◌-◌, ◌≤◌}
+use mathlib.Core.Path.{◌≡◌, sym, ap, ◌∙◌, subst}
+use mathlib.Core.List.{List}
+use mathlib.Core.Logic.{⊎_elim}
+use native.Mathlib.Omega.{arith}
+use lib.ListN.{length, length-replicate}
+use Rattle.dfs.specs.Walk.{Chained}
+use Rattle.dfs.proofs.ChainLaws.{with_sized, chained_none, chained_more}
+use Rattle.dfs.proofs.chains.Given as goal
+
+abbrev pub invariant-loop-q : goal.invariant-loop-q
+invariant-loop-q l = (l.q ≤ l.code) × (length l.chain ≡ 32) × Chained l.chain l.first l.succ
+
+abbrev pub decreases-loop-q : goal.decreases-loop-q
+decreases-loop-q l = l.code - l.q
