@@ -7,6 +7,7 @@ use borrow.Author.Tests.{not-true, not-false}
 use native.Mathlib.Omega.{arith}
 use Prim.Native.Nat.{ℕ, ◌<◌, ◌+◌, ◌*◌}
 use Rattle.refusals.proofs.fits.+arguments_fit_type_fits.Goals as goal
+use Rattle.refusals.proofs.fits.+arguments_fit_type_fits.Goals.{arguments_fit-in-Region+else-not-argument_fits, arguments_fit-in-Type+else-not-same_kind+in-Ended}
 
 pub arguments_fit-loop-n-init : goal.arguments_fit-loop-n-init
 arguments_fit-loop-n-init t c = walks.start
@@ -24,7 +25,7 @@ pub arguments_fit-returns-then-not-same_kind : goal.arguments_fit-returns-then-n
 arguments_fit-returns-then-not-same_kind t c = c.loop-n.invariant.whole _ (laws.kind_unfit c.loop-n-test.true c.parameter.ensures c.in-Parameter.is c.argument.ensures c.in-Type.is c.same_kind.ensures c.if-not-same_kind.true)
 
 pub arguments_fit-type_fits-requires : goal.arguments_fit-type_fits-requires
-arguments_fit-type_fits-requires t c = (omega arith, c.requires.1)
+arguments_fit-type_fits-requires t c = (omega arith, c.requires)
 
 pub arguments_fit-returns-in-Refused-type_fits : goal.arguments_fit-returns-in-Refused-type_fits
 arguments_fit-returns-in-Refused-type_fits t c = c.loop-n.invariant.whole _ (laws.type_unfit c.loop-n-test.true c.parameter.ensures c.in-Parameter.is c.argument.ensures c.in-Type.is c.same_kind.ensures c.if-not-same_kind.false c.type_fits.ensures c.in-Refused-type_fits.is)
@@ -33,10 +34,11 @@ pub arguments_fit-loop-n-smaller : goal.arguments_fit-loop-n-smaller
 arguments_fit-loop-n-smaller t c = omega arith
 
 pub arguments_fit-loop-n-preserved : goal.arguments_fit-loop-n-preserved
-arguments_fit-loop-n-preserved t c = ⊎_elim
-    (λ w. rw (w.5, w.6) (walks.further c.loop-n.invariant (omega arith) (λ r. laws.fit-region c.loop-n-test.true c.parameter.ensures c.in-Parameter.is c.argument.ensures w.1.given.1 w.3.ensures (not-false _ w.4.left))))
-    (λ w. rw (w.9, w.10) (walks.further c.loop-n.invariant (walks.rest-fewer w.5.ensures.fewer w.7.given.1) (λ r. laws.fit-type c.loop-n-test.true c.parameter.ensures c.in-Parameter.is c.argument.ensures w.1.given.1 w.3.ensures (not-false _ w.4.left) w.5.ensures w.7.given.1)))
-    c.match-argument.branch
+arguments_fit-loop-n-preserved t c =
+    elim c.match-argument.branch [
+      | arguments_fit-in-Region+else-not-argument_fits w ↦ rw (w.at-is, w.few-is) (walks.further c.loop-n.invariant (omega arith) (λ r. laws.fit-region c.loop-n-test.true c.parameter.ensures c.in-Parameter.is c.argument.ensures w.in-Region.is w.argument_fits.ensures w.if-not-argument_fits.false))
+      | arguments_fit-in-Type+else-not-same_kind+in-Ended w ↦ rw (w.at-is, w.few-is) (walks.further c.loop-n.invariant (walks.rest-fewer w.type_fits.ensures.fewer w.in-Ended.is) (λ r. laws.fit-type c.loop-n-test.true c.parameter.ensures c.in-Parameter.is c.argument.ensures w.in-Type.is w.same_kind.ensures w.if-not-same_kind.false w.type_fits.ensures w.in-Ended.is))
+    ]
 
 pub arguments_fit-returns : goal.arguments_fit-returns
 arguments_fit-returns t c = c.loop-n.invariant.whole _ (laws.fit_arguments_none _ c.loop-n-test.false)
@@ -69,7 +71,7 @@ pub type_fits-returns-then-named-count : goal.type_fits-returns-then-named-count
 type_fits-returns-then-named-count t c = c.loop-few.invariant.whole _ (laws.count_unfit c.type_node.ensures c.in-Struct.is c.struct_decl_at-named.ensures c.if-named-count.true)
 
 pub type_fits-arguments_fit-requires : goal.type_fits-arguments_fit-requires
-type_fits-arguments_fit-requires t c = (omega arith, c.requires.1)
+type_fits-arguments_fit-requires t c = (omega arith, c.requires)
 
 pub type_fits-returns-in-Struct : goal.type_fits-returns-in-Struct
 type_fits-returns-in-Struct t c = c.loop-few.invariant.whole _ (laws.fit_struct c.type_node.ensures c.in-Struct.is c.struct_decl_at-named.ensures c.if-named-count.false c.loop-few-test.true c.arguments_fit.ensures)

@@ -7,6 +7,7 @@ use borrow.Author.Tests.{not-true, not-false}
 use native.Mathlib.Omega.{arith}
 use Prim.Native.Nat.{ℕ, ◌<◌, ◌+◌, ◌*◌}
 use Rattle.refusals.proofs.names.+arguments_named_type_named.Goals as goal
+use Rattle.refusals.proofs.names.+arguments_named_type_named.Goals.{arguments_named-in-Region+else-not-region_named, arguments_named-in-Type+in-Ended}
 
 pub arguments_named-loop-n-init : goal.arguments_named-loop-n-init
 arguments_named-loop-n-init t c = walks.start
@@ -27,10 +28,11 @@ pub arguments_named-loop-n-smaller : goal.arguments_named-loop-n-smaller
 arguments_named-loop-n-smaller t c = omega arith
 
 pub arguments_named-loop-n-preserved : goal.arguments_named-loop-n-preserved
-arguments_named-loop-n-preserved t c = ⊎_elim
-    (λ w. rw (w.5, w.6) (walks.further c.loop-n.invariant (omega arith) (λ r. laws.arguments_region c.argument.ensures c.loop-n-test.true w.1.given.1 w.3.ensures (not-false _ w.4.left))))
-    (λ w. rw (w.7, w.8) (walks.further c.loop-n.invariant (walks.rest-fewer w.3.ensures.fewer w.5.given.1) (λ r. laws.arguments_type c.argument.ensures c.loop-n-test.true w.1.given.1 w.3.ensures w.5.given.1)))
-    c.match-argument.branch
+arguments_named-loop-n-preserved t c =
+    elim c.match-argument.branch [
+      | arguments_named-in-Region+else-not-region_named w ↦ rw (w.at-is, w.few-is) (walks.further c.loop-n.invariant (omega arith) (λ r. laws.arguments_region c.argument.ensures c.loop-n-test.true w.in-Region.is w.region_named.ensures w.if-not-region_named.false))
+      | arguments_named-in-Type+in-Ended w ↦ rw (w.at-is, w.few-is) (walks.further c.loop-n.invariant (walks.rest-fewer w.type_named.ensures.fewer w.in-Ended.is) (λ r. laws.arguments_type c.argument.ensures c.loop-n-test.true w.in-Type.is w.type_named.ensures w.in-Ended.is))
+    ]
 
 pub arguments_named-returns : goal.arguments_named-returns
 arguments_named-returns t c = c.loop-n.invariant.whole _ (laws.arguments_none _ c.loop-n-test.false)
