@@ -6,8 +6,6 @@ use mathlib.Core.Option.{Option, none, some}
 use Prim.Native.Nat.{ℕ, ◌+◌, ◌-◌, ◌≤◌, ◌<◌}
 use native.Mathlib.Omega.{arith}
 use native.Mathlib.Decide.{dec_lt}
-use types.Run.{OneOf, miss}
-use denote.Enum.Declared.{tag_of}
 use lib.Dec.{leb}
 use lib.ListN.{length, get_or, take, drop, set, length-append, length-set}
 use lib.Seq.{take-append-le, take_at, get_or-set_same, get_or-set_other}
@@ -31,7 +29,6 @@ use Rattle.repr.specs.declared.NodeStep.{NodeStep}
 use Rattle.repr.specs.declared.NodeStep.TheVariants as node_step
 use Rattle.repr.specs.declared.ByteStep.{ByteStep}
 use Rattle.repr.specs.declared.ByteStep.TheVariants as byte_step
-use Rattle.repr.specs.contracts.NodeStep.{the_type}
 use Rattle.record.specs.Layout.{Layout}
 use Rattle.record.specs.Access.{entry_in, Declared}
 use Rattle.record.specs.declared.Head.{Head}
@@ -153,15 +150,15 @@ not_ref_lem y z = let a = sym (ap is_ref y) ∙ z in let b : ◌≡◌ {A = ℕ}
 
 module _ {s t : List ℕ} {h : Head} {from : List ℕ} {at f i : ℕ} {to kinds names : List ℕ} {d : NodeStep} (v : NodeSays node from at d) where
   -- a type with no steps
-  pub step-leaf : OneOf (0 ∷ 3 ∷ 4 ∷ []) (tag_of the_type d) → StepSays s t h from at f i to kinds names kinds names stepped.Refused
-  step-leaf e = record { says = λ j l u p few. go j.structs u p.over d e (node-is v p.stands); kind_size = refl; name_size = refl }
+  pub step-leaf : ((k : Kind) (r : Region) (c : Cursor) → d ≡ node_step.Ref k r c → ⊥) → ((n : StructName) (m : ℕ) (c : Cursor) → d ≡ node_step.Struct n m c → ⊥) → StepSays s t h from at f i to kinds names kinds names stepped.Refused
+  step-leaf e g = record { says = λ j l u p few. go j.structs u p.over d e g (node-is v p.stands); kind_size = refl; name_size = refl }
     where
-      go : (ss : List StructDecl) (u : Ty) (over : List ℕ) (x : NodeStep) → OneOf (0 ∷ 3 ∷ 4 ∷ []) (tag_of the_type x) → NodeIs from u over x → small (step_type ss u f) ≡ false
-      go ss u over (node_step.Unit c) o w = ap (λ (y : Ty). small (step_type ss y f)) w.same ∙ no_unit ss f
-      go ss u over (node_step.Ref k r c) o w = absurd (miss (0 ∷ 3 ∷ 4 ∷ []) 1 tt o)
-      go ss u over (node_step.Struct n m c) o w = absurd (miss (0 ∷ 3 ∷ 4 ∷ []) 2 tt o)
-      go ss u over (node_step.Bound b c) o w = ap (λ (y : Ty). small (step_type ss y f)) w.same ∙ no_bound ss b f
-      go ss u over (node_step.Refused k) o w = absurd w
+      go : (ss : List StructDecl) (u : Ty) (over : List ℕ) (x : NodeStep) → ((k : Kind) (r : Region) (c : Cursor) → x ≡ node_step.Ref k r c → ⊥) → ((n : StructName) (m : ℕ) (c : Cursor) → x ≡ node_step.Struct n m c → ⊥) → NodeIs from u over x → small (step_type ss u f) ≡ false
+      go ss u over (node_step.Unit c) o i w = ap (λ (y : Ty). small (step_type ss y f)) w.same ∙ no_unit ss f
+      go ss u over (node_step.Ref k r c) o i w = absurd (o k r c refl)
+      go ss u over (node_step.Struct n m c) o i w = absurd (i n m c refl)
+      go ss u over (node_step.Bound b c) o i w = ap (λ (y : Ty). small (step_type ss y f)) w.same ∙ no_bound ss b f
+      go ss u over (node_step.Refused k) o i w = absurd w
 
   module _ {k : Kind} {r : Region} {c : Cursor} (e : d ≡ node_step.Ref k r c) where
     pub step_other : (f ≡ 0 → ⊥) → StepSays s t h from at f i to kinds names kinds names stepped.Refused

@@ -68,8 +68,8 @@ module _ (width code points s t p : ℕ) where
         point = ltb-true _ _ e₁.1;
       }
 
-  in_bounds : Bounds width code points s t p → in_bounds width code points s t p ≡ true
-  in_bounds b =
+  bounds_test : Bounds width code points s t p → in_bounds width code points s t p ≡ true
+  bounds_test b =
       rw (le-leb width 32 b.narrow, le-leb code points b.ordered, le-leb points 1024 b.few, lt-ltb s 128 b.sup, lt-ltb t 128 b.sub, lt-ltb p code b.point)
 
 -- the product of a region's number and the width
@@ -253,7 +253,7 @@ module _ (s : Setting) (shape : Shape) (rule : declared.EndRule) (first succ cha
   -- the bounds hold
   pub given_bounds : (a b : ℕ) → a ≡ c.sup → b ≡ c.sub → in_bounds shape.width shape.code shape.points a b c.point ≡ true
   given_bounds a b ea eb =
-      in_bounds shape.width shape.code shape.points a b c.point
+      bounds_test shape.width shape.code shape.points a b c.point
       record {
         narrow = omega (arith, given.width, given.narrow);
         ordered = omega (arith, given.code, given.points, given.edges.ordered);

@@ -24,6 +24,7 @@ use Rattle.infer.proofs.RanLaws.{true_T, has-sets, sets-has}
 
 exit_nil : (l : List ℕ) → T (elim l [ [] ↦ true | q ∷ qs ↦ false ]) → length l ≡ 0
 exit_nil [] h = refl
+exit_nil (_ ∷ _) h = elim h [ ]
 
 nil_exit : (l : List ℕ) → length l ≡ 0 → T (elim l [ [] ↦ true | q ∷ qs ↦ false ])
 nil_exit [] e = tt

@@ -5,8 +5,6 @@ use mathlib.Core.List.{List, [], ◌∷◌, ◌++◌, tail}
 use Prim.Native.Nat.{ℕ, ◌+◌, ◌-◌, ◌*◌, ◌≤◌, ◌<◌}
 use native.Mathlib.Omega.{arith}
 use native.Mathlib.Nat.{le_refl, sub-zero}
-use types.Run.{OneOf, miss}
-use denote.Enum.Declared.{tag_of}
 use denote.Floats.{passes}
 use Rattle.nll_spec.specs.Syntax as syntax
 use Rattle.nll_spec.specs.Syntax.{Ty, UnitTy, RefTy, StructTy, Args, NoArgs, RegionArg, TypeArg, Param, Free}
@@ -25,7 +23,6 @@ use Rattle.repr.specs.declared.Region.TheVariants as regions
 use Rattle.repr.specs.declared.RegionName.{RegionName}
 use Rattle.repr.specs.declared.StructName.{StructName}
 use Rattle.repr.specs.declared.NodeStep.{NodeStep}
-use Rattle.repr.specs.contracts.NodeStep.{the_type}
 use Rattle.repr.specs.declared.NodeStep.TheVariants as node_step
 use Rattle.repr.specs.declared.NodesStep.{NodesStep}
 use Rattle.repr.specs.declared.NodesStep.TheVariants as nodes_step
@@ -353,13 +350,13 @@ module _ {s t : List ℕ} {site : Site} {a : List ℕ} {x : ℕ} {b : List ℕ} 
   }
 
   module _ {d : NodeStep} (m : NodeSays node a x d) {o : RegionName} where
-    pub ref_other : OneOf (0 ∷ 2 ∷ 3 ∷ 4 ∷ []) (tag_of the_type d) → RelatesRef o.0 s t site a x b y v ls ls
+    pub ref_other : ((j : BorrowKind) (r : Region) (c : Cursor) → d ≡ node_step.Ref j r c → ⊥) → RelatesRef o.0 s t site a x b y v ls ls
     unfolding same_shape
     ref_other f = record { adds = λ j l t u k p q h i e. absurd (go t u k p.over d f (node-is m p.stands) (is_true _ e)) }
       where
-        go : (t u : Ty) (k : syntax.BorrowKind) (over : List ℕ) (n : NodeStep) → OneOf (0 ∷ 2 ∷ 3 ∷ 4 ∷ []) (tag_of the_type n) → NodeIs a t over n → same_shape t (RefTy k (Free o.0) u) ≡ true → ⊥
+        go : (t u : Ty) (k : syntax.BorrowKind) (over : List ℕ) (n : NodeStep) → ((j : BorrowKind) (r : Region) (c : Cursor) → n ≡ node_step.Ref j r c → ⊥) → NodeIs a t over n → same_shape t (RefTy k (Free o.0) u) ≡ true → ⊥
         go t u k over (node_step.Unit c) e w i = true≢false (sym i ∙ rw w.same)
-        go t u k over (node_step.Ref j r c) e w i = miss (0 ∷ 2 ∷ 3 ∷ 4 ∷ []) 1 tt e
+        go t u k over (node_step.Ref j r c) e w i = e j r c refl
         go t u k over (node_step.Struct z n c) e w i = true≢false (sym i ∙ rw w.same)
         go t u k over (node_step.Bound j c) e w i = true≢false (sym i ∙ rw w.same)
         go t u k over (node_step.Refused j) e w i = w

@@ -1,0 +1,17 @@
+-- `liveness::rows::word_column`. The loop's invariant: `rest` has the bits from variable v on, and the rows below v are done. Assumes nothing.
+use Prim.Native.Nat.{◌+◌, ◌-◌, ◌/◌, ◌^◌, ◌≤◌}
+use mathlib.Core.Path.{◌≡◌, ◌∙◌}
+use mathlib.Core.Logic.{⊎_elim}
+use lib.ListN.{length}
+use Rattle.bit_slice.proofs.ShiftLaws.{shift_none, shift_more}
+use Rattle.liveness.specs.Rows.{in_word, Column}
+use Rattle.liveness.proofs.ColumnLaws.{small-start, column_none, column_held, column_out, column_rest, column_all, before_word, from_word, past_word}
+use native.Mathlib.Omega.{arith}
+use borrow.Author.Tests.{eq-eqb, ne_eqb}
+use Rattle.liveness.proofs.rows.word_column.Given as goal
+
+abbrev pub invariant-loop-v : goal.invariant-loop-v
+invariant-loop-v l = (l.first ≤ l.v) × (l.v ≤ l.n) × (l.rest ≡ l.w / 2 ^ (l.v - l.first)) × (length l.rows ≡ length l.initial.rows) × Column l.width l.v (in_word l.w l.first) l.p l.initial.rows l.rows
+
+abbrev pub decreases-loop-v : goal.decreases-loop-v
+decreases-loop-v l = l.n - l.v
