@@ -8,8 +8,6 @@ use native.Mathlib.Numerals.{add-one}
 use lib.ListN.{length, get_or, get_or-eq_default}
 use lib.Dec.{T, eqb, leb}
 use borrow.Author.Tests.{eqb-true, eq-eqb, ne_eqb, le-leb, lt-leb}
-use types.Run.{OneOf, miss}
-use denote.Enum.Declared.{tag_of}
 use Rattle.nll_spec.specs.Syntax as syntax
 use Rattle.nll_spec.specs.Syntax.{Job, Point, Free, RefTy, Co, Contra}
 use Rattle.nll_spec.specs.Decode.{read, done, items, path, code_count}
@@ -26,7 +24,6 @@ use Rattle.repr.specs.declared.Path.{Path}
 use Rattle.repr.specs.declared.RegionName.{RegionName}
 use Rattle.repr.specs.declared.BorrowKind.{BorrowKind}
 use Rattle.repr.specs.declared.Action.{Action}
-use Rattle.repr.specs.contracts.Action.{the_type}
 use Rattle.repr.specs.declared.Action.TheVariants as actions
 use Rattle.repr.specs.declared.ActionStep.{ActionStep}
 use Rattle.repr.specs.declared.ActionStep.TheVariants as action_step
@@ -207,25 +204,25 @@ module _ {s t : List ℕ} {p : Point} {r : ActionStep} (act : Read s t p r) {h :
   is {c = c} e i = subst (λ (x : Action). Acts s (action_at (graph_of j) p) (action_step.Action x c)) i (acts e)
 
 -- what any other action makes
-none_made : (s : List ℕ) (c : Cursor) (j : Job) (p : Point) (b : Action) → OneOf (0 ∷ 1 ∷ 5 ∷ 6 ∷ 7 ∷ []) (tag_of the_type b) → {x : syntax.Action} {over : List ℕ} → action_says s (action_step.Action b c) ≡ read x over
+none_made : (s : List ℕ) (c : Cursor) (j : Job) (p : Point) (b : Action) → ((d : Path) (m : RegionName) (k : BorrowKind) (q : Path) → b ≡ actions.Borrow d m k q → ⊥) → ((d q : Path) → b ≡ actions.Assign d q → ⊥) → ((m n : RegionName) → b ≡ actions.Constraint m n → ⊥) → {x : syntax.Action} {over : List ℕ} → action_says s (action_step.Action b c) ≡ read x over
     → constraints_at j p x ≡ []
 unfolding constraints_at done
-none_made s c j p actions.Noop o i = carry (λ y z. constraints_at j p y ≡ []) i refl
-none_made s c j p (actions.Init d n) o i = let w = then (items n path) _ (rest s c) i in carry (λ y z. constraints_at j p y ≡ []) w.last refl
-none_made s c j p (actions.Borrow d m k q) o i = absurd (miss (0 ∷ 1 ∷ 5 ∷ 6 ∷ 7 ∷ []) 2 tt o)
-none_made s c j p (actions.Assign d q) o i = absurd (miss (0 ∷ 1 ∷ 5 ∷ 6 ∷ 7 ∷ []) 3 tt o)
-none_made s c j p (actions.Constraint m n) o i = absurd (miss (0 ∷ 1 ∷ 5 ∷ 6 ∷ 7 ∷ []) 4 tt o)
-none_made s c j p (actions.Use q) o i = carry (λ y z. constraints_at j p y ≡ []) i refl
-none_made s c j p (actions.Drop q) o i = carry (λ y z. constraints_at j p y ≡ []) i refl
-none_made s c j p (actions.StorageDead v) o i = carry (λ y z. constraints_at j p y ≡ []) i refl
+none_made s c j p actions.Noop o u v i = carry (λ y z. constraints_at j p y ≡ []) i refl
+none_made s c j p (actions.Init d n) o u v i = let w = then (items n path) _ (rest s c) i in carry (λ y z. constraints_at j p y ≡ []) w.last refl
+none_made s c j p (actions.Borrow d m k q) o u v i = absurd (o d m k q refl)
+none_made s c j p (actions.Assign d q) o u v i = absurd (u d q refl)
+none_made s c j p (actions.Constraint m n) o u v i = absurd (v m n refl)
+none_made s c j p (actions.Use q) o u v i = carry (λ y z. constraints_at j p y ≡ []) i refl
+none_made s c j p (actions.Drop q) o u v i = carry (λ y z. constraints_at j p y ≡ []) i refl
+none_made s c j p (actions.StorageDead w) o u v i = carry (λ y z. constraints_at j p y ≡ []) i refl
 
 module _ {s t : List ℕ} {site : Site} {ls : List ℕ} {r : ActionStep} (act : Read s t site.at r) where
   pub action-refused : {k : ℕ} → r ≡ action_step.Refused k → Constrains s t site ls ls
   action-refused e = record { adds = λ j l accepted h. absurd (clash (acts act j l h e).reads) }
 
   module _ {a : Action} {c : Cursor} (e : r ≡ action_step.Action a c) where
-    pub action_other : OneOf (0 ∷ 1 ∷ 5 ∷ 6 ∷ 7 ∷ []) (tag_of the_type a) → Constrains s t site ls ls
-    action_other o = record { adds = λ j l accepted h. adds_none (none_made s c j site.at a o (acts act j l h e).reads) }
+    pub action_other : ((d : Path) (m : RegionName) (k : BorrowKind) (q : Path) → a ≡ actions.Borrow d m k q → ⊥) → ((d q : Path) → a ≡ actions.Assign d q → ⊥) → ((m n : RegionName) → a ≡ actions.Constraint m n → ⊥) → Constrains s t site ls ls
+    action_other o u v = record { adds = λ j l accepted h. adds_none (none_made s c j site.at a o u v (acts act j l h e).reads) }
 
     module _ {ls' : List ℕ} where
       pub action-borrow : {d q : Path} {o : RegionName} {k : BorrowKind} {next : Site} → a ≡ actions.Borrow d o k q → next ≡ after site

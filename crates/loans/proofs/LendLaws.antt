@@ -6,8 +6,6 @@ use Prim.Native.Nat.{ℕ, ◌+◌, ◌*◌, ◌≤◌, ◌<◌}
 use native.Mathlib.Omega.{arith}
 use lib.ListN.{length, length-append}
 use lib.Dec.{T}
-use types.Run.{OneOf, miss}
-use denote.Enum.Declared.{tag_of}
 use Rattle.nll_spec.specs.Syntax.{Path, Point, Action, Borrow, Job}
 use Rattle.nll_spec.specs.Syntax as syntax
 use Rattle.nll_spec.specs.Decode.{read, done, items, path, code_count}
@@ -23,7 +21,6 @@ use Rattle.repr.specs.declared.Cursor.{Cursor}
 use Rattle.repr.specs.declared.RegionName.{RegionName}
 use Rattle.repr.specs.declared.BorrowKind.{BorrowKind}
 use Rattle.repr.specs.declared.Path as repr
-use Rattle.repr.specs.contracts.Action.{the_type}
 use Rattle.repr.specs.declared.Action as acts
 use Rattle.repr.specs.declared.Action.TheVariants as action
 use Rattle.repr.specs.declared.ActionStep.{ActionStep}
@@ -47,11 +44,11 @@ pub one_more : {n : ℕ} → n ≤ 128 → (n ≡ 128 → ⊥) → n < 128
 one_more l e = omega arith
 
 -- no other action lends
-not-borrow : (s : List ℕ) (a : acts.Action) (c : Cursor) {x : Action} {over : List ℕ} → OneOf (0 ∷ 1 ∷ 3 ∷ 4 ∷ 5 ∷ 6 ∷ 7 ∷ []) (tag_of the_type a) → action_says s (action_step.Action a c) ≡ read x over → (p : Point) → loan_at p x ≡ []
+not-borrow : (s : List ℕ) (a : acts.Action) (c : Cursor) {x : Action} {over : List ℕ} → ((d : repr.Path) (r : RegionName) (k : BorrowKind) (q : repr.Path) → a ≡ action.Borrow d r k q → ⊥) → action_says s (action_step.Action a c) ≡ read x over → (p : Point) → loan_at p x ≡ []
 unfolding loan_at done
 not-borrow s action.Noop c h e p = carry (λ y o. loan_at p y ≡ []) e refl
 not-borrow s (action.Init d n) c h e p = let w = then (items n path) _ (rest s c) e in carry (λ y o. loan_at p y ≡ []) w.last refl
-not-borrow s (action.Borrow d r k q) c h e p = absurd (miss (0 ∷ 1 ∷ 3 ∷ 4 ∷ 5 ∷ 6 ∷ 7 ∷ []) 2 tt h)
+not-borrow s (action.Borrow d r k q) c h e p = absurd (h d r k q refl)
 not-borrow s (action.Assign d q) c h e p = carry (λ y o. loan_at p y ≡ []) e refl
 not-borrow s (action.Constraint sup sub) c h e p = carry (λ y o. loan_at p y ≡ []) e refl
 not-borrow s (action.Use q) c h e p = carry (λ y o. loan_at p y ≡ []) e refl
@@ -92,7 +89,7 @@ module _ {s t : List ℕ} {h : Head} {walked : List ℕ} {p n : ℕ} (table : Li
       reads : (j : Job) (g : Given s t h walked j) (l : p < code_count j.blocks) → action_says s (action_step.Action a c) ≡ read (action_at (graph_of j) p) (m h j g.layout l).over
       reads j g l = sym (ap (action_says s) i) ∙ (m h j g.layout l).reads
 
-      pub lends_other : OneOf (0 ∷ 1 ∷ 3 ∷ 4 ∷ 5 ∷ 6 ∷ 7 ∷ []) (tag_of the_type a) → Lends s t h walked p n table table n
+      pub lends_other : ((d : repr.Path) (r : RegionName) (k : BorrowKind) (q : repr.Path) → a ≡ action.Borrow d r k q → ⊥) → Lends s t h walked p n table table n
       lends_other o = lends_nothing λ j g l. below-walked (graph_of j) p (walks j g ∙ e) ∙ rw (not-borrow s a c o (reads j g l) p, append-nil (loans_below (graph_of j) p))
 
       module _ {d source : repr.Path} {region : RegionName} {kind : BorrowKind} (k : a ≡ action.Borrow d region kind source) where

@@ -5,8 +5,6 @@ use mathlib.Core.List.{List, [], ◌∷◌}
 use Prim.Native.Nat.{ℕ, ◌≤◌, ◌<◌}
 use native.Mathlib.Omega.{arith}
 use lib.ListN.{length, drop}
-use types.Run.{OneOf, miss}
-use denote.Enum.Declared.{tag_of}
 use borrow.Author.Tests.{lt-ltb, le-ltb}
 use Rattle.nll_spec.specs.Lists.{every}
 use Rattle.nll_spec.specs.Syntax as syntax
@@ -24,7 +22,6 @@ use Rattle.repr.specs.declared.EndStep.TheVariants.{Ended, Refused}
 use Rattle.repr.specs.declared.RegionName.{RegionName}
 use Rattle.repr.specs.declared.BorrowKind as repr_kind
 use Rattle.repr.specs.declared.Action.{Action}
-use Rattle.repr.specs.contracts.Action.{the_type}
 use Rattle.repr.specs.declared.Action.TheVariants.{Noop, Init, Borrow, Assign, Constraint, Use, Drop, StorageDead}
 use Rattle.repr.specs.declared.ActionStep.{ActionStep}
 use Rattle.repr.specs.declared.ActionStep.TheVariants as action_step
@@ -156,19 +153,19 @@ module _ {s t : List ℕ} {h : Head} {j : Job} (w : Layout s t h j) (a : Action)
   assign_is {dest} {source} e v =
       own_is e (v.says j w (syntax.Free 0) ∙ ap (λ (x : Bool). refusal_of x (same_shape (path_type j (path_of s source)) (path_type j (path_of s dest)))) (and_comm (path_taken j (path_of s source)) (path_taken j (path_of s dest))))
 
-  -- any other action has no paths: its tag is 0, Noop, 4, Constraint, or 7, StorageDead
-  pub other_is : OneOf (0 ∷ 4 ∷ 7 ∷ []) (tag_of the_type a) → 0 ≡ refusal_of (own_taken j s a) (own_shape j s a)
+  -- any other action has no paths: it is Noop, Constraint or StorageDead
+  pub other_is : ((p : Path) (n : ℕ) → a ≡ Init p n → ⊥) → ((p : Path) (r : RegionName) (k : repr_kind.BorrowKind) (q : Path) → a ≡ Borrow p r k q → ⊥) → ((p q : Path) → a ≡ Assign p q → ⊥) → ((p : Path) → a ≡ Use p → ⊥) → ((p : Path) → a ≡ Drop p → ⊥) → 0 ≡ refusal_of (own_taken j s a) (own_shape j s a)
   other_is = go a
     where
-      go : (a : Action) → OneOf (0 ∷ 4 ∷ 7 ∷ []) (tag_of the_type a) → 0 ≡ refusal_of (own_taken j s a) (own_shape j s a)
-      go Noop o = refl
-      go (Init dest n) o = absurd (miss (0 ∷ 4 ∷ 7 ∷ []) 1 tt o)
-      go (Borrow dest r k source) o = absurd (miss (0 ∷ 4 ∷ 7 ∷ []) 2 tt o)
-      go (Assign dest source) o = absurd (miss (0 ∷ 4 ∷ 7 ∷ []) 3 tt o)
-      go (Constraint sup sub) o = refl
-      go (Use p) o = absurd (miss (0 ∷ 4 ∷ 7 ∷ []) 5 tt o)
-      go (Drop p) o = absurd (miss (0 ∷ 4 ∷ 7 ∷ []) 6 tt o)
-      go (StorageDead v) o = refl
+      go : (a : Action) → ((p : Path) (n : ℕ) → a ≡ Init p n → ⊥) → ((p : Path) (r : RegionName) (k : repr_kind.BorrowKind) (q : Path) → a ≡ Borrow p r k q → ⊥) → ((p q : Path) → a ≡ Assign p q → ⊥) → ((p : Path) → a ≡ Use p → ⊥) → ((p : Path) → a ≡ Drop p → ⊥) → 0 ≡ refusal_of (own_taken j s a) (own_shape j s a)
+      go Noop i b g u d = refl
+      go (Init p n) i b g u d = absurd (i p n refl)
+      go (Borrow p r k q) i b g u d = absurd (b p r k q refl)
+      go (Assign p q) i b g u d = absurd (g p q refl)
+      go (Constraint sup sub) i b g u d = refl
+      go (Use p) i b g u d = absurd (u p refl)
+      go (Drop p) i b g u d = absurd (d p refl)
+      go (StorageDead v) i b g u d = refl
 
 module _ {s : List ℕ} {x : syntax.Action} {d : ActionStep} (m : Acts s x d) where
   pub no_action : {A : Type 0} {k : ℕ} → d ≡ action_step.Refused k → A

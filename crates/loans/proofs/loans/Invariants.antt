@@ -1,0 +1,11 @@
+-- `loans::loans` meets its contract. Assumes nothing.
+use Prim.Native.Nat.{◌-◌, ◌≤◌}
+use native.Mathlib.Omega.{arith}
+use Rattle.loans.proofs.LendLaws.{Lending, lending-none, lending-more, lending-all}
+use Rattle.loans.proofs.loans.Given as goal
+
+abbrev pub invariant-loop-p : goal.invariant-loop-p
+invariant-loop-p l = (l.p ≤ l.code) × (l.code ≤ 1024) × Lending l.s l.layout l.head l.walked l.p l.table l.n
+
+abbrev pub decreases-loop-p : goal.decreases-loop-p
+decreases-loop-p l = l.code - l.p
