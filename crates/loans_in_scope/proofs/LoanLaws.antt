@@ -81,6 +81,14 @@ loan-named : (j : Job) (p : Point) (a : syntax.Action) (loan : loans.Loan) → T
 unfolding loan_at action_named
 loan-named j p (syntax.Borrow d r k q) loan n here =
     ltb→lt r j.regions (and_right (path_named j d) (is_region j r) (and_left (path_named j d && is_region j r) (path_named j q) n))
+loan-named j p syntax.Noop loan n x'' = elim x'' [ ]
+loan-named j p (syntax.Init _ _) loan n x5 = elim x5 [ ]
+loan-named j p (syntax.Borrow d r k q) loan n (Rattle.nll_spec.specs.Lists.there x7) = elim x7 [ ]
+loan-named j p (syntax.Assign _ _) loan n x7 = elim x7 [ ]
+loan-named j p (syntax.Constraint _ _) loan n x8 = elim x8 [ ]
+loan-named j p (syntax.Use _) loan n x8 = elim x8 [ ]
+loan-named j p (syntax.Drop _) loan n x9 = elim x9 [ ]
+loan-named j p (syntax.StorageDead _) loan n x10 = elim x10 [ ]
 
 actions-named : (j : Job) → T (named j) → (p : Point) → T (action_named j (action_at (graph_of j) p))
 unfolding named actions_named graph_of statements_of action_named

@@ -1,0 +1,13 @@
+-- `borrowck::borrow_check` meets its contract. Assumes nothing.
+use lib.ListN.{length, length-set}
+use mathlib.Core.Path.{refl}
+use Prim.Native.Nat.{◌-◌, ◌*◌, ◌≤◌}
+use native.Mathlib.Omega.{arith}
+use Rattle.borrowck.proofs.WriteLaws.{Writing, writing-none, writing_more, written_nothing, written_all}
+use Rattle.borrowck.proofs.borrow_check.Given as goal
+
+abbrev pub invariant-loop-p : goal.invariant-loop-p
+invariant-loop-p l = (l.p ≤ l.points) × (l.points ≤ 65790) × (2 * l.points ≤ length l.initial.bytes) × Writing l.s l.layout l.head l.table l.count l.scope l.initial.bytes l.p l.bytes
+
+abbrev pub decreases-loop-p : goal.decreases-loop-p
+decreases-loop-p l = l.points - l.p

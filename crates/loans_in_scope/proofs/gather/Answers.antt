@@ -1,0 +1,22 @@
+-- `loans_in_scope::gather`. The loop's invariant: what leaves the first p points has gone on. Assumes nothing.
+use Prim.Native.Nat.{◌-◌, ◌≤◌}
+use mathlib.Core.Path.{◌≡◌, ◌∙◌}
+use native.Mathlib.Omega.{arith}
+use lib.ListN.{length}
+use Rattle.loans_in_scope.specs.Gains.{Gains, Rows}
+use Rattle.loans_in_scope.proofs.GainsLaws.{rows_none, rows_more, rows_all}
+use borrow.Author.Rules.{rules}
+use Rattle.loans_in_scope.proofs.gather.Goals as goal
+
+pub loop-p-init : goal.loop-p-init
+loop-p-init c = let a = c.args in (omega arith, search rules, rows_none a.from.now a.code a.first.now a.succ.now a.scope.now)
+
+pub loop-p-preserved : goal.loop-p-preserved
+loop-p-preserved c = let a = c.args in
+    let l = c.loop-p in
+    (omega arith, c.follow.ensures.as_long ∙ l.invariant.1, rows_more a.from.now a.code a.first.now a.succ.now a.scope.now l.p l.invariant.2 c.follow.ensures)
+
+pub returns : goal.returns
+returns c = let a = c.args in
+    let l = c.loop-p in
+    rows_all a.from.now a.code a.first.now a.succ.now a.scope.now l.p l.invariant.0 (omega arith) l.invariant.2

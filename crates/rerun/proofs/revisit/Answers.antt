@@ -1,0 +1,17 @@
+-- `rerun::revisit`: nothing is run, or the constraints of the point. Assumes nothing.
+use mathlib.Core.Path.{refl}
+use native.Mathlib.Omega.{arith}
+use Rattle.rerun.proofs.PointLaws.{held_none, held_more}
+use Rattle.rerun.proofs.RerunLaws.{more-none, more-held}
+use Rattle.rerun.proofs.revisit.Goals as goal
+
+pub returns-then-not-test : goal.returns-then-not-test
+returns-then-not-test c = more-none
+
+pub returns-then-all_in : goal.returns-then-all_in
+returns-then-all_in c = more-none
+
+pub returns : goal.returns
+returns c =
+    let held = held_more c.point.ensures (held_none {from = c.args.p} refl (omega (arith, c.requires.1))) (omega arith) c.requires.1 in
+    more-held held c.rerun-next.ensures

@@ -1,0 +1,14 @@
+-- `rerun::revisit_near`. The loop's invariant: more of the job's constraints are run. Assumes nothing.
+use Prim.Native.Nat.{◌-◌}
+use mathlib.Core.Path.{◌≡◌}
+use lib.ListN.{length}
+use native.Mathlib.Omega.{arith}
+use Rattle.rerun.specs.Rerun.{RunsMore}
+use Rattle.rerun.proofs.RerunLaws.{more-none, more_then}
+use Rattle.rerun.proofs.revisit_near.Given as goal
+
+abbrev pub invariant-loop-p : goal.invariant-loop-p
+invariant-loop-p l = (length l.words ≡ length l.initial.words) × (length l.recent ≡ length l.initial.recent) × RunsMore l.s l.layout l.head l.walked l.shape l.rule l.first l.succ l.chain l.initial.recent l.initial.words l.initial.grew l.recent l.words l.grew
+
+abbrev pub decreases-loop-p : goal.decreases-loop-p
+decreases-loop-p l = l.code - l.p

@@ -1,0 +1,13 @@
+-- `rerun::settle`. The loop's invariant: the constraints of the list were run more often. Assumes nothing.
+use mathlib.Core.Path.{◌≡◌}
+use lib.ListN.{length}
+use Rattle.constraint_list.specs.Listed.{constraints_in}
+use Rattle.rerun.specs.Rerun.{RunsAgain}
+use Rattle.rerun.proofs.RerunLaws.{again_none, again_more}
+use Rattle.rerun.proofs.settle.Given as goal
+
+abbrev pub invariant-loop-left : goal.invariant-loop-left
+invariant-loop-left l = (length l.words ≡ length l.initial.words) × (length l.none ≡ 1) × RunsAgain l.shape l.rule l.first l.succ l.chain (constraints_in l.list) l.initial.words l.initial.grew l.words l.grew
+
+abbrev pub decreases-loop-left : goal.decreases-loop-left
+decreases-loop-left l = l.left

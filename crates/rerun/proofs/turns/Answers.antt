@@ -1,0 +1,23 @@
+-- `rerun::turns`. The loop's invariant: more of the job's constraints are run. Assumes nothing.
+use mathlib.Core.Path.{◌≡◌}
+use lib.ListN.{length}
+use Rattle.nll_spec.specs.Syntax.{Point}
+use native.Mathlib.Omega.{arith}
+use Rattle.rerun.specs.Rerun.{Holding, RunsMore}
+use Rattle.rerun.proofs.RerunLaws.{more-none, more_recent, more_then}
+use borrow.Author.Rules.{rules}
+use Rattle.rerun.proofs.turns.Goals as goal
+
+pub loop-left-init : goal.loop-left-init
+loop-left-init c = (search rules, search rules, search rules, λ to held. more-none)
+
+pub returns-then-not-any_marked : goal.returns-then-not-any_marked
+returns-then-not-any_marked c = c.loop-left.invariant.3
+
+pub loop-left-preserved : goal.loop-left-preserved
+loop-left-preserved c =
+    let loop = c.loop-left in
+    (search rules, search rules, omega (arith, c.before-1, loop.invariant.2), λ to held. more_then (more_then (loop.invariant.3 to held) (c.turn-last.ensures to held)) (more_recent c.settle.ensures))
+
+pub returns : goal.returns
+returns c = c.loop-left.invariant.3
