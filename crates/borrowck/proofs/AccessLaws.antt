@@ -6,8 +6,6 @@ use native.Mathlib.Omega.{arith}
 use native.Mathlib.Numerals.{add-one}
 use lib.ListN.{length, length-map, length-set, set, take, drop}
 use lib.Seq.{take-suc-set, length-take-le}
-use types.Run.{OneOf, miss}
-use denote.Enum.Declared.{tag_of}
 use Rattle.nll_spec.specs.Syntax.{Path}
 use Rattle.nll_spec.specs.Syntax as syntax
 use Rattle.nll_spec.specs.Decode.{read, done, items, path}
@@ -25,7 +23,6 @@ use Rattle.repr.specs.declared.PathStep.TheVariants as path_step
 use Rattle.repr.specs.declared.Action.{Action}
 use Rattle.repr.specs.declared.Action.TheVariants as action
 use Rattle.repr.specs.declared.ActionStep.TheVariants as action_step
-use Rattle.repr.specs.contracts.Action.{the_type}
 use Rattle.repr.proofs.ItemLaws.{FirstOf, first_of, none_of, items-length}
 use Rattle.repr.proofs.ReadLaws.{told}
 use Rattle.repr.proofs.SpellLaws.{clash, carry, then}
@@ -156,16 +153,16 @@ module _ {s : List ℕ} {c : Cursor} {r : Accesses} where
   as_read : {a : Action} {x : syntax.Action} {over : List ℕ} → action_says s (action_step.Action a c) ≡ read x over → r.count ≤ 9 → length (accesses_in r) ≡ r.count → Mean s (accesses_in r) (accesses x) → AccessesOf s a c r
   as_read e f l w = record { few = f; all = l; says = λ y over i o. carry (λ z o. Mean s (accesses_in r) (accesses z)) (sym e ∙ i) w }
 
-  pub action_idle : (a : Action) → OneOf (0 ∷ 4 ∷ []) (tag_of the_type a) → r.count ≡ 0 → AccessesOf s a c r
+  pub action_idle : (a : Action) → ((d : repr.Path) (n : ℕ) → a ≡ action.Init d n → ⊥) → ((d : repr.Path) (r : RegionName) (k : BorrowKind) (q : repr.Path) → a ≡ action.Borrow d r k q → ⊥) → ((d q : repr.Path) → a ≡ action.Assign d q → ⊥) → ((q : repr.Path) → a ≡ action.Use q → ⊥) → ((q : repr.Path) → a ≡ action.Drop q → ⊥) → ((v : Variable) → a ≡ action.StorageDead v → ⊥) → r.count ≡ 0 → AccessesOf s a c r
   unfolding accesses
-  action_idle action.Noop h z = as_read refl (omega arith) (rw z) (rw z none)
-  action_idle (action.Init d n) h z = absurd (miss (0 ∷ 4 ∷ []) 1 tt h)
-  action_idle (action.Borrow d r k q) h z = absurd (miss (0 ∷ 4 ∷ []) 2 tt h)
-  action_idle (action.Assign d q) h z = absurd (miss (0 ∷ 4 ∷ []) 3 tt h)
-  action_idle (action.Constraint sup sub) h z = as_read refl (omega arith) (rw z) (rw z none)
-  action_idle (action.Use q) h z = absurd (miss (0 ∷ 4 ∷ []) 5 tt h)
-  action_idle (action.Drop q) h z = absurd (miss (0 ∷ 4 ∷ []) 6 tt h)
-  action_idle (action.StorageDead v) h z = absurd (miss (0 ∷ 4 ∷ []) 7 tt h)
+  action_idle action.Noop i b g u m v z = as_read refl (omega arith) (rw z) (rw z none)
+  action_idle (action.Init d n) i b g u m v z = absurd (i d n refl)
+  action_idle (action.Borrow d r k q) i b g u m v z = absurd (b d r k q refl)
+  action_idle (action.Assign d q) i b g u m v z = absurd (g d q refl)
+  action_idle (action.Constraint sup sub) i b g u m v z = as_read refl (omega arith) (rw z) (rw z none)
+  action_idle (action.Use q) i b g u m v z = absurd (u q refl)
+  action_idle (action.Drop q) i b g u m v z = absurd (m q refl)
+  action_idle (action.StorageDead w) i b g u m v z = absurd (v w refl)
 
   module _ {a : Action} where
     module _ {x : own.Access} (w : (r.count ≡ 1) × (accesses_in r ≡ x ∷ [])) where

@@ -1,7 +1,4 @@
 -- Laws of verdicts.
-pub mod Walk
-pub mod LentArray
-pub mod SearchValues
 pub mod SearchLaws
 pub mod AccessLaws
 pub mod ScopeLaws

@@ -40,12 +40,12 @@ abbrev pub lent_at : Job → List ℕ → Loan → repr.Path → ℕ → Bool
 lent_at j s loan q k = eqb k loan.path.steps && is_prefix j (path_of s loan.path) (path_of s q)
 
 -- the prefix of k steps of the loan's path is the path q, and is near
-abbrev pub field_own : Job → List ℕ → Depth → Loan → repr.Path → ℕ → Bool
-field_own j s depth loan q k = eqb k q.steps && near j depth (path_of s q) (path_of s loan.path)
+abbrev pub own_at : Job → List ℕ → Depth → Loan → repr.Path → ℕ → Bool
+own_at j s depth loan q k = eqb k q.steps && near j depth (path_of s q) (path_of s loan.path)
 
 -- The answer is whether one of the two prefixes of k steps conflicts.
 pub record Touches (s : List ℕ) (loan : Loan) (x : Access) (k : ℕ) (r : Bool) : Type 0 where
-  pub says : (j : Job) → ShortestOf j (path_of s loan.path) loan.shortest → r ≡ lent_at j s loan x.path k || field_own j s x.depth loan x.path k
+  pub says : (j : Job) → ShortestOf j (path_of s loan.path) loan.shortest → r ≡ lent_at j s loan x.path k || own_at j s x.depth loan x.path k
 
 -- How many prefixes are to be looked at: all of both paths where the access minds the loan and they have one base.
 pub record Prefixes (loan : Loan) (x : Access) (n : ℕ) : Type 0 where

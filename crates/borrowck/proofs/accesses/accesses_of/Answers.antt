@@ -22,4 +22,4 @@ pub returns-in-StorageDead : goal.returns-in-StorageDead
 returns-in-StorageDead c = action_dead c.one-in-StorageDead.ensures c.in-StorageDead.is c.storage_dead.ensures
 
 pub returns-in_default : goal.returns-in_default
-returns-in_default c = action_idle c.args.a c.in_default.keys7 refl
+returns-in_default c = action_idle c.args.a c.in_default.not-Init c.in_default.not-Borrow c.in_default.not-Assign c.in_default.not-Use c.in_default.not-Drop c.in_default.not-StorageDead refl

@@ -1,0 +1,30 @@
+-- `regionck::round::rest`. The loop's invariant: the constraints of the points from `from` on, up to p, are run. Assumes nothing.
+use Prim.Native.Nat.{ℕ, ◌-◌, ◌≤◌}
+use mathlib.Core.Path.{◌≡◌}
+use mathlib.Core.List.{List}
+use lib.ListN.{length}
+use native.Mathlib.Omega.{arith}
+use Rattle.rerun.specs.Rerun.{OwnKept}
+use Rattle.rerun.proofs.RerunLaws.{own_same, own_then}
+use Rattle.regionck.specs.Rounds.{Sound, RunsBelow}
+use Rattle.regionck.proofs.RoundLaws.{below_code}
+use borrow.Author.Rules.{rules}
+use Rattle.regionck.proofs.round.rest.Goals as goal
+
+pub loop-p-init : goal.loop-p-init
+loop-p-init c = (c.requires.1, search rules, search rules, search rules, λ ws x. x, own_same, c.requires.2)
+
+pub visit-requires : goal.visit-requires
+visit-requires c = (c.requires.0, omega arith, c.loop-p.invariant.6)
+
+pub overflow_add-p : goal.overflow_add-p
+overflow_add-p c = search (rules, c.loop-p-test.true, c.well_formed)
+
+pub loop-p-preserved : goal.loop-p-preserved
+loop-p-preserved c =
+    let loop = c.loop-p in
+    let visit = c.visit.ensures in
+    (omega arith, search rules, search rules, search rules, λ ws x. visit.0 ws (loop.invariant.4 ws x), own_then loop.invariant.5 visit.1, visit.2)
+
+pub returns : goal.returns
+returns c = (λ ws x. below_code c.loop-p.p (omega arith) (c.loop-p.invariant.4 ws x), c.loop-p.invariant.5, c.loop-p.invariant.6)

@@ -1,0 +1,38 @@
+-- `regionck::solve`. The loop's invariant: some rounds were run, fewer than `left` bits of the regions are 0, the constraints of `recent` are the job's, and the rows of `absent` are
+-- right. Assumes nothing.
+use mathlib.Core.Path.{◌≡◌, sym, ◌∙◌}
+use lib.ListN.{length}
+use borrow.Author.Tests.{not-true, not-false}
+use native.Mathlib.Omega.{arith}
+use Rattle.regionck.specs.Rounds.{Sound}
+use Rattle.regionck.proofs.RoundLaws.{sound_none}
+use Rattle.regionck.proofs.SolvedLaws.{GoingOn, Kept, kept-none, kept_more, going_start, going_more, going_done, going_out}
+use borrow.Author.Rules.{rules}
+use Rattle.regionck.proofs.solve.Goals as goal
+
+pub loop-left-init : goal.loop-left-init
+loop-left-init c = (search rules, c.clear.ensures.sized, search rules, search rules, search rules, sound_none c.requires.2, kept-none c.clear-2.ensures.1, going_start c.clear.ensures)
+
+pub round-last-requires : goal.round-last-requires
+round-last-requires c = (c.requires.0, c.collect-to.ensures, c.loop-left.invariant.5)
+
+pub shape_of-recent-then-not-any_marked : goal.shape_of-recent-then-not-any_marked
+shape_of-recent-then-not-any_marked c = omega (arith, c.recent-in-loop-left-1, c.loop-left.invariant.2, c.recent-1)
+
+pub shape_of-before-then-not-any_marked : goal.shape_of-before-then-not-any_marked
+shape_of-before-then-not-any_marked c = omega (arith, c.before-in-loop-left-1, c.before-1, c.loop-left.invariant.4)
+
+pub returns-then-not-any_marked : goal.returns-then-not-any_marked
+returns-then-not-any_marked c =
+    let loop = c.loop-left in
+    (loop.invariant.1, going_done loop.invariant.7 loop.invariant.6 c.round-last.ensures.0 (sym c.any_marked.ensures ∙ not-true _ c.if-not-any_marked.true-raw))
+
+pub loop-left-preserved : goal.loop-left-preserved
+loop-left-preserved c =
+    let loop = c.loop-left in
+    let noted = c.note.ensures loop.invariant.1 in
+    let r = c.round-last.ensures in
+    (search rules, noted.sized, search rules, search rules, omega (arith, c.before-in-loop-left-1, c.before-1, loop.invariant.4), r.2, kept_more loop.invariant.6 r.1, going_more loop.invariant.7 loop.invariant.6 r.0 (sym c.any_marked.ensures ∙ not-false _ c.if-not-any_marked.false-raw) noted)
+
+pub returns : goal.returns
+returns c = (c.loop-left.invariant.1, going_out (omega arith) c.loop-left.invariant.7)
