@@ -170,7 +170,7 @@ module _ (s : List ℕ) (accesses : List Access) (loans : List Loan) where
     first-none many l = record { most = omega arith; before = λ m h. w.before m (omega arith); here = λ h. absurd (omega arith); hit = λ h. absurd (omega arith) }
 
     module _ {x : Access} {r : Found} {b : Bool} (e : x ≡ nth_access accesses k) (v : FoundIn s x loans r) (i : b ≡ is_found r) where
-      pub tried_more : T (not b) → Tried (k + 1)
+      pub tried_more : b ≡ false → Tried (k + 1)
       tried_more h = record { before = λ m l. go m l (dec_lt m k) }
         where
           missed : (y : Found) → is_found y ≡ false → y ≡ Nothing
@@ -179,7 +179,7 @@ module _ (s : List ℕ) (accesses : List Access) (loans : List Loan) where
 
           go : (m : ℕ) → m < k + 1 → Dec (m < k) → FoundIn s (nth_access accesses m) loans Nothing
           go m l (yes a) = w.before m a
-          go m l (no a) = let y : m ≡ k = omega arith in rw (y, sym e) (subst (FoundIn s x loans) (missed r (sym i ∙ fails b h)) v)
+          go m l (no a) = let y : m ≡ k = omega arith in rw (y, sym e) (subst (FoundIn s x loans) (missed r (sym i ∙ h)) v)
 
       pub first-here : (many : ℕ) → k < many → T b → FirstIn s accesses many loans (record { access = k; loan = r })
       first-here many l h = record { most = omega arith; before = w.before; here = λ o. subst (λ y. FoundIn s y loans r) e v; hit = λ o. sym i ∙ is_true b h }
