@@ -42,8 +42,7 @@ pub fn analyse(input: &[u8], words: &mut [u32], bytes: &mut [u8]) -> Analysis
 }
 
 // The same for C, as document 01's number: 0, or a refusal's.
-#[unsafe(no_mangle)]
-pub extern "C" fn nll_analyse(input: &[u8], words: &mut [u32], bytes: &mut [u8]) -> u8
+pub fn nll_analyse(input: &[u8], words: &mut [u32], bytes: &mut [u8]) -> u8
     ensures { AnalyseSays input.now words.old bytes.old result words.new bytes.new }
 {
     match analyse(input, words, bytes) {
@@ -53,8 +52,7 @@ pub extern "C" fn nll_analyse(input: &[u8], words: &mut [u32], bytes: &mut [u8])
 }
 
 // How many points the job of the record `input` has; 0 of a record that refusals 1 to 9 refuse.
-#[unsafe(no_mangle)]
-pub extern "C" fn nll_points(input: &[u8]) -> u16
+pub fn nll_points(input: &[u8]) -> u16
     ensures { result ≡ points_of (output.judge input.now) }
 {
     let mut layout = [0; 1280];
