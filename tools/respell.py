@@ -11,14 +11,14 @@ import os
 import re
 import sys
 
-TOKEN = re.compile(r"(?<![A-Za-z0-9_'\-\\#])[A-Za-z_][A-Za-z0-9_'₀-₉ₐ-ₜ]*(?:-[A-Za-z0-9_'₀-₉ₐ-ₜ]+)*")
+TOKEN = re.compile(r"(?<![A-Za-z0-9_'\-\\#])(?!b'.')[A-Za-z_][A-Za-z0-9_'₀-₉ₐ-ₜ]*(?:-[A-Za-z0-9_'₀-₉ₐ-ₜ]+)*")
 SIGNATURE = re.compile(r"^\s*(?:\| )?(?:abbrev |unfoldable )?(?:pub )?([A-Za-z_][A-Za-z0-9_'\-₀-₉]*) :", re.M)
 CAMEL = re.compile(r"(?<=[a-z0-9'])([A-Z])")
 ESCAPE = re.compile(r"x[0-9A-F]{2}$")
 # Words of the library that stand in names of lemmas.
 LIBRARY = {"length", "get_or", "set", "take", "drop", "map", "replicate", "append", "min", "max", "cond", "eqb", "leb", "not", "bit_or", "bit_and", "suc", "pow", "mod", "div"}
 # A definition that would fall together with a field, and what stands for it. A lemma that would gets `_lem`.
-APART = {"inScope": "is_in_scope"}
+APART = {"inScope": "held_loans"}
 # Names that port.py wrote in snake case and that would fall together with a definition of another spelling, in lemma files.
 WRITTEN = {"entry_in": "entry_in_lem", "live_table": "live_table_lem", "row_words": "row_words_lem", "same_row": "same_row_lem", "fields_fit": "fields-fit", "all_in": "all_in_lem"}
 

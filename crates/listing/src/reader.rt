@@ -21,11 +21,11 @@ fn digit(c: u8) -> u8
     if c <= b'9' {
         return c - b'0';
     }
-    if c < b'_a' {
+    if c < b'A' {
         return 16;
     }
-    if c <= b'_f' {
-        return c - b'_a' + 10;
+    if c <= b'F' {
+        return c - b'A' + 10;
     }
     if c < b'a' {
         return 16;

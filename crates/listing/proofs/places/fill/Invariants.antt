@@ -1,0 +1,12 @@
+-- `listing::places::fill` meets its contract. Assumes nothing.
+use Prim.Native.Nat.{◌-◌}
+use native.Mathlib.Omega.{arith}
+use borrow.Author.Tests.{ltb-true, ltb-false}
+use Rattle.listing.proofs.PlaceLaws.{Filling, filling_none, filling_turn, filling_all}
+use Rattle.listing.proofs.places.fill.Given as goal
+
+abbrev pub invariant-loop-used : goal.invariant-loop-used
+invariant-loop-used l = Filling l.n l.words l.bytes l.initial.place l.used l.place l.steps l.out
+
+abbrev pub decreases-loop-used : goal.decreases-loop-used
+decreases-loop-used l = 4096 - l.steps
