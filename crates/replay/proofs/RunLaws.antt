@@ -7,7 +7,7 @@ use native.Mathlib.Numerals.{add-one}
 use native.Mathlib.Nat.{add-zero, zero-add}
 use lib.ListN.{length, get_or, take, set, length-set, length-append}
 use lib.Seq.{take-suc, take-suc-set, take_all}
-use Rattle.io.specs.Counts.{IsPrefixLen}
+use Rattle.replay.specs.File.{IsPrefixLen}
 use Rattle.replay.specs.Run.{Appended, most_actions, too_many_actions, third_grows, too_long, run_file}
 
 -- The first i elements of src are put.

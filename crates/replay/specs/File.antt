@@ -67,6 +67,10 @@ agrees s e =
 
 -- ---- The whole file
 
+-- `&s[..n]` is within the bytes s, and has n of them.
+abbrev pub IsPrefixLen : ℕ → List ℕ → Type 0
+IsPrefixLen n s = (n ≤ length s) × (n ≡ length (take n s))
+
 -- where entry n stands
 unfoldable pub start_of : List ℕ → ℕ → ℕ
 start_of s zero = 2

@@ -6,25 +6,23 @@ mod file;
 mod run;
 mod tally;
 
-ghost use Rattle.std.specs.Prelude.{◌≡◌, length};
-ghost use Rattle.io.specs.Counts.{IsPrefixLen};
+ghost use Rattle.std.specs.Prelude.{◌≡◌, length, IfOk};
+ghost use Rattle.replay.specs.File.{IsPrefixLen};
 
-use libc::STDOUT_FILENO;
 use run::cases;
+use std::fs::File;
+use std::io;
+use std::io::{Read, Stdout};
 use tally::{Count, replay};
 
 // Prints a file's name and how many of its entries agree, or that it is not a whole file: entries and nothing else.
-fn report(name: &[u8], c: Count) {
-    io::write_all(STDOUT_FILENO, name);
+fn report(output: Stdout, name: &str, c: Count) -> io::Result<()> {
     if !c.whole {
-        io::write_all(STDOUT_FILENO, b": not a whole file\n");
-        return;
+        return println!(output; "{name}: not a whole file");
     }
-    io::write_all(STDOUT_FILENO, b" ");
-    io::print_decimal(STDOUT_FILENO, c.agree as u64);
-    io::write_all(STDOUT_FILENO, b" of ");
-    io::print_decimal(STDOUT_FILENO, c.entries as u64);
-    io::write_all(STDOUT_FILENO, b" agree\n");
+    let agree = c.agree;
+    let entries = c.entries;
+    println!(output; "{name} {agree} of {entries} agree")
 }
 
 // Room for a file.
@@ -34,28 +32,52 @@ fn space() -> [u8; 1048576]
     [0; 1048576]
 }
 
-// Reads the file of recorded answers, and answers how many bytes it has: 0 where it cannot be opened or may go on past the room.
-fn read_answers(s: &mut [u8]) -> usize
+// Reads until the room is full, the input ends or a read fails, and answers how many bytes were read.
+fn read_full<R: Read>(input: &mut R, s: &mut [u8]) -> usize
     ensures { IsPrefixLen result s.new }
 {
-    let path = b"answers.bin";
-    let fd = os::open_read(path);
-    if fd < 0 {
-        os::fail(path);
-        return 0;
+    let mut done = 0;
+    for _ in 0..u64::MAX {
+        if s.len() <= done {
+            return done;
+        }
+        match input.read(&mut s[done..]) {
+            Ok(n) => {
+                if n == 0 {
+                    return done;
+                }
+                done += n;
+            }
+            Err(_) => return done,
+        }
     }
-    let n = io::read_full(fd, s);
-    libc::close(fd);
-    if n == s.len() {
-        return 0;
-    }
-    n
+    done
 }
 
-fn main() {
+// Reads the file of recorded answers, and answers how many bytes it has: 0 where it cannot be opened or may go on past the room.
+fn read_answers(rt: HostRuntime, s: &mut [u8]) -> io::Result<usize>
+    ensures { IfOk result (λ n. IsPrefixLen n s.new) }
+{
+    let path = "answers.bin";
+    match File::open(&rt, path) {
+        Ok(file) => {
+            let n = read_full(&mut &file, s);
+            if n == s.len() {
+                return Ok(0);
+            }
+            Ok(n)
+        }
+        Err(e) => {
+            eprintln!(rt; "{path}: {e}")?;
+            Ok(0)
+        }
+    }
+}
+
+fn main(rt: HostRuntime) -> io::Result<()> {
     let mut s = space();
-    let n = read_answers(&mut s);
-    report(b"recorded", replay(&s[..n]));
+    let n = read_answers(rt, &mut s)?;
+    report(rt.stdout(), "recorded", replay(&s[..n]))?;
     let n = cases(&mut s);
-    report(b"run", replay(&s[..n]));
+    report(rt.stdout(), "run", replay(&s[..n]))
 }

@@ -1,6 +1,6 @@
 // The cases that document 01 runs, as a file of recorded answers.
 ghost use Rattle.std.specs.Prelude.{◌≡◌, ◌+◌, ◌≤◌, length, take, replicate};
-ghost use Rattle.io.specs.Counts.{IsPrefixLen};
+ghost use Rattle.replay.specs.File.{IsPrefixLen};
 ghost use Rattle.replay.specs.Run.{Appended, most_actions, too_many_actions, third_grows, too_long, run_file};
 
 // Puts the bytes of src at a position, and answers the position after them.
