@@ -1,0 +1,13 @@
+#![tactic(auto)]
+// The calls for C, as include/nll.h declares them.
+ghost use Rattle.std.specs.Prelude.{◌≡◌};
+ghost use Rattle.nll_spec.specs.Output as output;
+ghost use Rattle.nll.specs.Analysis.{AnalyseSays, points_of};
+
+// Analyses the record `input`, and answers document 01's number: 0, or a refusal's.
+#[unsafe(no_mangle)]
+pub extern "C" fn nll_analyse(input: &[u8], words: &mut [u32], bytes: &mut [u8]) -> u8
+    ensures { AnalyseSays input.now words.old bytes.old result words.new bytes.new }
+{
+    nll::nll_analyse(input, words, bytes)
+}
