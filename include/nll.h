@@ -1,7 +1,7 @@
 /*
  * The borrow analysis of scan jobs: one call, from a record's bytes to the words and bytes of its answer.
  *
- * The static library is written by `rt staticlib nll` to target/staticlib/libnll.a, for x86-64 Linux. It needs memcpy and memset
+ * The static library is written by `./staticlib` to target/staticlib/libnll.a, for x86-64 Linux. It needs memcpy and memset
  * of the C library, has no data that can be written, allocates nothing and keeps nothing between calls.
  * docs/INTEGRATION.md says how a loader uses it; docs/PROMISES.md says what is proved of it.
  */

@@ -1,6 +1,6 @@
 /*
  * A small loader: reads a job in hexadecimal, has it analysed, tells the operator what was found and decides whether the
- * transport may move. In the repository, after `rt staticlib nll`:
+ * transport may move. In the repository, after `./staticlib`:
  *
  *   cc -std=c99 -Wall -Wextra -pedantic -I include -o target/loader examples/c/loader.c target/staticlib/libnll.a
  *   target/loader jobs/case5.hex

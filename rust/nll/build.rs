@@ -15,7 +15,7 @@ fn main() {
     println!("cargo:rerun-if-changed={}", archive.display());
     if !archive.is_file() {
         eprintln!(
-            "there is no {}: run `rt staticlib nll` in the repository, or name its folder in NLL_STATICLIB",
+            "there is no {}: run `./staticlib` in the repository, or name its folder in NLL_STATICLIB",
             archive.display()
         );
         process::exit(1);

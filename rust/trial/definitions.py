@@ -12,7 +12,7 @@ from collections import Counter
 
 BATCH = 20
 FILL = 7  # what the buffers hold before the call
-NAMESPACE = 'Rattle·nll_spec·specs.specs'
+NAMESPACE = 'Rattle.nll_spec.specs'
 
 
 def lines(command, text=None):
@@ -86,66 +86,62 @@ def row(index, record, answer):
 
 
 HEADER = '''-- Generated records with the recorded answers, which the checker computes.
-use mathlib.Core.Bool.{Bool, true, false, _&&_}
-use mathlib.Core.List.{List, [], _∷_, _++_}
-use Prim.Native.Nat.{ℕ, zero, suc, _/_, _%_}
-use lib.ListN.{length, drop, replicate}
-use lib.Dec.{T, eqb}
+use Rattle.std.specs.Prelude.{Bool, true, false, ◌&&◌, List, [], ◌∷◌, ◌++◌, ℕ, zero, suc, ◌/◌, ◌%◌, length, drop, replicate, T, eqb}
 '''
 
 DEFINITIONS = f'''
 -- A record, the lengths of both buffers, the number that the call returns, and the words and bytes that it writes.
 pub record TrialRow : Type 0 where
-  pub trialInput : List ℕ
-  pub trialWordCount : ℕ
-  pub trialByteCount : ℕ
-  pub trialNumber : ℕ
-  pub trialWords : List ℕ
-  pub trialBytes : List ℕ
+  pub trial_input : List ℕ
+  pub trial_word_count : ℕ
+  pub trial_byte_count : ℕ
+  pub trial_number : ℕ
+  pub trial_words : List ℕ
+  pub trial_bytes : List ℕ
 
 -- the n bytes of a number, the highest first, before those given
-abbrev pub trialBigEndian : ℕ → ℕ → List ℕ → List ℕ
-trialBigEndian zero x rest = rest
-trialBigEndian (suc n) x rest = trialBigEndian n (x / 256) (x % 256 ∷ rest)
+abbrev pub trial_big_endian : ℕ → ℕ → List ℕ → List ℕ
+trial_big_endian zero x rest = rest
+trial_big_endian (suc n) x rest = trial_big_endian n (x / 256) (x % 256 ∷ rest)
 
 abbrev pub row : ℕ → ℕ → ℕ → ℕ → ℕ → List ℕ → List ℕ → TrialRow
 row n x w b k ws bs =
-    record {{ trialInput = trialBigEndian n x []; trialWordCount = w; trialByteCount = b; trialNumber = k; trialWords = ws; trialBytes = bs }}
+    record {{ trial_input = trial_big_endian n x []; trial_word_count = w; trial_byte_count = b; trial_number = k; trial_words = ws; trial_bytes = bs }}
 
-abbrev pub trialSame : List ℕ → List ℕ → Bool
-trialSame [] [] = true
-trialSame [] (y ∷ ys) = false
-trialSame (x ∷ xs) [] = false
-trialSame (x ∷ xs) (y ∷ ys) = eqb x y && trialSame xs ys
+abbrev pub trial_same : List ℕ → List ℕ → Bool
+trial_same [] [] = true
+trial_same [] (y ∷ ys) = false
+trial_same (x ∷ xs) [] = false
+trial_same (x ∷ xs) (y ∷ ys) = eqb x y && trial_same xs ys
 
-abbrev pub trialEvery : (TrialRow → Bool) → List TrialRow → Bool
-trialEvery f [] = true
-trialEvery f (x ∷ xs) = f x && trialEvery f xs
+abbrev pub trial_every : (TrialRow → Bool) → List TrialRow → Bool
+trial_every f [] = true
+trial_every f (x ∷ xs) = f x && trial_every f xs
 
-abbrev pub trialAfter : List ℕ → List ℕ → List ℕ
-trialAfter new old = new ++ drop (length new) old
+abbrev pub trial_after : List ℕ → List ℕ → List ℕ
+trial_after new old = new ++ drop (length new) old
 
-unfoldable pub trialPasses : TrialRow → Bool
-trialPasses r =
-    let ws : List ℕ = replicate (r .trialWordCount) {FILL} in
-    let bs : List ℕ = replicate (r .trialByteCount) {FILL} in
-    let o = analyse everyEnd (r .trialInput) ws bs in
-    eqb (o .number) (r .trialNumber) && trialSame (o .words) (trialAfter (r .trialWords) ws) && trialSame (o .bytes) (trialAfter (r .trialBytes) bs)
+unfoldable pub trial_passes : TrialRow → Bool
+trial_passes r =
+    let ws : List ℕ = replicate r.trial_word_count {FILL} in
+    let bs : List ℕ = replicate r.trial_byte_count {FILL} in
+    let o = analyse every_end r.trial_input ws bs in
+    eqb o.number r.trial_number && trial_same o.words (trial_after r.trial_words ws) && trial_same o.bytes (trial_after r.trial_bytes bs)
 '''
 
 
 def trial_text(crate, rows):
     opened = {m: unfoldable(crate, m) for m in modules(crate)}
     uses = ''.join(f'use {NAMESPACE}.{m}.{{{", ".join(names)}}}\n' for m, names in opened.items() if names)
-    if 'everyEnd' not in opened['Regions']:
-        uses += f'use {NAMESPACE}.Regions.{{everyEnd}}\n'
+    if 'every_end' not in opened['Regions']:
+        uses += f'use {NAMESPACE}.Regions.{{every_end}}\n'
     unfolding = ' '.join(name for names in opened.values() for name in names)
     text = HEADER + uses + DEFINITIONS
     for batch, first in enumerate(range(0, len(rows), BATCH)):
         listed = '\n    ∷ '.join(rows[first:first + BATCH] + ['[]'])
-        text += f'\nunfoldable pub trialRows{batch} : List TrialRow\ntrialRows{batch} =\n    {listed}\n'
-        text += f'\npub trial-{batch} : T (trialEvery trialPasses trialRows{batch})\n'
-        text += f'unfolding trialRows{batch} trialPasses {unfolding}\ntrial-{batch} = tt\n'
+        text += f'\nunfoldable pub trial_rows{batch} : List TrialRow\ntrial_rows{batch} =\n    {listed}\n'
+        text += f'\npub trial-{batch} : T (trial_every trial_passes trial_rows{batch})\n'
+        text += f'unfolding trial_rows{batch} trial_passes {unfolding}\ntrial-{batch} = tt\n'
     return text
 
 
@@ -158,15 +154,17 @@ def spoiled(record):
 def check(crate, rows, quiet=False):
     """Proves a copy of the crate with the rows, and gives the exit status."""
     with tempfile.TemporaryDirectory() as folder:
-        copy = os.path.join(folder, 'nll_spec')
-        shutil.copytree(crate, copy, ignore=shutil.ignore_patterns('must-fail', 'target'))
+        copy = os.path.join(folder, 'crates', 'nll_spec')
+        shutil.copytree(crate, copy, ignore=shutil.ignore_patterns('must-fail', 'out'))
+        with open(f'{folder}/crates.txt', 'w', encoding='utf-8') as out:
+            out.write('nll_spec:\n')
         for file in glob.glob(f'{copy}/**', recursive=True) + [copy]:
             os.chmod(file, 0o755 if os.path.isdir(file) else 0o644)
         with open(f'{copy}/specs/Trial.antt', 'w', encoding='utf-8') as out:
             out.write(trial_text(copy, rows))
         with open(f'{copy}/specs/Lib.antt', 'a', encoding='utf-8') as out:
             out.write('pub mod Trial\n')
-        return subprocess.run(['rt', 'check', copy], capture_output=quiet).returncode
+        return subprocess.run(['rt', 'check'], cwd=copy, capture_output=quiet).returncode
 
 
 def main():

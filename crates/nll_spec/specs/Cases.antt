@@ -1,22 +1,17 @@
 -- Cases 1 to 10 of document 01, and the cases that tell mistakes apart which 1 to 10 let pass: tables that the checker computes.
-use Rattle.std.specs.Prelude.{Bool, true, false, ◌&&◌, List, [], ◌∷◌, ℕ, zero, suc, replicate, T, eqb}
+use Rattle.std.specs.Prelude.{Bool, true, false, ◌&&◌, List, [], ◌∷◌, ℕ, zero, suc, replicate, eqb}
 use Rattle.std.specs.Bool.{beq}
 use Prim.Native.String.{String, ◌++◌}
 use Rattle.nll_spec.specs.Lists.{every, below}
-use Rattle.nll_spec.specs.Fixpoint.{least}
 use Rattle.nll_spec.specs.Syntax.{Job, Path, Point}
-use Rattle.nll_spec.specs.Decode.{rejected, decoded, done, refuse, ◌>>=◌, byte, count, pick, one_of, items, counted, borrow_kind, region, node_tag, args, tagged, type_within, type, variance, flag, kind, param, field, struct_decl, path, action, block, job, code_count, point_count, borrow_count, whole, decode_body, decode}
-use Rattle.nll_spec.specs.Types.{arg_count, drop_args, field_type, step_type, step, type_after, path_type, never_stops, begins, is_prefix, is_supporting, is_frozen, type_nodes, regions_of, subst}
-use Rattle.nll_spec.specs.WellFormed.{action_named, structs_named, outlived_named, variables_named, successors_named, actions_named, named, fields_fit, variables_fit, types_fit, steps_fit, path_fits, paths_of, paths_fit, shape_fits, shapes_fit, refusal, type_named, type_fits, same_shape}
-use Rattle.nll_spec.specs.Graph.{Graph, action_at, is_walked, first_point, block_statements, statements_from, statements_of, walked_table, graph_of}
-use Rattle.nll_spec.specs.Liveness.{is_plain, defs, uses, drops, live_table}
-use Rattle.nll_spec.specs.Constraints.{relate_source, constraints_at, constraints_of, relate}
-use Rattle.nll_spec.specs.Regions.{every_end, outlives_table, seed_table, solve, is_grown, drop_regions}
-use Rattle.nll_spec.specs.Loans.{Loan, loan_at, loans_of, overwritten, kills, scope_table}
-use Rattle.nll_spec.specs.Access.{accesses, intersects, freezes, conflicts, action_conflicts, first_fault, in_scope_at, verdict_at}
-use Rattle.nll_spec.specs.Output.{Answer, overwrite, answer, from_bits, row_words, words_of, bytes_of, words_needed, bytes_needed, write, judge_job, judge, analyse}
-use Rattle.nll_spec.specs.Listing.{verdict_of, ascii, digit, bytes_from, hex_bytes, digits_of, line, answer_lines, listing}
-use Rattle.nll_spec.specs.Guarantee.{holders_after, is_path, uses_holder, untouched, only}
+use Rattle.nll_spec.specs.Decode.{rejected, decoded, kind}
+use Rattle.nll_spec.specs.Graph.{Graph, action_at, is_walked, graph_of}
+use Rattle.nll_spec.specs.Liveness.{is_plain}
+use Rattle.nll_spec.specs.Regions.{every_end}
+use Rattle.nll_spec.specs.Loans.{Loan, loan_at, overwritten}
+use Rattle.nll_spec.specs.Output.{Answer, overwrite, answer, judge, analyse}
+use Rattle.nll_spec.specs.Listing.{verdict_of, ascii, hex_bytes, listing}
+use Rattle.nll_spec.specs.Guarantee.{is_path, uses_holder, untouched, only}
 
 -- ---- What a row says
 

@@ -1,7 +1,7 @@
 -- Constraints of a job that are run more often. Assumes nothing.
 use mathlib.Core.Path.{◌≡◌, ◌∙◌, subst}
 use mathlib.Core.Logic.{◌⊎◌, ⊎_elim}
-use mathlib.Core.List.{List, [], ◌++◌}
+use mathlib.Core.List.{List, []}
 use Prim.Native.Nat.{ℕ}
 use lib.ListN.{length, length-replicate}
 use Rattle.nll_spec.specs.Lists.{Member}
@@ -12,7 +12,7 @@ use Rattle.nll_spec.proofs.Members.{member_right}
 use Rattle.record.specs.declared.Head.{Head}
 use Rattle.constraint_list.specs.Listed.{constraints_in, Draws}
 use Rattle.infer.specs.Search.{rule_of}
-use Rattle.infer.specs.Ran.{Setting, Given, Ran, Runs}
+use Rattle.infer.specs.Ran.{Setting, Given, Runs}
 use Rattle.infer.specs.declared.EndRule as declared
 use Rattle.infer.specs.declared.Shape.{Shape}
 use Rattle.infer.proofs.RanLaws.{no_member, ran_again}

@@ -1,8 +1,7 @@
 -- `absent_regions::all_in`. The loop's invariant: all is `words_in` of the first k words. Assumes nothing.
-use Prim.Native.Nat.{◌-◌, ◌≤◌}
+use Prim.Native.Nat.{◌-◌}
 use mathlib.Core.Path.{◌≡◌}
 use native.Mathlib.Omega.{arith}
-use Rattle.absent_regions.specs.Absent.{words_in}
 use Rattle.absent_regions.proofs.AbsentLaws.{words-none, words_more, all_in_lem, not-all}
 use Rattle.absent_regions.proofs.all_in.Goals as goal
 

@@ -1,8 +1,7 @@
 -- `absent_regions::inner_regions`. The loop's invariant: the marks are those of the inner regions of the first i constraints. Assumes nothing.
-use Prim.Native.Nat.{◌-◌, ◌≤◌}
+use Prim.Native.Nat.{◌-◌}
 use native.Mathlib.Omega.{arith}
 use mathlib.Core.Path.{◌≡◌}
-use Rattle.absent_regions.specs.Absent.{InnerMarked}
 use Rattle.absent_regions.proofs.MarkLaws.{inner_none, inner_more}
 use Rattle.absent_regions.proofs.inner_regions.Goals as goal
 

@@ -1,8 +1,7 @@
 -- `absent_regions::marked`. The loop's invariant: the set has the marked regions below x. Assumes nothing.
-use Prim.Native.Nat.{◌-◌, ◌≤◌}
+use Prim.Native.Nat.{◌-◌}
 use mathlib.Core.Path.{◌≡◌}
 use native.Mathlib.Omega.{arith}
-use Rattle.absent_regions.specs.Absent.{Marks}
 use Rattle.absent_regions.proofs.MarkLaws.{marks-none, marks-more}
 use Rattle.absent_regions.proofs.marked.Goals as goal
 

@@ -1,9 +1,7 @@
 -- `absent_regions::put`. The loop's invariant: the table is `with_absent` of the regions below x. Assumes nothing.
 use Prim.Native.Nat.{◌-◌, ◌≤◌}
 use mathlib.Core.Path.{◌≡◌}
-use native.Mathlib.Omega.{arith}
 use Rattle.absent_regions.specs.Absent.{with_absent}
-use Rattle.absent_regions.proofs.AbsentLaws.{with_none, with_more, with_length, puts, puts_none}
 use Rattle.absent_regions.proofs.put.Given as goal
 
 abbrev pub invariant-loop-x : goal.invariant-loop-x

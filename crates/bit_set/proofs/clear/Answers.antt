@@ -1,8 +1,7 @@
 use borrow.Author.Tests.{not-true, not-false}
-use Prim.Native.Nat.{◌-◌}
 use mathlib.Core.Path.{sym, ◌∙◌}
 use native.Mathlib.Omega.{arith}
-use Rattle.bit_set.proofs.RunLaws.{Clearing, clear_no, clear_start, clear_turn, clear_end}
+use Rattle.bit_set.proofs.RunLaws.{clear_no, clear_start, clear_turn, clear_end}
 use Rattle.bit_set.proofs.clear.Goals as goal
 
 pub returns-then-not-run_fits : goal.returns-then-not-run_fits

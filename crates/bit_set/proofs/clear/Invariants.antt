@@ -1,8 +1,5 @@
-use borrow.Author.Tests.{not-true, not-false}
 use Prim.Native.Nat.{◌-◌}
-use mathlib.Core.Path.{sym, ◌∙◌}
-use native.Mathlib.Omega.{arith}
-use Rattle.bit_set.proofs.RunLaws.{Clearing, clear_no, clear_start, clear_turn, clear_end}
+use Rattle.bit_set.proofs.RunLaws.{Clearing}
 use Rattle.bit_set.proofs.clear.Given as goal
 
 abbrev pub invariant-loop-k : goal.invariant-loop-k

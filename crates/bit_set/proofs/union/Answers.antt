@@ -1,10 +1,7 @@
-use borrow.Author.Tests.{not-true, not-false}
-use Prim.Native.Nat.{◌-◌, ◌<◌}
-use mathlib.Core.Path.{◌≡◌, sym, ◌∙◌}
-use mathlib.Core.Bool.{true}
+use Prim.Native.Nat.{◌<◌}
+use mathlib.Core.Path.{sym, ◌∙◌}
 use native.Mathlib.Omega.{arith}
-use Rattle.bit_set.specs.Bits.{read_first}
-use Rattle.bit_set.proofs.RunLaws.{Joining, within_no, within_yes, within-start, join_turn, join_read, join_end}
+use Rattle.bit_set.proofs.RunLaws.{within_no, within_yes, within-start, join_turn, join_read, join_end}
 use Rattle.bit_set.proofs.union.Goals as goal
 
 pub returns-then-not-ok : goal.returns-then-not-ok

@@ -1,10 +1,8 @@
-use borrow.Author.Tests.{not-true, not-false}
-use Prim.Native.Nat.{◌-◌, ◌<◌}
-use mathlib.Core.Path.{◌≡◌, sym, ◌∙◌}
+use Prim.Native.Nat.{◌-◌}
+use mathlib.Core.Path.{◌≡◌}
 use mathlib.Core.Bool.{true}
-use native.Mathlib.Omega.{arith}
 use Rattle.bit_set.specs.Bits.{read_first}
-use Rattle.bit_set.proofs.RunLaws.{Joining, within_no, within_yes, within-start, join_turn, join_read, join_end}
+use Rattle.bit_set.proofs.RunLaws.{Joining}
 use Rattle.bit_set.proofs.union.Given as goal
 
 abbrev pub invariant-loop-i : goal.invariant-loop-i

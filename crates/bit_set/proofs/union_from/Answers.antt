@@ -1,8 +1,6 @@
-use borrow.Author.Tests.{not-true, not-false}
-use Prim.Native.Nat.{◌-◌}
 use mathlib.Core.Path.{refl}
 use native.Mathlib.Omega.{arith}
-use Rattle.bit_set.proofs.RunLaws.{Joining, joined_no, join_start, join_turn, join_end}
+use Rattle.bit_set.proofs.RunLaws.{joined_no, join_start, join_turn, join_end}
 use Rattle.bit_set.proofs.union_from.Goals as goal
 
 pub returns-then-not-ok : goal.returns-then-not-ok

@@ -1,8 +1,5 @@
-use borrow.Author.Tests.{not-true, not-false}
 use Prim.Native.Nat.{◌-◌}
-use mathlib.Core.Path.{refl}
-use native.Mathlib.Omega.{arith}
-use Rattle.bit_set.proofs.RunLaws.{Joining, joined_no, join_start, join_turn, join_end}
+use Rattle.bit_set.proofs.RunLaws.{Joining}
 use Rattle.bit_set.proofs.union_from.Given as goal
 
 abbrev pub invariant-loop-i : goal.invariant-loop-i

@@ -1,6 +1,5 @@
 -- `bit_slice::some_set`. The loop's invariant: the first k words of the run are 0. Assumes nothing.
-use Prim.Native.Nat.{◌-◌, ◌≤◌}
-use Rattle.bit_slice.proofs.SomeLaws.{Blank, blank_none, blank_more, some_past, some-set, none-set}
+use Rattle.bit_slice.proofs.SomeLaws.{blank_none, blank_more, some_past, some-set, none-set}
 use native.Mathlib.Omega.{arith}
 use Rattle.bit_slice.proofs.some_set.Goals as goal
 

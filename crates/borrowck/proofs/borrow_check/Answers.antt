@@ -1,9 +1,9 @@
 -- `borrowck::borrow_check` meets its contract. Assumes nothing.
-use lib.ListN.{length, length-set}
+use lib.ListN.{length-set}
 use mathlib.Core.Path.{refl}
-use Prim.Native.Nat.{◌-◌, ◌*◌, ◌≤◌}
+use Prim.Native.Nat.{◌-◌}
 use native.Mathlib.Omega.{arith}
-use Rattle.borrowck.proofs.WriteLaws.{Writing, writing-none, writing_more, written_nothing, written_all}
+use Rattle.borrowck.proofs.WriteLaws.{writing-none, writing_more, written_nothing, written_all}
 use Rattle.borrowck.proofs.borrow_check.Goals as goal
 
 pub returns-then-bytes-points : goal.returns-then-bytes-points

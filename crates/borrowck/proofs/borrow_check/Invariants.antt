@@ -1,9 +1,7 @@
 -- `borrowck::borrow_check` meets its contract. Assumes nothing.
-use lib.ListN.{length, length-set}
-use mathlib.Core.Path.{refl}
+use lib.ListN.{length}
 use Prim.Native.Nat.{◌-◌, ◌*◌, ◌≤◌}
-use native.Mathlib.Omega.{arith}
-use Rattle.borrowck.proofs.WriteLaws.{Writing, writing-none, writing_more, written_nothing, written_all}
+use Rattle.borrowck.proofs.WriteLaws.{Writing}
 use Rattle.borrowck.proofs.borrow_check.Given as goal
 
 abbrev pub invariant-loop-p : goal.invariant-loop-p

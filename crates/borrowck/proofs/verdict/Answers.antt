@@ -1,5 +1,4 @@
 -- `borrowck::verdict` meets its contract. Assumes nothing.
-use borrow.Author.Tests.{not-true, not-false}
 use Rattle.borrowck.proofs.FaultLaws.{verdict_free, verdict_refused, verdict_idle, verdict_there}
 use Rattle.borrowck.proofs.verdict.Goals as goal
 

@@ -1,9 +1,7 @@
 -- `constraints::relate_source`. The loop's invariant: the constraints of the first i steps are added. Assumes nothing.
-use Prim.Native.Nat.{◌-◌, ◌≤◌}
+use Prim.Native.Nat.{◌-◌}
 use mathlib.Core.Path.{◌≡◌}
 use native.Mathlib.Omega.{arith}
-use Rattle.constraint_list.specs.Listed.{Adds}
-use Rattle.constraints.specs.Constraining.{source_constraints}
 use Rattle.constraints.proofs.ConstrainLaws.{source-none, source_more}
 use borrow.Author.Rules.{rules}
 use Rattle.constraints.proofs.relate_source.Goals as goal

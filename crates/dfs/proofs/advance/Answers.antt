@@ -2,7 +2,7 @@
 use mathlib.Core.Path.{sym, ◌∙◌}
 use Prim.Native.Nat.{◌+◌}
 use native.Mathlib.Omega.{arith}
-use borrow.Author.Tests.{not-true, not-false}
+use borrow.Author.Tests.{not-false}
 use Rattle.dfs.proofs.ChainLaws.{held_word, past_code, no_link, not-held, there_yet}
 use Rattle.dfs.proofs.RunLaws.{one_run}
 use Rattle.dfs.proofs.advance.Goals as goal

@@ -1,12 +1,8 @@
 -- `dfs::chains`. The loop's invariant: `Chained`. Assumes nothing.
-use Prim.Native.Nat.{ℕ, ◌-◌, ◌≤◌}
-use mathlib.Core.Path.{◌≡◌, sym, ap, ◌∙◌, subst}
-use mathlib.Core.List.{List}
-use mathlib.Core.Logic.{⊎_elim}
-use native.Mathlib.Omega.{arith}
-use lib.ListN.{length, length-replicate}
+use Prim.Native.Nat.{◌-◌, ◌≤◌}
+use mathlib.Core.Path.{◌≡◌}
+use lib.ListN.{length}
 use Rattle.dfs.specs.Walk.{Chained}
-use Rattle.dfs.proofs.ChainLaws.{with_sized, chained_none, chained_more}
 use Rattle.dfs.proofs.chains.Given as goal
 
 abbrev pub invariant-loop-q : goal.invariant-loop-q

@@ -1,8 +1,6 @@
 -- `dfs::follow`. The loop's invariant: `Along`. Assumes nothing.
 use Prim.Native.Nat.{◌-◌}
-use native.Mathlib.Omega.{arith}
 use Rattle.dfs.specs.Walk.{in_code, Along}
-use Rattle.dfs.proofs.ChainLaws.{with_sized, along-none, along_trans, follow_end}
 use Rattle.dfs.proofs.follow.Given as goal
 
 abbrev pub invariant-loop-at : goal.invariant-loop-at

@@ -1,10 +1,8 @@
 -- `dfs::search`. The loop's invariant: `Going`. The measure is `work`. Assumes nothing.
-use mathlib.Core.Bool.{◌||◌}
 use native.Mathlib.Omega.{arith}
 use Rattle.graph.specs.Search.{state}
-use Rattle.graph.proofs.SearchLaws.{work}
 use Rattle.dfs.specs.Walk.{in_code}
-use Rattle.dfs.proofs.SearchLaws.{Going, Turn, going_start, top_small, turn_code, finish, code-small}
+use Rattle.dfs.proofs.SearchLaws.{going_start, top_small, turn_code, finish, code-small}
 use Rattle.dfs.proofs.search.Goals as goal
 
 pub bounds-seen-p : goal.bounds-seen-p

@@ -1,5 +1,4 @@
 -- `dfs::visit`: each return is a way that a visit goes. The stack has a place, since the point had no mark. Assumes nothing.
-use borrow.Author.Tests.{not-true, not-false}
 use native.Mathlib.Omega.{arith}
 use Rattle.graph.specs.Search.{state}
 use Rattle.graph.proofs.SearchLaws.{zeros-mark}

@@ -1,11 +1,8 @@
 -- `dfs::visit_next`. The loop's invariant: the points of the row up to k are visited. Assumes nothing.
 use Prim.Native.Nat.{◌-◌, ◌≤◌}
-use mathlib.Core.Path.{◌≡◌, sym, ap, ◌∙◌, subst}
-use native.Mathlib.Omega.{arith}
-use lib.ListN.{get_or}
-use Rattle.graph.specs.Search.{State, state}
-use Rattle.dfs.specs.Walk.{in_code, visited, nexts, Roomy}
-use Rattle.dfs.proofs.SearchLaws.{visited_roomy, nexts-none, nexts-more, code_below}
+use mathlib.Core.Path.{◌≡◌}
+use Rattle.graph.specs.Search.{state}
+use Rattle.dfs.specs.Walk.{in_code, nexts, Roomy}
 use Rattle.dfs.proofs.visit_next.Given as goal
 
 abbrev pub invariant-loop-k : goal.invariant-loop-k

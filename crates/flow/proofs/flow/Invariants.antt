@@ -1,11 +1,7 @@
 -- `flow::flow`. Each loop's invariant: the sets came about by edges. The measure is the number of 0 bits. Assumes nothing.
-use borrow.Author.Tests.{not-true, not-false}
-use mathlib.Core.Path.{refl, ◌∙◌}
-use native.Mathlib.Omega.{arith}
 use Rattle.bit_set.specs.Missing.{missing}
 use Rattle.flow.specs.declared.Direction.TheVariants.{Forward, Backward}
 use Rattle.flow.specs.Running.{Since, Rows}
-use Rattle.flow.proofs.FlowLaws.{rounds_none, rounds_more, rounds_less, rounds_all, flows_none}
 use Rattle.flow.proofs.flow.Given as goal
 
 abbrev pub invariant-loop-code : goal.invariant-loop-code

@@ -1,9 +1,7 @@
 -- `flow::round`. The loop's invariant: the edges of the first i points are run. Assumes nothing.
-use Prim.Native.Nat.{◌-◌, ◌≤◌}
-use mathlib.Core.Path.{◌≡◌, ◌∙◌}
+use Prim.Native.Nat.{◌-◌}
+use mathlib.Core.Path.{◌∙◌}
 use native.Mathlib.Omega.{arith}
-use lib.ListN.{length}
-use Rattle.flow.specs.Running.{Ran, Rows}
 use Rattle.flow.proofs.RunningLaws.{rows_none, rows_more, rows_all}
 use borrow.Author.Rules.{rules}
 use Rattle.flow.proofs.round.Goals as goal

@@ -1,10 +1,8 @@
 -- `flow::round`. The loop's invariant: the edges of the first i points are run. Assumes nothing.
 use Prim.Native.Nat.{◌-◌, ◌≤◌}
-use mathlib.Core.Path.{◌≡◌, ◌∙◌}
-use native.Mathlib.Omega.{arith}
+use mathlib.Core.Path.{◌≡◌}
 use lib.ListN.{length}
 use Rattle.flow.specs.Running.{Ran, Rows}
-use Rattle.flow.proofs.RunningLaws.{rows_none, rows_more, rows_all}
 use Rattle.flow.proofs.round.Given as goal
 
 abbrev pub invariant-loop-i : goal.invariant-loop-i

@@ -1,9 +1,7 @@
 -- `flow::row`. The loop's invariant: the edges up to entry k are run. Assumes nothing.
-use Prim.Native.Nat.{◌-◌, ◌≤◌}
-use mathlib.Core.Path.{◌≡◌, ◌∙◌}
+use Prim.Native.Nat.{◌-◌}
+use mathlib.Core.Path.{◌∙◌}
 use native.Mathlib.Omega.{arith}
-use lib.ListN.{length}
-use Rattle.flow.specs.Running.{Ran, Leaving}
 use Rattle.flow.proofs.RunningLaws.{leaving_none, leaving_more, leaving_all}
 use borrow.Author.Rules.{rules}
 use Rattle.flow.proofs.row.Goals as goal

@@ -1,10 +1,8 @@
 -- `flow::row`. The loop's invariant: the edges up to entry k are run. Assumes nothing.
 use Prim.Native.Nat.{◌-◌, ◌≤◌}
-use mathlib.Core.Path.{◌≡◌, ◌∙◌}
-use native.Mathlib.Omega.{arith}
+use mathlib.Core.Path.{◌≡◌}
 use lib.ListN.{length}
 use Rattle.flow.specs.Running.{Ran, Leaving}
-use Rattle.flow.proofs.RunningLaws.{leaving_none, leaving_more, leaving_all}
 use Rattle.flow.proofs.row.Given as goal
 
 abbrev pub invariant-loop-k : goal.invariant-loop-k

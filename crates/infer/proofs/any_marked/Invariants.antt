@@ -1,9 +1,7 @@
 -- `infer::any_marked`. The loop's invariant: found is `any_marked` of the regions below i. Assumes nothing.
 use Prim.Native.Nat.{◌-◌, ◌≤◌}
 use mathlib.Core.Path.{◌≡◌}
-use native.Mathlib.Omega.{arith}
 use Rattle.infer.specs.Ran.{any_marked}
-use Rattle.infer.proofs.RanLaws.{any-marked-none, any-marked-more}
 use Rattle.infer.proofs.any_marked.Given as goal
 
 abbrev pub invariant-loop-i : goal.invariant-loop-i

@@ -1,5 +1,5 @@
 -- `infer::has_ends`. The loop's invariant: held is `has_run` of the ends below end. Assumes nothing.
-use Prim.Native.Nat.{◌-◌, ◌≤◌}
+use Prim.Native.Nat.{◌-◌}
 use mathlib.Core.Path.{◌≡◌, ap, ◌∙◌}
 use native.Mathlib.Omega.{arith}
 use Rattle.infer.specs.Search.{rule_of, has_run}

@@ -1,9 +1,7 @@
 -- `infer::has_ends`. The loop's invariant: held is `has_run` of the ends below end. Assumes nothing.
 use Prim.Native.Nat.{◌-◌, ◌≤◌}
-use mathlib.Core.Path.{◌≡◌, ap, ◌∙◌}
-use native.Mathlib.Omega.{arith}
-use Rattle.infer.specs.Search.{rule_of, has_run}
-use Rattle.infer.proofs.SubsetLaws.{run_none, run_more, ends_free, ends_asked}
+use mathlib.Core.Path.{◌≡◌}
+use Rattle.infer.specs.Search.{has_run}
 use Rattle.infer.proofs.has_ends.Given as goal
 
 abbrev pub invariant-loop-end : goal.invariant-loop-end

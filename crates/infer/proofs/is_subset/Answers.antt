@@ -1,8 +1,7 @@
 -- `infer::is_subset`. The loop's invariant: lacks is `or_grows` of the first k words. Assumes nothing.
 use Prim.Native.Nat.{◌-◌}
 use native.Mathlib.Omega.{arith}
-use borrow.Author.Tests.{not-true, not-false}
-use Rattle.infer.proofs.SubsetLaws.{Comparing, subset_out, subset_start, subset_turn, subset_end}
+use Rattle.infer.proofs.SubsetLaws.{subset_out, subset_start, subset_turn, subset_end}
 use Rattle.infer.proofs.is_subset.Goals as goal
 
 pub returns-then-not-both_fit : goal.returns-then-not-both_fit

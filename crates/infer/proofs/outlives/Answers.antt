@@ -1,11 +1,10 @@
 -- `infer::outlives`: each return is a run of the one constraint, by a law of OneLaws. Assumes nothing.
-use borrow.Author.Tests.{not-true, not-false}
 use Prim.Native.Nat.{◌*◌}
 use mathlib.Core.Path.{sym, ◌∙◌}
 use mathlib.Core.Bool.{true, false, true≢false}
 use native.Mathlib.Omega.{arith}
 use Rattle.infer.specs.Ran.{constraint}
-use Rattle.infer.proofs.OneLaws.{Bounds, bounds_in, start_fits, given_bounds, quiet_tests, absent_test, here_test, spread_got, ran-quiet, ran_absent, ran_covered, ran_nothing, ran-still, ran-grew}
+use Rattle.infer.proofs.OneLaws.{bounds_in, start_fits, given_bounds, quiet_tests, absent_test, here_test, spread_got, ran-quiet, ran_absent, ran_covered, ran_nothing, ran-still, ran-grew}
 use Rattle.infer.proofs.outlives.Goals as goal
 
 pub returns-then-not-in_bounds : goal.returns-then-not-in_bounds

@@ -1,10 +1,9 @@
 -- `infer::put_ends`. The loop's invariant: the ends below i that the rule passes on are put. Assumes nothing.
-use Prim.Native.Nat.{◌-◌, ◌≤◌}
+use Prim.Native.Nat.{◌-◌}
 use mathlib.Core.Path.{◌≡◌, sym, ap, ◌∙◌}
-use mathlib.Core.Logic.{⊎_elim}
 use native.Mathlib.Omega.{arith}
 use Rattle.nll_spec.specs.Regions.{passes_end}
-use Rattle.infer.specs.Search.{rule_of, passes, with_run}
+use Rattle.infer.specs.Search.{rule_of, passes}
 use Rattle.infer.proofs.EndLaws.{run_none, run_yes, run_no}
 use Rattle.infer.proofs.put_ends.Goals as goal
 use Rattle.infer.proofs.put_ends.Goals.{then-passes_end, else-passes_end}

@@ -1,11 +1,7 @@
 -- `infer::run`. The loop's invariant: the first i constraints are run, and what is drawn is of them. Assumes nothing.
-use Prim.Native.Nat.{◌-◌, ◌≤◌}
-use mathlib.Core.Path.{◌≡◌}
+use Prim.Native.Nat.{◌-◌}
 use native.Mathlib.Omega.{arith}
-use lib.ListN.{length}
-use Rattle.constraint_list.specs.Listed.{first_in, Draws}
 use Rattle.constraint_list.proofs.ListLaws.{draws_none}
-use Rattle.infer.specs.Ran.{Runs}
 use Rattle.infer.proofs.RunLaws.{first_runs, next_runs, all_run, next_drawn, all-drawn}
 use borrow.Author.Rules.{rules}
 use Rattle.infer.proofs.run.Goals as goal

@@ -1,12 +1,9 @@
 -- `infer::run`. The loop's invariant: the first i constraints are run, and what is drawn is of them. Assumes nothing.
 use Prim.Native.Nat.{◌-◌, ◌≤◌}
 use mathlib.Core.Path.{◌≡◌}
-use native.Mathlib.Omega.{arith}
 use lib.ListN.{length}
 use Rattle.constraint_list.specs.Listed.{first_in, Draws}
-use Rattle.constraint_list.proofs.ListLaws.{draws_none}
 use Rattle.infer.specs.Ran.{Runs}
-use Rattle.infer.proofs.RunLaws.{first_runs, next_runs, all_run, next_drawn, all-drawn}
 use Rattle.infer.proofs.run.Given as goal
 
 abbrev pub invariant-loop-i : goal.invariant-loop-i

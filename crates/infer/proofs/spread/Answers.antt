@@ -2,7 +2,6 @@
 use Prim.Native.Nat.{◌-◌}
 use mathlib.Core.Path.{◌≡◌, ◌∙◌}
 use mathlib.Core.Bool.{cond}
-use mathlib.Core.Logic.{⊎_elim}
 use native.Mathlib.Omega.{arith}
 use Rattle.infer.specs.Search.{rule_of, passes, Gets, with_run}
 use Rattle.infer.proofs.EndLaws.{Holds, ends_hold, gets_below}

@@ -3,9 +3,8 @@ use Prim.Native.Nat.{◌-◌, ◌/◌}
 use mathlib.Core.Bool.{true≢false}
 use mathlib.Core.Path.{sym}
 use native.Mathlib.Omega.{arith}
-use borrow.Author.Tests.{not-false}
 use Rattle.nll_spec.specs.Output.{word_bits}
-use Rattle.infer.proofs.CoverLaws.{Covering, cover_start, cover_more, cover_done}
+use Rattle.infer.proofs.CoverLaws.{cover_start, cover_more, cover_done}
 use Rattle.infer.proofs.stays_within.Goals as goal
 
 pub returns-then-not-both_fit : goal.returns-then-not-both_fit

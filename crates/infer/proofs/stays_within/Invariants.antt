@@ -1,11 +1,7 @@
 -- `infer::stays_within`. The loop's invariant: the words before k are covered. Assumes nothing.
 use Prim.Native.Nat.{◌-◌, ◌/◌}
-use mathlib.Core.Bool.{true≢false}
-use mathlib.Core.Path.{sym}
-use native.Mathlib.Omega.{arith}
-use borrow.Author.Tests.{not-false}
 use Rattle.nll_spec.specs.Output.{word_bits}
-use Rattle.infer.proofs.CoverLaws.{Covering, cover_start, cover_more, cover_done}
+use Rattle.infer.proofs.CoverLaws.{Covering}
 use Rattle.infer.proofs.stays_within.Given as goal
 
 abbrev pub invariant-loop-k : goal.invariant-loop-k

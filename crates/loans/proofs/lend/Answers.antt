@@ -1,5 +1,4 @@
 -- `loans::lend` meets its contract. Assumes nothing.
-use borrow.Author.Tests.{not-true, not-false}
 use native.Mathlib.Omega.{arith}
 use Rattle.loans.proofs.LendLaws.{one_more, lends_unwalked, lends-tagged, lends-refused, lends_other, lends_full, lends-more}
 use Rattle.loans.proofs.lend.Goals as goal

@@ -1,7 +1,7 @@
 -- `loans::loans` meets its contract. Assumes nothing.
-use Prim.Native.Nat.{◌-◌, ◌≤◌}
+use Prim.Native.Nat.{◌-◌}
 use native.Mathlib.Omega.{arith}
-use Rattle.loans.proofs.LendLaws.{Lending, lending-none, lending-more, lending-all}
+use Rattle.loans.proofs.LendLaws.{lending-none, lending-more, lending-all}
 use Rattle.loans.proofs.loans.Goals as goal
 
 pub loop-p-init : goal.loop-p-init

@@ -1,7 +1,6 @@
 -- `loans::loans` meets its contract. Assumes nothing.
 use Prim.Native.Nat.{◌-◌, ◌≤◌}
-use native.Mathlib.Omega.{arith}
-use Rattle.loans.proofs.LendLaws.{Lending, lending-none, lending-more, lending-all}
+use Rattle.loans.proofs.LendLaws.{Lending}
 use Rattle.loans.proofs.loans.Given as goal
 
 abbrev pub invariant-loop-p : goal.invariant-loop-p

@@ -1,9 +1,5 @@
 -- `loans_in_scope::enter`. The loop's invariant: the first i loans are in both tables. Assumes nothing.
-use mathlib.Core.Path.{◌≡◌}
-use Prim.Native.Nat.{◌-◌, ◌≤◌}
-use lib.ListN.{length}
-use Rattle.loans_in_scope.specs.Gains.{Gains}
-use Rattle.loans_in_scope.specs.Scope.{Begun, RegionsTo}
+use Prim.Native.Nat.{◌-◌}
 use Rattle.loans_in_scope.proofs.LoanLaws.{begun_none, begun_more, begun_all, regions-none, regions-more, regions-all}
 use native.Mathlib.Omega.{arith}
 use borrow.Author.Rules.{rules}

@@ -4,8 +4,6 @@ use Prim.Native.Nat.{◌-◌, ◌≤◌}
 use lib.ListN.{length}
 use Rattle.loans_in_scope.specs.Gains.{Gains}
 use Rattle.loans_in_scope.specs.Scope.{Begun, RegionsTo}
-use Rattle.loans_in_scope.proofs.LoanLaws.{begun_none, begun_more, begun_all, regions-none, regions-more, regions-all}
-use native.Mathlib.Omega.{arith}
 use Rattle.loans_in_scope.proofs.enter.Given as goal
 
 abbrev pub invariant-loop-i : goal.invariant-loop-i

@@ -1,8 +1,6 @@
 -- `loans_in_scope::fill`. The loop's invariant: the loans that may pass the first p points are in their sets. Assumes nothing.
-use mathlib.Core.Path.{◌≡◌}
-use Prim.Native.Nat.{◌-◌, ◌≤◌}
-use lib.ListN.{length}
-use Rattle.loans_in_scope.proofs.FillLaws.{KeptTo, kept_to_none, kept_to_more, within, all-filled}
+use Prim.Native.Nat.{◌-◌}
+use Rattle.loans_in_scope.proofs.FillLaws.{kept_to_none, kept_to_more, within, all-filled}
 use native.Mathlib.Omega.{arith}
 use borrow.Author.Rules.{rules}
 use Rattle.loans_in_scope.proofs.fill.Goals as goal

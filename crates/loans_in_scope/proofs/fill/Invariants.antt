@@ -2,8 +2,7 @@
 use mathlib.Core.Path.{◌≡◌}
 use Prim.Native.Nat.{◌-◌, ◌≤◌}
 use lib.ListN.{length}
-use Rattle.loans_in_scope.proofs.FillLaws.{KeptTo, kept_to_none, kept_to_more, within, all-filled}
-use native.Mathlib.Omega.{arith}
+use Rattle.loans_in_scope.proofs.FillLaws.{KeptTo}
 use Rattle.loans_in_scope.proofs.fill.Given as goal
 
 abbrev pub invariant-loop-p : goal.invariant-loop-p

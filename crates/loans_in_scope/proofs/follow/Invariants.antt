@@ -1,10 +1,8 @@
 -- `loans_in_scope::follow`. The loop's invariant: the points up to entry k have what leaves p. Assumes nothing.
 use Prim.Native.Nat.{◌-◌, ◌≤◌}
-use mathlib.Core.Path.{◌≡◌, ◌∙◌}
-use native.Mathlib.Omega.{arith}
+use mathlib.Core.Path.{◌≡◌}
 use lib.ListN.{length}
 use Rattle.loans_in_scope.specs.Gains.{Gains, Leaving}
-use Rattle.loans_in_scope.proofs.GainsLaws.{leaving_none, leaving_more, leaving_all}
 use Rattle.loans_in_scope.proofs.follow.Given as goal
 
 abbrev pub invariant-loop-k : goal.invariant-loop-k

@@ -1,9 +1,7 @@
 -- `loans_in_scope::gather`. The loop's invariant: what leaves the first p points has gone on. Assumes nothing.
-use Prim.Native.Nat.{◌-◌, ◌≤◌}
-use mathlib.Core.Path.{◌≡◌, ◌∙◌}
+use Prim.Native.Nat.{◌-◌}
+use mathlib.Core.Path.{◌∙◌}
 use native.Mathlib.Omega.{arith}
-use lib.ListN.{length}
-use Rattle.loans_in_scope.specs.Gains.{Gains, Rows}
 use Rattle.loans_in_scope.proofs.GainsLaws.{rows_none, rows_more, rows_all}
 use borrow.Author.Rules.{rules}
 use Rattle.loans_in_scope.proofs.gather.Goals as goal

@@ -1,10 +1,8 @@
 -- `loans_in_scope::gather`. The loop's invariant: what leaves the first p points has gone on. Assumes nothing.
 use Prim.Native.Nat.{◌-◌, ◌≤◌}
-use mathlib.Core.Path.{◌≡◌, ◌∙◌}
-use native.Mathlib.Omega.{arith}
+use mathlib.Core.Path.{◌≡◌}
 use lib.ListN.{length}
 use Rattle.loans_in_scope.specs.Gains.{Gains, Rows}
-use Rattle.loans_in_scope.proofs.GainsLaws.{rows_none, rows_more, rows_all}
 use Rattle.loans_in_scope.proofs.gather.Given as goal
 
 abbrev pub invariant-loop-p : goal.invariant-loop-p

@@ -1,10 +1,6 @@
 -- `loans_in_scope::keep_each`. The loop's invariant: of the first i loans, those that may pass are in the set. Assumes nothing.
-use mathlib.Core.Path.{◌≡◌}
-use Prim.Native.Nat.{◌-◌, ◌≤◌}
-use lib.ListN.{length}
-use Rattle.nll_spec.specs.Syntax.{Job}
-use Rattle.loans_in_scope.specs.Gains.{Gains}
-use Rattle.loans_in_scope.specs.Scope.{paths_of, KeptOf}
+use Prim.Native.Nat.{◌-◌}
+use Rattle.loans_in_scope.specs.Scope.{paths_of}
 use Rattle.loans_in_scope.proofs.FillLaws.{each_none, each_more, each_all}
 use native.Mathlib.Omega.{arith}
 use borrow.Author.Rules.{rules}

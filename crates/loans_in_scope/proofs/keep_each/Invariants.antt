@@ -5,8 +5,6 @@ use lib.ListN.{length}
 use Rattle.nll_spec.specs.Syntax.{Job}
 use Rattle.loans_in_scope.specs.Gains.{Gains}
 use Rattle.loans_in_scope.specs.Scope.{paths_of, KeptOf}
-use Rattle.loans_in_scope.proofs.FillLaws.{each_none, each_more, each_all}
-use native.Mathlib.Omega.{arith}
 use Rattle.loans_in_scope.proofs.keep_each.Given as goal
 
 abbrev pub invariant-loop-i : goal.invariant-loop-i

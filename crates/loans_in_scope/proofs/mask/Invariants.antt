@@ -1,10 +1,8 @@
 -- `loans_in_scope::mask`. The loop's invariant: the first w words are cut down. Assumes nothing.
 use Prim.Native.Nat.{◌-◌, ◌≤◌}
-use mathlib.Core.Path.{◌≡◌, refl}
-use native.Mathlib.Omega.{arith}
+use mathlib.Core.Path.{◌≡◌}
 use lib.ListN.{length}
 use Rattle.loans_in_scope.specs.Gains.{Masked}
-use Rattle.loans_in_scope.proofs.GainsLaws.{masked_none, masked_more, masked_all}
 use Rattle.loans_in_scope.proofs.mask.Given as goal
 
 abbrev pub invariant-loop-w : goal.invariant-loop-w

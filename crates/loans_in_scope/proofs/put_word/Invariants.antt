@@ -1,10 +1,7 @@
 -- `loans_in_scope::put_word`. The loop's invariant: `rest` has the bits from point p on, and the points before it have been put. Assumes nothing.
 use mathlib.Core.Path.{◌≡◌}
 use Prim.Native.Nat.{◌-◌, ◌/◌, ◌^◌, ◌≤◌}
-use Rattle.bit_slice.proofs.ShiftLaws.{shift_none, shift_more}
 use Rattle.loans_in_scope.specs.Gains.{Gains, WordTo}
-use Rattle.loans_in_scope.proofs.GainsLaws.{word_none, word_more, word_done, word_all}
-use native.Mathlib.Omega.{arith}
 use Rattle.loans_in_scope.proofs.put_word.Given as goal
 
 abbrev pub invariant-loop-p : goal.invariant-loop-p

@@ -1,5 +1,4 @@
 -- `nll::analyse`. Assumes nothing.
-use borrow.Author.Tests.{not-true, not-false}
 use Rattle.nll.proofs.AnalyseLaws.{refuses_record, refuses-short, write-room, answers-job}
 use Rattle.nll.proofs.analyse.Goals as goal
 

@@ -1,5 +1,4 @@
 -- `refusals::named` meets its contract. Assumes nothing.
-use borrow.Author.Tests.{not-true}
 use Rattle.refusals.proofs.PartLaws as laws
 use Rattle.refusals.proofs.named.Goals as goal
 

@@ -1,8 +1,7 @@
 -- `regionck::clear`. The loop's invariant: the first r regions have no mark. Assumes nothing.
-use Prim.Native.Nat.{◌-◌, ◌≤◌}
+use Prim.Native.Nat.{◌-◌}
 use native.Mathlib.Omega.{arith}
 use mathlib.Core.Path.{◌≡◌}
-use Rattle.regionck.specs.Rounds.{Cleared}
 use Rattle.regionck.proofs.MarkLaws.{cleared-none, cleared_more}
 use borrow.Author.Rules.{rules}
 use Rattle.regionck.proofs.clear.Goals as goal

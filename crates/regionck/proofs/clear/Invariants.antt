@@ -1,9 +1,6 @@
 -- `regionck::clear`. The loop's invariant: the first r regions have no mark. Assumes nothing.
 use Prim.Native.Nat.{◌-◌, ◌≤◌}
-use native.Mathlib.Omega.{arith}
-use mathlib.Core.Path.{◌≡◌}
 use Rattle.regionck.specs.Rounds.{Cleared}
-use Rattle.regionck.proofs.MarkLaws.{cleared-none, cleared_more}
 use Rattle.regionck.proofs.clear.Given as goal
 
 abbrev pub invariant-loop-r : goal.invariant-loop-r

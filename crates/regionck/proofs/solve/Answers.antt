@@ -1,12 +1,10 @@
 -- `regionck::solve`. The loop's invariant: some rounds were run, fewer than `left` bits of the regions are 0, the constraints of `recent` are the job's, and the rows of `absent` are
 -- right. Assumes nothing.
-use mathlib.Core.Path.{◌≡◌, sym, ◌∙◌}
-use lib.ListN.{length}
+use mathlib.Core.Path.{sym, ◌∙◌}
 use borrow.Author.Tests.{not-true, not-false}
 use native.Mathlib.Omega.{arith}
-use Rattle.regionck.specs.Rounds.{Sound}
 use Rattle.regionck.proofs.RoundLaws.{sound_none}
-use Rattle.regionck.proofs.SolvedLaws.{GoingOn, Kept, kept-none, kept_more, going_start, going_more, going_done, going_out}
+use Rattle.regionck.proofs.SolvedLaws.{kept-none, kept_more, going_start, going_more, going_done, going_out}
 use borrow.Author.Rules.{rules}
 use Rattle.regionck.proofs.solve.Goals as goal
 

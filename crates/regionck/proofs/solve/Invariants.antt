@@ -1,12 +1,9 @@
 -- `regionck::solve`. The loop's invariant: some rounds were run, fewer than `left` bits of the regions are 0, the constraints of `recent` are the job's, and the rows of `absent` are
 -- right. Assumes nothing.
-use mathlib.Core.Path.{◌≡◌, sym, ◌∙◌}
+use mathlib.Core.Path.{◌≡◌}
 use lib.ListN.{length}
-use borrow.Author.Tests.{not-true, not-false}
-use native.Mathlib.Omega.{arith}
 use Rattle.regionck.specs.Rounds.{Sound}
-use Rattle.regionck.proofs.RoundLaws.{sound_none}
-use Rattle.regionck.proofs.SolvedLaws.{GoingOn, Kept, kept-none, kept_more, going_start, going_more, going_done, going_out}
+use Rattle.regionck.proofs.SolvedLaws.{GoingOn, Kept}
 use Rattle.regionck.proofs.solve.Given as goal
 
 abbrev pub invariant-loop-left : goal.invariant-loop-left

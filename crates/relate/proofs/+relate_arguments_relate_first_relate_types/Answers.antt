@@ -1,7 +1,6 @@
 -- `relate::relate_types`, `relate::relate_first` and `relate::relate_arguments` meet their contracts. Assumes nothing.
 use Rattle.relate.proofs.RelateLaws as laws
 use native.Mathlib.Omega.{arith}
-use Prim.Native.Nat.{ℕ, ◌<◌, ◌+◌, ◌*◌}
 use Rattle.relate.proofs.+relate_arguments_relate_first_relate_types.Goals as goal
 
 pub relate_arguments-returns-in-Refused : goal.relate_arguments-returns-in-Refused

@@ -1,7 +1,5 @@
 -- `relate::relate_types`, `relate::relate_first` and `relate::relate_arguments` meet their contracts. Assumes nothing.
-use Rattle.relate.proofs.RelateLaws as laws
-use native.Mathlib.Omega.{arith}
-use Prim.Native.Nat.{ℕ, ◌<◌, ◌+◌, ◌*◌}
+use Prim.Native.Nat.{◌+◌, ◌*◌}
 use Rattle.relate.proofs.+relate_arguments_relate_first_relate_types.Given as goal
 
 abbrev pub decreases-relate_arguments : goal.decreases-relate_arguments

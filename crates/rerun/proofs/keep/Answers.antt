@@ -1,9 +1,6 @@
 -- `rerun::keep`. The loop's invariant: the first i words are kept. Assumes nothing.
-use Prim.Native.Nat.{◌-◌, ◌≤◌}
-use mathlib.Core.Path.{◌≡◌}
+use Prim.Native.Nat.{◌-◌}
 use native.Mathlib.Omega.{arith}
-use lib.ListN.{length}
-use Rattle.rerun.specs.Rerun.{Keeps}
 use Rattle.rerun.proofs.KeepLaws.{keeps-none, keeps-more, keeps-all}
 use borrow.Author.Rules.{rules}
 use Rattle.rerun.proofs.keep.Goals as goal

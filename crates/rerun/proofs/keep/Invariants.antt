@@ -1,10 +1,8 @@
 -- `rerun::keep`. The loop's invariant: the first i words are kept. Assumes nothing.
 use Prim.Native.Nat.{◌-◌, ◌≤◌}
 use mathlib.Core.Path.{◌≡◌}
-use native.Mathlib.Omega.{arith}
 use lib.ListN.{length}
 use Rattle.rerun.specs.Rerun.{Keeps}
-use Rattle.rerun.proofs.KeepLaws.{keeps-none, keeps-more, keeps-all}
 use Rattle.rerun.proofs.keep.Given as goal
 
 abbrev pub invariant-loop-i : goal.invariant-loop-i

@@ -1,6 +1,5 @@
 -- `rerun::lead` is safe, and ends. Assumes nothing.
 use Prim.Native.Nat.{◌-◌, ◌≤◌}
-use native.Mathlib.Omega.{arith}
 use Rattle.rerun.proofs.lead.Given as goal
 
 abbrev pub invariant-loop-i : goal.invariant-loop-i

@@ -1,7 +1,5 @@
 -- `rerun::leading` is safe, and ends. Assumes nothing.
 use Prim.Native.Nat.{◌-◌, ◌≤◌}
-use native.Mathlib.Omega.{arith}
-use Rattle.rerun.proofs.KeepLaws.{start_small}
 use Rattle.rerun.proofs.leading.Given as goal
 
 abbrev pub invariant-loop-r : goal.invariant-loop-r

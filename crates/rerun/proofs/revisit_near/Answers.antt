@@ -1,9 +1,6 @@
 -- `rerun::revisit_near`. The loop's invariant: more of the job's constraints are run. Assumes nothing.
 use Prim.Native.Nat.{◌-◌}
-use mathlib.Core.Path.{◌≡◌}
-use lib.ListN.{length}
 use native.Mathlib.Omega.{arith}
-use Rattle.rerun.specs.Rerun.{RunsMore}
 use Rattle.rerun.proofs.RerunLaws.{more-none, more_then}
 use borrow.Author.Rules.{rules}
 use Rattle.rerun.proofs.revisit_near.Goals as goal

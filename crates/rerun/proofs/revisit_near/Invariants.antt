@@ -2,9 +2,7 @@
 use Prim.Native.Nat.{◌-◌}
 use mathlib.Core.Path.{◌≡◌}
 use lib.ListN.{length}
-use native.Mathlib.Omega.{arith}
 use Rattle.rerun.specs.Rerun.{RunsMore}
-use Rattle.rerun.proofs.RerunLaws.{more-none, more_then}
 use Rattle.rerun.proofs.revisit_near.Given as goal
 
 abbrev pub invariant-loop-p : goal.invariant-loop-p

@@ -1,8 +1,4 @@
 -- `rerun::settle`. The loop's invariant: the constraints of the list were run more often. Assumes nothing.
-use mathlib.Core.Path.{◌≡◌}
-use lib.ListN.{length}
-use Rattle.constraint_list.specs.Listed.{constraints_in}
-use Rattle.rerun.specs.Rerun.{RunsAgain}
 use Rattle.rerun.proofs.RerunLaws.{again_none, again_more}
 use borrow.Author.Rules.{rules}
 use Rattle.rerun.proofs.settle.Goals as goal

@@ -3,7 +3,6 @@ use mathlib.Core.Path.{◌≡◌}
 use lib.ListN.{length}
 use Rattle.constraint_list.specs.Listed.{constraints_in}
 use Rattle.rerun.specs.Rerun.{RunsAgain}
-use Rattle.rerun.proofs.RerunLaws.{again_none, again_more}
 use Rattle.rerun.proofs.settle.Given as goal
 
 abbrev pub invariant-loop-left : goal.invariant-loop-left

@@ -1,9 +1,5 @@
 -- `rerun::turns`. The loop's invariant: more of the job's constraints are run. Assumes nothing.
-use mathlib.Core.Path.{◌≡◌}
-use lib.ListN.{length}
-use Rattle.nll_spec.specs.Syntax.{Point}
 use native.Mathlib.Omega.{arith}
-use Rattle.rerun.specs.Rerun.{Holding, RunsMore}
 use Rattle.rerun.proofs.RerunLaws.{more-none, more_recent, more_then}
 use borrow.Author.Rules.{rules}
 use Rattle.rerun.proofs.turns.Goals as goal

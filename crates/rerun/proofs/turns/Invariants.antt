@@ -2,9 +2,7 @@
 use mathlib.Core.Path.{◌≡◌}
 use lib.ListN.{length}
 use Rattle.nll_spec.specs.Syntax.{Point}
-use native.Mathlib.Omega.{arith}
 use Rattle.rerun.specs.Rerun.{Holding, RunsMore}
-use Rattle.rerun.proofs.RerunLaws.{more-none, more_recent, more_then}
 use Rattle.rerun.proofs.turns.Given as goal
 
 abbrev pub invariant-loop-left : goal.invariant-loop-left

@@ -1,5 +1,4 @@
 -- `well_formed::refusal` meets its contract. Assumes nothing.
-use borrow.Author.Tests.{not-true, not-false}
 use Rattle.well_formed.proofs.JudgeLaws.{refused_6, refused_7, refused-later}
 use Rattle.well_formed.proofs.refusal.Goals as goal
 

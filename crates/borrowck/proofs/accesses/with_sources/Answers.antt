@@ -1,8 +1,7 @@
 -- `borrowck::accesses::with_sources` meets its contract. Assumes nothing.
 use mathlib.Core.Path.{refl}
 use native.Mathlib.Omega.{arith}
-use Rattle.borrowck.specs.Search.{nth_access}
-use Rattle.borrowck.proofs.AccessLaws.{Sourcing, sourcing_all, sources_refused, sources_full, sourcing_more, sources_end}
+use Rattle.borrowck.proofs.AccessLaws.{sourcing_all, sources_refused, sources_full, sourcing_more, sources_end}
 use Rattle.borrowck.proofs.accesses.with_sources.Goals as goal
 
 pub loop-left-init : goal.loop-left-init

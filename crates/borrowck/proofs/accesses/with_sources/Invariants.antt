@@ -1,8 +1,6 @@
 -- `borrowck::accesses::with_sources` meets its contract. Assumes nothing.
-use mathlib.Core.Path.{refl}
-use native.Mathlib.Omega.{arith}
 use Rattle.borrowck.specs.Search.{nth_access}
-use Rattle.borrowck.proofs.AccessLaws.{Sourcing, sourcing_all, sources_refused, sources_full, sourcing_more, sources_end}
+use Rattle.borrowck.proofs.AccessLaws.{Sourcing}
 use Rattle.borrowck.proofs.accesses.with_sources.Given as goal
 
 abbrev pub invariant-loop-left : goal.invariant-loop-left

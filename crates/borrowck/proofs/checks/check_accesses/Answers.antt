@@ -1,7 +1,6 @@
 -- `borrowck::checks::check_accesses` meets its contract. Assumes nothing.
-use Prim.Native.Nat.{◌-◌, ◌≤◌}
+use Prim.Native.Nat.{◌-◌}
 use native.Mathlib.Omega.{arith}
-use Rattle.borrowck.specs.Faults.{Checked}
 use Rattle.borrowck.proofs.FaultLaws.{checked_none, checked_more, checked_all}
 use Rattle.borrowck.proofs.checks.check_accesses.Goals as goal
 

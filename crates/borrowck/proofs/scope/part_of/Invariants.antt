@@ -1,9 +1,6 @@
 -- `borrowck::scope::part_of` meets its contract. Assumes nothing.
-use mathlib.Core.Path.{refl}
 use Prim.Native.Nat.{◌-◌}
-use borrow.Author.Tests.{not-true, not-false}
-use native.Mathlib.Omega.{arith}
-use Rattle.borrowck.proofs.ScopeLaws.{Gathering, gathering_none, gathering_pass, gathering_more, gathered_full, gathered_all}
+use Rattle.borrowck.proofs.ScopeLaws.{Gathering}
 use Rattle.borrowck.proofs.scope.part_of.Given as goal
 
 abbrev pub invariant-loop-i : goal.invariant-loop-i

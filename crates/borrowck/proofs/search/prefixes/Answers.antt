@@ -1,6 +1,5 @@
 -- `borrowck::search::prefixes` meets its contract. Assumes nothing.
 use native.Mathlib.Omega.{arith}
-use borrow.Author.Tests.{not-true, not-false}
 use Rattle.borrowck.proofs.SearchLaws.{prefixes_none, prefixes_apart, prefixes_some}
 use Rattle.borrowck.proofs.search.prefixes.Goals as goal
 

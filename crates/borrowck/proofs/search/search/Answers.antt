@@ -1,4 +1,3 @@
-use Rattle.std.proofs.Common.{arith}
 use Rattle.borrowck.proofs.SearchLaws.{searched_more}
 use Rattle.borrowck.proofs.search.search.Goals as goal
 

@@ -1,5 +1,5 @@
 -- `borrowck::search::search_in`. The loop's invariant: no access below k conflicts.
-use Rattle.std.proofs.Common.{◌-◌, take}
+use Rattle.std.proofs.Common.{◌-◌}
 use Rattle.borrowck.proofs.SearchLaws.{Tried}
 use Rattle.borrowck.proofs.search.search_in.Given as goal
 

@@ -1,9 +1,7 @@
 -- `env::paths::steps_on` meets its contract. Assumes nothing.
 use Rattle.env.proofs.PathLaws as laws
-use mathlib.Core.Path.{◌≡◌, refl}
-use Prim.Native.Nat.{◌+◌, ◌≤◌}
+use mathlib.Core.Path.{refl}
 use native.Mathlib.Omega.{arith}
-use lib.ListN.{length}
 use borrow.Author.Rules.{rules}
 use Rattle.env.proofs.paths.steps_on.Goals as goal
 

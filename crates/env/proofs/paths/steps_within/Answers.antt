@@ -1,9 +1,7 @@
 -- `env::paths::steps_within` meets its contract. Assumes nothing.
 use Rattle.env.proofs.PathLaws as laws
-use mathlib.Core.Path.{◌≡◌, refl, ◌∙◌}
-use Prim.Native.Nat.{◌+◌, ◌≤◌}
+use mathlib.Core.Path.{refl, ◌∙◌}
 use native.Mathlib.Omega.{arith}
-use lib.ListN.{length}
 use Rattle.env.proofs.paths.steps_within.Goals as goal
 
 pub loop-left-init : goal.loop-left-init

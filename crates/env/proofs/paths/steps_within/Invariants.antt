@@ -1,8 +1,7 @@
 -- `env::paths::steps_within` meets its contract. Assumes nothing.
 use Rattle.env.proofs.PathLaws as laws
-use mathlib.Core.Path.{◌≡◌, refl, ◌∙◌}
+use mathlib.Core.Path.{◌≡◌}
 use Prim.Native.Nat.{◌+◌, ◌≤◌}
-use native.Mathlib.Omega.{arith}
 use lib.ListN.{length}
 use Rattle.env.proofs.paths.steps_within.Given as goal
 

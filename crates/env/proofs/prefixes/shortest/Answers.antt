@@ -1,8 +1,7 @@
 -- `env::prefixes::shortest` meets its contract. Assumes nothing.
 use Rattle.env.proofs.PrefixLaws as laws
-use Rattle.env.specs.Prefixes.{ShortestIn}
 use mathlib.Core.Path.{ap}
-use Prim.Native.Nat.{ℕ, ◌≤◌, ◌-◌}
+use Prim.Native.Nat.{ℕ, ◌-◌}
 use native.Mathlib.Omega.{arith}
 use lib.ListN.{get_or}
 use Rattle.env.proofs.prefixes.shortest.Goals as goal

@@ -1,8 +1,6 @@
 -- `graph::edges::chain` meets its contract. Assumes nothing.
-use Rattle.graph.proofs.FillLaws.{chained_none, chained_more, chained_all}
 use Rattle.graph.specs.Filling.{Chained}
 use Prim.Native.Nat.{◌-◌, ◌≤◌}
-use native.Mathlib.Omega.{arith}
 use Rattle.graph.proofs.edges.chain.Given as goal
 
 abbrev pub invariant-loop-i : goal.invariant-loop-i

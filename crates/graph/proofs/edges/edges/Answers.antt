@@ -1,5 +1,5 @@
 -- `graph::edges::edges` meets its contract. Assumes nothing.
-use Rattle.graph.proofs.EdgeLaws.{Rowed, rowed_none, rowed_more, rowed_all}
+use Rattle.graph.proofs.EdgeLaws.{rowed_none, rowed_more, rowed_all}
 use Prim.Native.Nat.{◌-◌}
 use native.Mathlib.Omega.{arith}
 use Rattle.graph.proofs.edges.edges.Goals as goal

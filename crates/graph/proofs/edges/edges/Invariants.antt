@@ -1,7 +1,6 @@
 -- `graph::edges::edges` meets its contract. Assumes nothing.
-use Rattle.graph.proofs.EdgeLaws.{Rowed, rowed_none, rowed_more, rowed_all}
+use Rattle.graph.proofs.EdgeLaws.{Rowed}
 use Prim.Native.Nat.{◌-◌}
-use native.Mathlib.Omega.{arith}
 use Rattle.graph.proofs.edges.edges.Given as goal
 
 abbrev pub invariant-loop-b : goal.invariant-loop-b

@@ -1,7 +1,6 @@
 -- `graph::edges::end` meets its contract. Assumes nothing.
-use Rattle.graph.proofs.FillLaws.{Ending, ending_none, ending_more, ending_all}
-use Rattle.record.specs.Access.{entry_in}
-use Prim.Native.Nat.{◌-◌, ◌≤◌}
+use Rattle.graph.proofs.FillLaws.{ending_none, ending_more, ending_all}
+use Prim.Native.Nat.{◌-◌}
 use native.Mathlib.Omega.{arith}
 use Rattle.graph.proofs.edges.end.Goals as goal
 

@@ -1,8 +1,7 @@
 -- `graph::edges::end` meets its contract. Assumes nothing.
-use Rattle.graph.proofs.FillLaws.{Ending, ending_none, ending_more, ending_all}
+use Rattle.graph.proofs.FillLaws.{Ending}
 use Rattle.record.specs.Access.{entry_in}
 use Prim.Native.Nat.{◌-◌, ◌≤◌}
-use native.Mathlib.Omega.{arith}
 use Rattle.graph.proofs.edges.end.Given as goal
 
 abbrev pub invariant-loop-i : goal.invariant-loop-i

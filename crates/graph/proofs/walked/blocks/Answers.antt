@@ -1,7 +1,6 @@
 -- `graph::walked::blocks` meets its contract. Assumes nothing.
-use Rattle.graph.proofs.SearchLaws.{work, roomy_none, roomy_pop}
-use Rattle.graph.proofs.WalkLaws.{Turned, turned_none, turned_more, turned_less, turned_all}
-use Rattle.graph.specs.Search.{state}
+use Rattle.graph.proofs.SearchLaws.{roomy_none, roomy_pop}
+use Rattle.graph.proofs.WalkLaws.{turned_none, turned_more, turned_less, turned_all}
 use native.Mathlib.Omega.{arith}
 use Rattle.graph.proofs.walked.blocks.Goals as goal
 

@@ -1,8 +1,7 @@
 -- `graph::walked::blocks` meets its contract. Assumes nothing.
-use Rattle.graph.proofs.SearchLaws.{work, roomy_none, roomy_pop}
-use Rattle.graph.proofs.WalkLaws.{Turned, turned_none, turned_more, turned_less, turned_all}
+use Rattle.graph.proofs.SearchLaws.{work}
+use Rattle.graph.proofs.WalkLaws.{Turned}
 use Rattle.graph.specs.Search.{state}
-use native.Mathlib.Omega.{arith}
 use Rattle.graph.proofs.walked.blocks.Given as goal
 
 abbrev pub invariant-loop-depth : goal.invariant-loop-depth

@@ -1,6 +1,6 @@
 -- `graph::walked::run` meets its contract. Assumes nothing.
-use Rattle.graph.proofs.PointLaws.{Running, running_none, running_more, running_all}
-use Prim.Native.Nat.{◌-◌, ◌≤◌}
+use Rattle.graph.proofs.PointLaws.{running_none, running_more, running_all}
+use Prim.Native.Nat.{◌-◌}
 use native.Mathlib.Omega.{arith}
 use Rattle.graph.proofs.walked.run.Goals as goal
 

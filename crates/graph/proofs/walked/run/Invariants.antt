@@ -1,7 +1,6 @@
 -- `graph::walked::run` meets its contract. Assumes nothing.
-use Rattle.graph.proofs.PointLaws.{Running, running_none, running_more, running_all}
+use Rattle.graph.proofs.PointLaws.{Running}
 use Prim.Native.Nat.{◌-◌, ◌≤◌}
-use native.Mathlib.Omega.{arith}
 use Rattle.graph.proofs.walked.run.Given as goal
 
 abbrev pub invariant-loop-i : goal.invariant-loop-i

@@ -1,7 +1,6 @@
 -- `graph::walked::visit_next` meets its contract. Assumes nothing.
-use Rattle.graph.proofs.SearchLaws.{Visiting, visiting_none, visiting_more, visiting_all}
-use Rattle.graph.specs.Search.{state}
-use Prim.Native.Nat.{◌-◌, ◌≤◌}
+use Rattle.graph.proofs.SearchLaws.{visiting_none, visiting_more, visiting_all}
+use Prim.Native.Nat.{◌-◌}
 use native.Mathlib.Omega.{arith}
 use Rattle.graph.proofs.walked.visit_next.Goals as goal
 

@@ -1,8 +1,7 @@
 -- `graph::walked::visit_next` meets its contract. Assumes nothing.
-use Rattle.graph.proofs.SearchLaws.{Visiting, visiting_none, visiting_more, visiting_all}
+use Rattle.graph.proofs.SearchLaws.{Visiting}
 use Rattle.graph.specs.Search.{state}
 use Prim.Native.Nat.{◌-◌, ◌≤◌}
-use native.Mathlib.Omega.{arith}
 use Rattle.graph.proofs.walked.visit_next.Given as goal
 
 abbrev pub invariant-loop-i : goal.invariant-loop-i

@@ -1,5 +1,5 @@
 -- `graph::walked::walked` meets its contract. Assumes nothing.
-use Rattle.graph.proofs.PointLaws.{Pointed, pointed_none, pointed_more, pointed_walked}
+use Rattle.graph.proofs.PointLaws.{pointed_none, pointed_more, pointed_walked}
 use Prim.Native.Nat.{◌-◌}
 use Rattle.graph.proofs.walked.walked.Goals as goal
 

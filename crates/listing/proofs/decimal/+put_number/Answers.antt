@@ -1,6 +1,5 @@
 -- `listing::decimal::put_number` meets its contract. Assumes nothing.
 use mathlib.Core.Path.{◌∙◌, ap}
-use Prim.Native.Nat.{ℕ, ◌<◌}
 use native.Mathlib.Omega.{arith}
 use lib.ListN.{length}
 use Rattle.listing.proofs.WriteLaws.{decimal_last, decimal_longer, number-last, number_more}

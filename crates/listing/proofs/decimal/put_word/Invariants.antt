@@ -1,11 +1,8 @@
 -- `listing::decimal::put_word` meets its contract. Assumes nothing.
-use mathlib.Core.Path.{◌≡◌, refl}
+use mathlib.Core.Path.{◌≡◌}
 use Prim.Native.Nat.{◌+◌, ◌-◌, ◌≤◌}
-use native.Mathlib.Nat.{add-zero}
-use native.Mathlib.Omega.{arith}
 use lib.ListN.{length, take}
 use Rattle.listing.specs.Writing.{Puts}
-use Rattle.listing.proofs.WriteLaws.{puts_none, puts_turn, puts-all}
 use Rattle.listing.proofs.decimal.put_word.Given as goal
 
 abbrev pub invariant-loop-i : goal.invariant-loop-i

@@ -2,7 +2,7 @@
 use Prim.Native.Nat.{◌-◌}
 use native.Mathlib.Omega.{arith}
 use borrow.Author.Tests.{ltb-true, ltb-false}
-use Rattle.listing.proofs.PlaceLaws.{Filling, filling_none, filling_turn, filling_all}
+use Rattle.listing.proofs.PlaceLaws.{filling_none, filling_turn, filling_all}
 use Rattle.listing.proofs.places.fill.Goals as goal
 
 pub loop-used-init : goal.loop-used-init

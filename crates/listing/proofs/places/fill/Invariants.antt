@@ -1,8 +1,6 @@
 -- `listing::places::fill` meets its contract. Assumes nothing.
 use Prim.Native.Nat.{◌-◌}
-use native.Mathlib.Omega.{arith}
-use borrow.Author.Tests.{ltb-true, ltb-false}
-use Rattle.listing.proofs.PlaceLaws.{Filling, filling_none, filling_turn, filling_all}
+use Rattle.listing.proofs.PlaceLaws.{Filling}
 use Rattle.listing.proofs.places.fill.Given as goal
 
 abbrev pub invariant-loop-used : goal.invariant-loop-used

@@ -1,9 +1,7 @@
 -- `listing::reader::feed` meets its contract. Assumes nothing.
-use mathlib.Core.Path.{◌≡◌, refl}
-use Prim.Native.Nat.{◌-◌, ◌≤◌}
+use mathlib.Core.Path.{refl}
+use Prim.Native.Nat.{◌-◌}
 use native.Mathlib.Omega.{arith}
-use lib.ListN.{length, take}
-use Rattle.listing.specs.Reading.{Feeds}
 use Rattle.listing.proofs.ReadLaws.{feeds-none, feeds_turn, feeds-all}
 use Rattle.listing.proofs.reader.feed.Goals as goal
 

@@ -1,9 +1,8 @@
 -- `liveness::actions::fill`. The loop's invariant: the actions of the points below p are done. Assumes nothing.
-use Prim.Native.Nat.{◌-◌, ◌≤◌}
-use mathlib.Core.Path.{◌≡◌, refl}
-use lib.ListN.{length}
+use Prim.Native.Nat.{◌-◌}
+use mathlib.Core.Path.{refl}
 use native.Mathlib.Omega.{arith}
-use Rattle.liveness.proofs.FillLaws.{Acting, acting_none, acting_more, acting_all}
+use Rattle.liveness.proofs.FillLaws.{acting_none, acting_more, acting_all}
 use Rattle.liveness.proofs.actions.fill.Goals as goal
 
 pub loop-p-init : goal.loop-p-init

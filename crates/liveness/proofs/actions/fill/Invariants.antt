@@ -1,9 +1,8 @@
 -- `liveness::actions::fill`. The loop's invariant: the actions of the points below p are done. Assumes nothing.
 use Prim.Native.Nat.{◌-◌, ◌≤◌}
-use mathlib.Core.Path.{◌≡◌, refl}
+use mathlib.Core.Path.{◌≡◌}
 use lib.ListN.{length}
-use native.Mathlib.Omega.{arith}
-use Rattle.liveness.proofs.FillLaws.{Acting, acting_none, acting_more, acting_all}
+use Rattle.liveness.proofs.FillLaws.{Acting}
 use Rattle.liveness.proofs.actions.fill.Given as goal
 
 abbrev pub invariant-loop-p : goal.invariant-loop-p

@@ -1,6 +1,5 @@
 -- `liveness::actions::sources`. The loop's invariant: what is left to read is what is left to put in. Assumes nothing.
-use native.Mathlib.Omega.{arith}
-use Rattle.liveness.proofs.NeedLaws.{Sourcing, sourcing_none, sourcing_stop, sourcing_more, sourcing_all}
+use Rattle.liveness.proofs.NeedLaws.{Sourcing}
 use Rattle.liveness.proofs.actions.sources.Given as goal
 
 abbrev pub invariant-loop-left : goal.invariant-loop-left

@@ -1,10 +1,8 @@
 -- `liveness::rows::rows`. The loop's invariant: the points below p are done. Assumes nothing.
-use Prim.Native.Nat.{◌-◌, ◌≤◌}
-use mathlib.Core.Logic.{⊎_elim}
-use mathlib.Core.Path.{◌≡◌, refl, ap, ◌∙◌}
+use Prim.Native.Nat.{◌-◌}
+use mathlib.Core.Path.{refl, ap, ◌∙◌}
 use lib.ListN.{length}
 use native.Mathlib.Omega.{arith}
-use Rattle.liveness.specs.Rows.{Columns}
 use Rattle.liveness.proofs.ColumnLaws.{small-start, columns_none, columns_held, columns_out, columns_all}
 use Rattle.liveness.proofs.rows.rows.Goals as goal
 use Rattle.liveness.proofs.rows.rows.Goals.{then-test, else-test}

@@ -1,11 +1,8 @@
 -- `liveness::rows::rows`. The loop's invariant: the points below p are done. Assumes nothing.
 use Prim.Native.Nat.{◌-◌, ◌≤◌}
-use mathlib.Core.Logic.{⊎_elim}
-use mathlib.Core.Path.{◌≡◌, refl, ap, ◌∙◌}
+use mathlib.Core.Path.{◌≡◌}
 use lib.ListN.{length}
-use native.Mathlib.Omega.{arith}
 use Rattle.liveness.specs.Rows.{Columns}
-use Rattle.liveness.proofs.ColumnLaws.{small-start, columns_none, columns_held, columns_out, columns_all}
 use Rattle.liveness.proofs.rows.rows.Given as goal
 
 abbrev pub invariant-loop-p : goal.invariant-loop-p

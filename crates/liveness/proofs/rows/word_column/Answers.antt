@@ -1,8 +1,6 @@
 -- `liveness::rows::word_column`. The loop's invariant: `rest` has the bits from variable v on, and the rows below v are done. Assumes nothing.
-use Prim.Native.Nat.{◌+◌, ◌-◌, ◌/◌, ◌^◌, ◌≤◌}
-use mathlib.Core.Path.{◌≡◌, ◌∙◌}
-use mathlib.Core.Logic.{⊎_elim}
-use lib.ListN.{length}
+use Prim.Native.Nat.{◌+◌, ◌-◌}
+use mathlib.Core.Path.{◌∙◌}
 use Rattle.bit_slice.proofs.ShiftLaws.{shift_none, shift_more}
 use Rattle.liveness.specs.Rows.{in_word, Column}
 use Rattle.liveness.proofs.ColumnLaws.{small-start, column_none, column_held, column_out, column_rest, column_all, before_word, from_word, past_word}

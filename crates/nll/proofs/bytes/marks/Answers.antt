@@ -3,7 +3,7 @@ use Prim.Native.Nat.{◌-◌, ◌*◌}
 use native.Mathlib.Omega.{arith}
 use lib.ListN.{length}
 use Rattle.nll.proofs.RoomLaws.{room-left, pasted_all}
-use Rattle.nll.proofs.OverwriteLaws.{Pasting, pasting_start, pasting_more}
+use Rattle.nll.proofs.OverwriteLaws.{pasting_start, pasting_more}
 use Rattle.nll.proofs.bytes.marks.Goals as goal
 
 pub loop-r-init : goal.loop-r-init

@@ -1,9 +1,6 @@
 -- `nll::bytes::marks`. The loop's invariant: the marks of the first r declared regions are written. Assumes nothing.
-use Prim.Native.Nat.{◌-◌, ◌*◌}
-use native.Mathlib.Omega.{arith}
-use lib.ListN.{length}
-use Rattle.nll.proofs.RoomLaws.{room-left, pasted_all}
-use Rattle.nll.proofs.OverwriteLaws.{Pasting, pasting_start, pasting_more}
+use Prim.Native.Nat.{◌-◌}
+use Rattle.nll.proofs.OverwriteLaws.{Pasting}
 use Rattle.nll.proofs.bytes.marks.Given as goal
 
 abbrev pub invariant-loop-r : goal.invariant-loop-r

@@ -1,5 +1,5 @@
 -- `record::blocks::actions` meets its contract. Assumes nothing.
-use Rattle.record.proofs.BlockLaws.{Coding, coding_start, coding_more, coding_stop, coding_end, action-result, lends_one}
+use Rattle.record.proofs.BlockLaws.{coding_start, coding_more, coding_stop, coding_end, action-result, lends_one}
 use native.Mathlib.Omega.{arith}
 use Prim.Native.Nat.{◌-◌}
 use Rattle.record.proofs.blocks.actions.Goals as goal

@@ -1,6 +1,5 @@
 -- `record::blocks::actions` meets its contract. Assumes nothing.
-use Rattle.record.proofs.BlockLaws.{Coding, coding_start, coding_more, coding_stop, coding_end, action-result, lends_one}
-use native.Mathlib.Omega.{arith}
+use Rattle.record.proofs.BlockLaws.{Coding}
 use Prim.Native.Nat.{◌-◌}
 use Rattle.record.proofs.blocks.actions.Given as goal
 

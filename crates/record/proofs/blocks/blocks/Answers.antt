@@ -1,5 +1,5 @@
 -- `record::blocks::blocks` meets its contract. Assumes nothing.
-use Rattle.record.proofs.BlockLaws.{Blocking, blocking_start, blocking_missing, blocking_stop, blocking_more, blocking_end, actions-result}
+use Rattle.record.proofs.BlockLaws.{blocking_start, blocking_missing, blocking_stop, blocking_more, blocking_end, actions-result}
 use Rattle.repr.proofs.ReadLaws.{told}
 use Rattle.repr.specs.Parts.{block_says}
 use native.Mathlib.Omega.{arith}

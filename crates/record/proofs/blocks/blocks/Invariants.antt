@@ -1,8 +1,5 @@
 -- `record::blocks::blocks` meets its contract. Assumes nothing.
-use Rattle.record.proofs.BlockLaws.{Blocking, blocking_start, blocking_missing, blocking_stop, blocking_more, blocking_end, actions-result}
-use Rattle.repr.proofs.ReadLaws.{told}
-use Rattle.repr.specs.Parts.{block_says}
-use native.Mathlib.Omega.{arith}
+use Rattle.record.proofs.BlockLaws.{Blocking}
 use Prim.Native.Nat.{◌-◌}
 use Rattle.record.proofs.blocks.blocks.Given as goal
 

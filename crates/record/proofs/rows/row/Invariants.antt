@@ -1,9 +1,6 @@
 -- `record::rows::row` meets its contract. Assumes nothing.
-use Rattle.record.proofs.RowLaws.{Rowing, rowing_start, rowing_more, rowing_stop, rowing_end}
+use Rattle.record.proofs.RowLaws.{Rowing}
 use Rattle.record.specs.Rows.{reader}
-use Rattle.repr.proofs.ReadLaws.{told}
-use Rattle.repr.specs.Reading.{end_says}
-use native.Mathlib.Omega.{arith}
 use Prim.Native.Nat.{◌-◌}
 use Rattle.record.proofs.rows.row.Given as goal
 

@@ -3,8 +3,7 @@ use Rattle.nll_spec.specs.Syntax.{Job}
 use Rattle.nll_spec.specs.Decode.{action}
 use Rattle.nll_spec.specs.WellFormed.{action_named}
 use Rattle.refusals.specs.Tests.{Sized}
-use Rattle.refusals.proofs.RowLaws.{Passing, passing_start, passing_end, passing_stop, passing_more}
-use mathlib.Core.Path.{refl}
+use Rattle.refusals.proofs.RowLaws.{Passing}
 use Rattle.refusals.proofs.actions.actions_named.Given as goal
 
 abbrev pub invariant-loop-left : goal.invariant-loop-left

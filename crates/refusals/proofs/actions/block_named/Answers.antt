@@ -1,5 +1,4 @@
 -- `refusals::actions::block_named` meets its contract. Assumes nothing.
-use borrow.Author.Tests.{not-true, not-false}
 use Rattle.refusals.proofs.PartLaws.{block_refused, block-fails, block-actions}
 use Rattle.refusals.proofs.RowLaws.{only_test}
 use Rattle.refusals.proofs.actions.block_named.Goals as goal

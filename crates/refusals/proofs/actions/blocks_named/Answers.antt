@@ -1,10 +1,7 @@
 -- `refusals::actions::blocks_named` meets its contract. Assumes nothing.
 use Prim.Native.Nat.{◌-◌}
 use native.Mathlib.Omega.{arith}
-use borrow.Author.Tests.{not-true, not-false}
-use Rattle.nll_spec.specs.Syntax.{Job}
-use Rattle.record.specs.Layout.{Layout}
-use Rattle.refusals.proofs.RowLaws.{Testing, testing_start, testing_end, testing_fails, testing_more, blocks-row, sized, row-item}
+use Rattle.refusals.proofs.RowLaws.{testing_start, testing_end, testing_fails, testing_more, blocks-row, sized, row-item}
 use Rattle.refusals.specs.Tests.{block_named}
 use Rattle.refusals.proofs.actions.blocks_named.Goals as goal
 

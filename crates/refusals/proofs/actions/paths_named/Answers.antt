@@ -1,9 +1,6 @@
 -- `refusals::actions::paths_named` meets its contract. Assumes nothing.
-use Rattle.nll_spec.specs.Syntax.{Job}
-use Rattle.nll_spec.specs.Decode.{path}
 use Rattle.nll_spec.specs.WellFormed.{path_named}
-use Rattle.refusals.specs.Tests.{Sized}
-use Rattle.refusals.proofs.RowLaws.{Passing, passing_start, passing_end, passing_stop, passing_more}
+use Rattle.refusals.proofs.RowLaws.{passing_start, passing_end, passing_stop, passing_more}
 use mathlib.Core.Path.{refl}
 use Rattle.refusals.proofs.actions.paths_named.Goals as goal
 

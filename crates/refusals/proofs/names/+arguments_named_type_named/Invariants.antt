@@ -1,11 +1,7 @@
 -- `refusals::names::arguments_named` and `refusals::names::type_named` meet their contracts. The invariant of each loop: the answer from `at` on is the answer for the whole. Assumes nothing.
-use Rattle.refusals.proofs.NameLaws as laws
 use Rattle.refusals.proofs.WalkLaws as walks
 use Rattle.refusals.specs.Tests.{TypeNamed, ArgumentsNamed}
-use mathlib.Core.Logic.{⊎_elim}
-use borrow.Author.Tests.{not-true, not-false}
-use native.Mathlib.Omega.{arith}
-use Prim.Native.Nat.{ℕ, ◌<◌, ◌+◌, ◌*◌}
+use Prim.Native.Nat.{◌+◌, ◌*◌}
 use Rattle.refusals.proofs.names.+arguments_named_type_named.Given as goal
 
 abbrev pub decreases-arguments_named : goal.decreases-arguments_named

@@ -1,10 +1,9 @@
 -- `refusals::part_fits::fields_fit` meets its contract. Assumes nothing.
-use mathlib.Core.Path.{refl}
 use mathlib.Core.List.{List}
 use Rattle.nll_spec.specs.Syntax.{Param, Job}
 use Rattle.nll_spec.specs.Decode.{field}
 use Rattle.refusals.specs.Fits.{Within, field_fits}
-use Rattle.refusals.proofs.RowLaws.{Passing, passing_start, passing_end, passing_stop, passing_more}
+use Rattle.refusals.proofs.RowLaws.{Passing}
 use Rattle.refusals.proofs.part_fits.fields_fit.Given as goal
 
 abbrev pub invariant-loop-left : goal.invariant-loop-left

@@ -1,11 +1,8 @@
 -- `refusals::part_fits::structs_fit` meets its contract. Assumes nothing.
 use Prim.Native.Nat.{◌-◌}
-use native.Mathlib.Omega.{arith}
-use borrow.Author.Tests.{not-true, not-false}
 use Rattle.nll_spec.specs.Syntax.{Job}
 use Rattle.record.specs.Layout.{Layout}
-use Rattle.refusals.proofs.RowLaws.{Testing, testing_start, testing_end, testing_fails, testing_more}
-use Rattle.nll_spec.specs.WellFormed.{fields_fit}
+use Rattle.refusals.proofs.RowLaws.{Testing}
 use Rattle.refusals.specs.Fits.{struct_fits}
 use Rattle.refusals.proofs.part_fits.structs_fit.Given as goal
 

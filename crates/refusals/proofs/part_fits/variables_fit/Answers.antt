@@ -1,12 +1,8 @@
 -- `refusals::part_fits::variables_fit` meets its contract. Assumes nothing.
 use Prim.Native.Nat.{◌-◌}
 use native.Mathlib.Omega.{arith}
-use borrow.Author.Tests.{not-true, not-false}
-use Rattle.nll_spec.specs.Syntax.{Job}
-use Rattle.record.specs.Layout.{Layout}
-use Rattle.refusals.proofs.RowLaws.{Testing, testing_start, testing_end, testing_fails, testing_more, variables-row, row-item}
-use mathlib.Core.List.{[]}
-use Rattle.nll_spec.specs.WellFormed.{type_fits, variables_fit}
+use Rattle.refusals.proofs.RowLaws.{testing_start, testing_end, testing_fails, testing_more, variables-row, row-item}
+use Rattle.nll_spec.specs.WellFormed.{variables_fit}
 use Rattle.refusals.proofs.part_fits.variables_fit.Goals as goal
 
 pub loop-i-init : goal.loop-i-init

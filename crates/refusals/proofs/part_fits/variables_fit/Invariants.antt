@@ -1,12 +1,10 @@
 -- `refusals::part_fits::variables_fit` meets its contract. Assumes nothing.
 use Prim.Native.Nat.{◌-◌}
-use native.Mathlib.Omega.{arith}
-use borrow.Author.Tests.{not-true, not-false}
 use Rattle.nll_spec.specs.Syntax.{Job}
 use Rattle.record.specs.Layout.{Layout}
-use Rattle.refusals.proofs.RowLaws.{Testing, testing_start, testing_end, testing_fails, testing_more, variables-row, row-item}
+use Rattle.refusals.proofs.RowLaws.{Testing}
 use mathlib.Core.List.{[]}
-use Rattle.nll_spec.specs.WellFormed.{type_fits, variables_fit}
+use Rattle.nll_spec.specs.WellFormed.{type_fits}
 use Rattle.refusals.proofs.part_fits.variables_fit.Given as goal
 
 abbrev pub invariant-loop-i : goal.invariant-loop-i

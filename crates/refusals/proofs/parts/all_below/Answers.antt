@@ -1,6 +1,5 @@
 -- `refusals::parts::all_below` meets its contract. Assumes nothing.
-use lib.ListN.{take, drop}
-use Rattle.refusals.proofs.PartLaws.{Below, below-start, below_end, below_out, below_fails, below_more}
+use Rattle.refusals.proofs.PartLaws.{below-start, below_end, below_out, below_fails, below_more}
 use Rattle.refusals.proofs.parts.all_below.Goals as goal
 
 pub loop-left-init : goal.loop-left-init

@@ -1,6 +1,6 @@
 -- `refusals::parts::all_below` meets its contract. Assumes nothing.
 use lib.ListN.{take, drop}
-use Rattle.refusals.proofs.PartLaws.{Below, below-start, below_end, below_out, below_fails, below_more}
+use Rattle.refusals.proofs.PartLaws.{Below}
 use Rattle.refusals.proofs.parts.all_below.Given as goal
 
 abbrev pub invariant-loop-left : goal.invariant-loop-left

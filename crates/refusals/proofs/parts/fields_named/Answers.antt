@@ -1,9 +1,6 @@
 -- `refusals::parts::fields_named` meets its contract. Assumes nothing.
-use Rattle.nll_spec.specs.Syntax.{Job}
-use Rattle.nll_spec.specs.Decode.{field}
 use Rattle.nll_spec.specs.WellFormed.{field_named}
-use Rattle.refusals.specs.Tests.{Sized}
-use Rattle.refusals.proofs.RowLaws.{Passing, passing_start, passing_end, passing_stop, passing_more}
+use Rattle.refusals.proofs.RowLaws.{passing_start, passing_end, passing_stop, passing_more}
 use mathlib.Core.Path.{refl}
 use Rattle.refusals.proofs.parts.fields_named.Goals as goal
 

@@ -1,13 +1,9 @@
 -- `refusals::parts::outlives_named` meets its contract. Assumes nothing.
 use Prim.Native.Nat.{◌-◌}
-use native.Mathlib.Omega.{arith}
-use borrow.Author.Tests.{not-true, not-false}
 use Rattle.nll_spec.specs.Syntax.{Job}
 use Rattle.record.specs.Layout.{Layout}
-use Rattle.refusals.proofs.RowLaws.{Testing, testing_start, testing_end, testing_fails, testing_more, outlives-row, sized, row-item}
-use Rattle.nll_spec.specs.WellFormed.{outlived_named}
+use Rattle.refusals.proofs.RowLaws.{Testing}
 use Rattle.refusals.specs.Tests.{all_below}
-use Rattle.refusals.proofs.PartLaws.{outlived_declared}
 use lib.ListN.{length}
 use Rattle.refusals.proofs.parts.outlives_named.Given as goal
 

@@ -1,11 +1,8 @@
 -- `refusals::parts::structs_named` meets its contract. Assumes nothing.
 use Prim.Native.Nat.{◌-◌}
-use native.Mathlib.Omega.{arith}
-use borrow.Author.Tests.{not-true, not-false}
 use Rattle.nll_spec.specs.Syntax.{Job}
 use Rattle.record.specs.Layout.{Layout}
-use Rattle.refusals.proofs.RowLaws.{Testing, testing_start, testing_end, testing_fails, testing_more, sized}
-use Rattle.nll_spec.specs.WellFormed.{structs_named}
+use Rattle.refusals.proofs.RowLaws.{Testing}
 use Rattle.refusals.specs.Tests.{struct_named}
 use Rattle.refusals.proofs.parts.structs_named.Given as goal
 

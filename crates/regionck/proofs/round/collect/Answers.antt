@@ -1,9 +1,6 @@
 -- `regionck::round::collect` meets its contract. The loop's invariant: the list has the constraints of the points up to p. Assumes nothing.
-use Prim.Native.Nat.{◌-◌, ◌≤◌}
-use mathlib.Core.Path.{◌≡◌}
+use Prim.Native.Nat.{◌-◌}
 use native.Mathlib.Omega.{arith}
-use lib.ListN.{length}
-use Rattle.rerun.specs.Rerun.{Holding}
 use Rattle.rerun.proofs.PointLaws.{held_none, held_more}
 use borrow.Author.Rules.{rules}
 use Rattle.regionck.proofs.round.collect.Goals as goal

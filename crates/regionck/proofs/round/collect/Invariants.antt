@@ -1,10 +1,8 @@
 -- `regionck::round::collect` meets its contract. The loop's invariant: the list has the constraints of the points up to p. Assumes nothing.
 use Prim.Native.Nat.{◌-◌, ◌≤◌}
 use mathlib.Core.Path.{◌≡◌}
-use native.Mathlib.Omega.{arith}
 use lib.ListN.{length}
 use Rattle.rerun.specs.Rerun.{Holding}
-use Rattle.rerun.proofs.PointLaws.{held_none, held_more}
 use Rattle.regionck.proofs.round.collect.Given as goal
 
 abbrev pub invariant-loop-p : goal.invariant-loop-p

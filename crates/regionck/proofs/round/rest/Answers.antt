@@ -1,12 +1,7 @@
 -- `regionck::round::rest`. The loop's invariant: the constraints of the points from `from` on, up to p, are run. Assumes nothing.
-use Prim.Native.Nat.{ℕ, ◌-◌, ◌≤◌}
-use mathlib.Core.Path.{◌≡◌}
-use mathlib.Core.List.{List}
-use lib.ListN.{length}
+use Prim.Native.Nat.{◌-◌}
 use native.Mathlib.Omega.{arith}
-use Rattle.rerun.specs.Rerun.{OwnKept}
 use Rattle.rerun.proofs.RerunLaws.{own_same, own_then}
-use Rattle.regionck.specs.Rounds.{Sound, RunsBelow}
 use Rattle.regionck.proofs.RoundLaws.{below_code}
 use borrow.Author.Rules.{rules}
 use Rattle.regionck.proofs.round.rest.Goals as goal

@@ -3,11 +3,8 @@ use Prim.Native.Nat.{ℕ, ◌-◌, ◌≤◌}
 use mathlib.Core.Path.{◌≡◌}
 use mathlib.Core.List.{List}
 use lib.ListN.{length}
-use native.Mathlib.Omega.{arith}
 use Rattle.rerun.specs.Rerun.{OwnKept}
-use Rattle.rerun.proofs.RerunLaws.{own_same, own_then}
 use Rattle.regionck.specs.Rounds.{Sound, RunsBelow}
-use Rattle.regionck.proofs.RoundLaws.{below_code}
 use Rattle.regionck.proofs.round.rest.Given as goal
 
 abbrev pub invariant-loop-p : goal.invariant-loop-p

@@ -1,5 +1,4 @@
 -- `regionck::round::sweep`: the constraints of the list, then those of the points that it leaves out. Assumes nothing.
-use native.Mathlib.Omega.{arith}
 use Rattle.rerun.proofs.RerunLaws.{own_then, own-fewer, own-drawn}
 use Rattle.regionck.proofs.RoundLaws.{below_none, below_more}
 use Rattle.regionck.proofs.round.sweep.Goals as goal

@@ -1,8 +1,7 @@
 -- `replay::compare::same_bytes`. The loop's invariant: the first i bytes are equal. Assumes nothing.
-use Rattle.replay.proofs.SameLaws.{same_no_long, Comparing, comparing_start, comparing_more, comparing_no, comparing_all, bytes-length, bytes_longer}
+use Rattle.replay.proofs.SameLaws.{same_no_long, comparing_start, comparing_more, comparing_no, comparing_all, bytes-length, bytes_longer}
 use native.Mathlib.Omega.{arith}
 use Prim.Native.Nat.{◌-◌}
-use lib.ListN.{length}
 use Rattle.nll_spec.specs.Output.{overwrite}
 use Rattle.replay.specs.File.{part_of, bytes_before}
 use Rattle.replay.proofs.compare.same_bytes.Goals as goal

@@ -1,6 +1,5 @@
 -- `replay::compare::same_words`. The loop's invariant: the first i words are equal. Assumes nothing.
-use Rattle.replay.proofs.SameLaws.{same_no_long, Comparing, comparing_start, comparing_more, comparing_no, comparing_all, words-length, words_longer}
-use native.Mathlib.Omega.{arith}
+use Rattle.replay.proofs.SameLaws.{Comparing}
 use Prim.Native.Nat.{◌-◌}
 use lib.ListN.{length}
 use Rattle.nll_spec.specs.Output.{overwrite}

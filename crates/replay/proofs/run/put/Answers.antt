@@ -2,8 +2,8 @@
 use mathlib.Core.Path.{refl}
 use native.Mathlib.Omega.{arith}
 use Prim.Native.Nat.{◌-◌}
-use lib.ListN.{length, get_or}
-use Rattle.replay.proofs.RunLaws.{Appending, append-start, append-more, appended}
+use lib.ListN.{get_or}
+use Rattle.replay.proofs.RunLaws.{append-start, append-more, appended}
 use Rattle.replay.proofs.run.put.Goals as goal
 
 pub loop-i-init : goal.loop-i-init

@@ -1,9 +1,7 @@
 -- `replay::run::put`. The loop's invariant: the first i bytes are put. Assumes nothing.
-use mathlib.Core.Path.{refl}
-use native.Mathlib.Omega.{arith}
 use Prim.Native.Nat.{◌-◌}
-use lib.ListN.{length, get_or}
-use Rattle.replay.proofs.RunLaws.{Appending, append-start, append-more, appended}
+use lib.ListN.{length}
+use Rattle.replay.proofs.RunLaws.{Appending}
 use Rattle.replay.proofs.run.put.Given as goal
 
 abbrev pub invariant-loop-i : goal.invariant-loop-i

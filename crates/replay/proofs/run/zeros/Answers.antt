@@ -3,7 +3,7 @@ use lib.ListN.{length-replicate, get_or-replicate, replicate}
 use Prim.Native.Nat.{◌+◌, ℕ, ◌-◌}
 use mathlib.Core.Path.{sym, ap}
 use native.Mathlib.Omega.{arith}
-use Rattle.replay.proofs.RunLaws.{Appending, append-start, append-more, appended}
+use Rattle.replay.proofs.RunLaws.{append-start, append-more, appended}
 use Rattle.replay.proofs.run.zeros.Goals as goal
 
 pub loop-i-init : goal.loop-i-init

@@ -1,9 +1,7 @@
 -- `replay::run::zeros`. The loop's invariant: the first i zeros are put. Assumes nothing.
-use lib.ListN.{length-replicate, get_or-replicate, replicate}
-use Prim.Native.Nat.{◌+◌, ℕ, ◌-◌}
-use mathlib.Core.Path.{sym, ap}
-use native.Mathlib.Omega.{arith}
-use Rattle.replay.proofs.RunLaws.{Appending, append-start, append-more, appended}
+use lib.ListN.{replicate}
+use Prim.Native.Nat.{◌-◌}
+use Rattle.replay.proofs.RunLaws.{Appending}
 use Rattle.replay.proofs.run.zeros.Given as goal
 
 abbrev pub invariant-loop-i : goal.invariant-loop-i

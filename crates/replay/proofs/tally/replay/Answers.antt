@@ -2,7 +2,7 @@
 use borrow.Author.Count.{falls}
 use native.Mathlib.Omega.{arith}
 use Prim.Native.Nat.{◌-◌}
-use Rattle.replay.proofs.FileLaws.{Counting, count-start, count_in_lem, count-more, count_cut, count-all}
+use Rattle.replay.proofs.FileLaws.{count-start, count_in_lem, count-more, count_cut, count-all}
 use Rattle.replay.proofs.tally.replay.Goals as goal
 
 pub two_at-entries-requires : goal.two_at-entries-requires

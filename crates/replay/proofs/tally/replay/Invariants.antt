@@ -1,8 +1,6 @@
 -- `replay::tally::replay`. The loop's invariant: the first i entries are counted. Assumes nothing.
-use borrow.Author.Count.{falls}
-use native.Mathlib.Omega.{arith}
 use Prim.Native.Nat.{◌-◌}
-use Rattle.replay.proofs.FileLaws.{Counting, count-start, count_in_lem, count-more, count_cut, count-all}
+use Rattle.replay.proofs.FileLaws.{Counting}
 use Rattle.replay.proofs.tally.replay.Given as goal
 
 abbrev pub invariant-loop-i : goal.invariant-loop-i

@@ -1,8 +1,6 @@
 -- `repr::Cursor::arguments` meets its contract. The loop's invariant: from c on, n arguments are to be read yet. Assumes nothing.
-use mathlib.Core.Path.{refl}
 use Prim.Native.Nat.{◌+◌, ◌*◌}
-use native.Mathlib.Omega.{arith}
-use Rattle.repr.proofs.TypeLaws.{Along, along-none, along-refused, along-more, along-less, along-ended}
+use Rattle.repr.proofs.TypeLaws.{Along}
 use Rattle.repr.proofs.Cursor.arguments.Given as goal
 
 abbrev pub invariant-loop-n : goal.invariant-loop-n

@@ -2,7 +2,7 @@
 use Rattle.repr.proofs.PartLaws.{counted_step, counted_stop}
 use Rattle.repr.proofs.ReadLaws.{told, step, stop}
 use Rattle.repr.specs.Parts.{block_of}
-use Rattle.repr.specs.Reading.{byte_says, bytes_say}
+use Rattle.repr.specs.Reading.{byte_says}
 use Rattle.nll_spec.specs.Decode.{block}
 use mathlib.Core.Path.{sym, ◌∙◌}
 use Rattle.repr.proofs.Cursor.block.Goals as goal

@@ -1,10 +1,8 @@
 -- `repr::Cursor::fields` meets its contract. Assumes nothing.
 use Rattle.repr.proofs.PartLaws.{row-none, row_stop, row_step}
 use Rattle.repr.proofs.ReadLaws.{told}
-use Rattle.repr.specs.Reading.{ended, end_says}
-use Rattle.nll_spec.specs.Decode.{items, field}
-use lib.ListN.{drop}
-use mathlib.Core.Path.{◌≡◌, refl, sym, ◌∙◌}
+use Rattle.repr.specs.Reading.{end_says}
+use mathlib.Core.Path.{refl, sym, ◌∙◌}
 use Rattle.repr.proofs.Cursor.fields.Goals as goal
 
 pub loop-left-init : goal.loop-left-init

@@ -2,7 +2,7 @@
 use native.Mathlib.Omega.{arith}
 use Rattle.repr.proofs.ReadLaws.{told}
 use Rattle.repr.specs.Reading.{byte_says}
-use Rattle.repr.proofs.TypeLaws.{Down, down_none, down_ref, opened_missing, opened_full, opened_refused, opened_unit, opened_bound, opened_struct}
+use Rattle.repr.proofs.TypeLaws.{down_none, down_ref, opened_missing, opened_full, opened_refused, opened_unit, opened_bound, opened_struct}
 use Rattle.repr.proofs.Cursor.opened.Goals as goal
 
 pub loop-few-init : goal.loop-few-init

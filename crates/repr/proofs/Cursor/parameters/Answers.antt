@@ -2,9 +2,7 @@
 use Rattle.repr.proofs.PartLaws.{row-none, row_stop, row_step}
 use Rattle.repr.proofs.ReadLaws.{told}
 use Rattle.repr.specs.Reading.{ended, parameter_says}
-use Rattle.nll_spec.specs.Decode.{items, param}
-use lib.ListN.{drop}
-use mathlib.Core.Path.{◌≡◌, refl, sym, ap, ◌∙◌}
+use mathlib.Core.Path.{refl, sym, ap, ◌∙◌}
 use Rattle.repr.proofs.Cursor.parameters.Goals as goal
 
 pub loop-left-init : goal.loop-left-init

@@ -1,6 +1,6 @@
 -- `repr::Cursor::path` meets its contract. Assumes nothing.
 use Rattle.repr.proofs.ReadLaws.{told, step, stop}
-use Rattle.repr.specs.Reading.{byte_says, bytes_say}
+use Rattle.repr.specs.Reading.{byte_says}
 use Rattle.nll_spec.specs.Decode.{path, done}
 use mathlib.Core.Path.{sym, ◌∙◌}
 use Rattle.repr.proofs.Cursor.path.Goals as goal

@@ -2,9 +2,7 @@
 use Rattle.repr.proofs.PartLaws.{row-none, row_stop, row_step}
 use Rattle.repr.proofs.ReadLaws.{told}
 use Rattle.repr.specs.Reading.{ended, path_says}
-use Rattle.nll_spec.specs.Decode.{items, path}
-use lib.ListN.{drop}
-use mathlib.Core.Path.{◌≡◌, refl, sym, ap, ◌∙◌}
+use mathlib.Core.Path.{refl, sym, ap, ◌∙◌}
 use Rattle.repr.proofs.Cursor.paths.Goals as goal
 
 pub loop-left-init : goal.loop-left-init

@@ -1,10 +1,8 @@
 -- `repr::Cursor::paths` meets its contract. Assumes nothing.
-use Rattle.repr.proofs.PartLaws.{row-none, row_stop, row_step}
-use Rattle.repr.proofs.ReadLaws.{told}
-use Rattle.repr.specs.Reading.{ended, path_says}
+use Rattle.repr.specs.Reading.{ended}
 use Rattle.nll_spec.specs.Decode.{items, path}
 use lib.ListN.{drop}
-use mathlib.Core.Path.{◌≡◌, refl, sym, ap, ◌∙◌}
+use mathlib.Core.Path.{◌≡◌}
 use Rattle.repr.proofs.Cursor.paths.Given as goal
 
 abbrev pub invariant-loop-left : goal.invariant-loop-left

@@ -1,9 +1,7 @@
 -- `rerun::marks::note`. The loop's invariant: the marks of the first r regions are put to those of `grown`. Assumes nothing.
-use Prim.Native.Nat.{◌-◌, ◌≤◌}
+use Prim.Native.Nat.{◌-◌}
 use native.Mathlib.Omega.{arith}
 use mathlib.Core.Path.{◌≡◌}
-use lib.ListN.{length}
-use Rattle.rerun.specs.Rerun.{Noted}
 use Rattle.rerun.proofs.MarkLaws.{noted_none, noted_more}
 use borrow.Author.Rules.{rules}
 use Rattle.rerun.proofs.marks.note.Goals as goal

@@ -1,10 +1,8 @@
 -- `rerun::marks::note`. The loop's invariant: the marks of the first r regions are put to those of `grown`. Assumes nothing.
 use Prim.Native.Nat.{◌-◌, ◌≤◌}
-use native.Mathlib.Omega.{arith}
 use mathlib.Core.Path.{◌≡◌}
 use lib.ListN.{length}
 use Rattle.rerun.specs.Rerun.{Noted}
-use Rattle.rerun.proofs.MarkLaws.{noted_none, noted_more}
 use Rattle.rerun.proofs.marks.note.Given as goal
 
 abbrev pub invariant-loop-r : goal.invariant-loop-r

@@ -1,7 +1,6 @@
 -- `rerun::point::point` meets its contract. Assumes nothing.
 use mathlib.Core.Path.{refl}
 use mathlib.Core.Logic.{inl, inr}
-use borrow.Author.Tests.{not-true, not-false}
 use Rattle.rerun.proofs.PointLaws.{point_far, point-passed, point_idle, point-added}
 use Rattle.rerun.proofs.point.point.Goals as goal
 

@@ -1,8 +1,7 @@
 -- `seeds::declared::close` meets its contract. Assumes nothing.
 use mathlib.Core.Path.{◌≡◌, refl}
-use Prim.Native.Nat.{◌≤◌, ◌-◌}
+use Prim.Native.Nat.{◌-◌}
 use native.Mathlib.Omega.{arith}
-use Rattle.seeds.specs.Closure.{closed}
 use Rattle.seeds.proofs.ClosureLaws as laws
 use Rattle.seeds.proofs.declared.close.Goals as goal
 

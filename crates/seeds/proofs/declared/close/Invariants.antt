@@ -1,9 +1,7 @@
 -- `seeds::declared::close` meets its contract. Assumes nothing.
-use mathlib.Core.Path.{◌≡◌, refl}
+use mathlib.Core.Path.{◌≡◌}
 use Prim.Native.Nat.{◌≤◌, ◌-◌}
-use native.Mathlib.Omega.{arith}
 use Rattle.seeds.specs.Closure.{closed}
-use Rattle.seeds.proofs.ClosureLaws as laws
 use Rattle.seeds.proofs.declared.close.Given as goal
 
 abbrev pub invariant-loop-k : goal.invariant-loop-k

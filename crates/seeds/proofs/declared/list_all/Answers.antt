@@ -1,6 +1,5 @@
 -- `seeds::declared::list_all` meets its contract. Assumes nothing.
 use Prim.Native.Nat.{◌-◌}
-use Rattle.seeds.specs.Closure.{Listing}
 use Rattle.seeds.proofs.ClosureLaws as laws
 use Rattle.seeds.proofs.declared.list_all.Goals as goal
 

@@ -1,7 +1,6 @@
 -- `seeds::declared::list_all` meets its contract. Assumes nothing.
 use Prim.Native.Nat.{◌-◌}
 use Rattle.seeds.specs.Closure.{Listing}
-use Rattle.seeds.proofs.ClosureLaws as laws
 use Rattle.seeds.proofs.declared.list_all.Given as goal
 
 abbrev pub invariant-loop-r : goal.invariant-loop-r

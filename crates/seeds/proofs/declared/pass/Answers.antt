@@ -1,9 +1,8 @@
 -- `seeds::declared::pass` meets its contract. Assumes nothing.
 use native.Mathlib.Omega.{arith}
 use mathlib.Core.Path.{◌≡◌, refl}
-use Prim.Native.Nat.{◌≤◌, ◌-◌}
+use Prim.Native.Nat.{◌-◌}
 use Rattle.seeds.proofs.ClosureLaws as laws
-use Rattle.seeds.specs.Closure.{passed}
 use Rattle.seeds.proofs.declared.pass.Goals as goal
 
 pub loop-r-init : goal.loop-r-init

@@ -1,8 +1,6 @@
 -- `seeds::declared::pass` meets its contract. Assumes nothing.
-use native.Mathlib.Omega.{arith}
-use mathlib.Core.Path.{◌≡◌, refl}
+use mathlib.Core.Path.{◌≡◌}
 use Prim.Native.Nat.{◌≤◌, ◌-◌}
-use Rattle.seeds.proofs.ClosureLaws as laws
 use Rattle.seeds.specs.Closure.{passed}
 use Rattle.seeds.proofs.declared.pass.Given as goal
 

@@ -3,7 +3,6 @@ use Rattle.seeds.proofs.ChosenLaws as laws
 use mathlib.Core.Path.{refl}
 use native.Mathlib.Omega.{arith}
 use native.Mathlib.Nat.{le_refl}
-use Prim.Native.Nat.{ℕ, ◌<◌, ◌+◌, ◌*◌}
 use Rattle.seeds.proofs.regions.+add_arguments_add_type.Goals as goal
 
 pub add_arguments-returns-then-count-eq0 : goal.add_arguments-returns-then-count-eq0

@@ -1,9 +1,5 @@
 -- `seeds::regions::add_arguments` and `seeds::regions::add_type` meet their contracts. Assumes nothing.
-use Rattle.seeds.proofs.ChosenLaws as laws
-use mathlib.Core.Path.{refl}
-use native.Mathlib.Omega.{arith}
-use native.Mathlib.Nat.{le_refl}
-use Prim.Native.Nat.{ℕ, ◌<◌, ◌+◌, ◌*◌}
+use Prim.Native.Nat.{◌+◌, ◌*◌}
 use Rattle.seeds.proofs.regions.+add_arguments_add_type.Given as goal
 
 abbrev pub decreases-add_arguments : goal.decreases-add_arguments

@@ -1,6 +1,6 @@
 -- `seeds::rows::declared_row` meets its contract. Assumes nothing.
 use mathlib.Core.Path.{refl}
-use Prim.Native.Nat.{◌≤◌, ◌-◌}
+use Prim.Native.Nat.{◌-◌}
 use native.Mathlib.Omega.{arith}
 use Rattle.seeds.proofs.RowLaws as laws
 use Rattle.seeds.proofs.rows.declared_row.Goals as goal

@@ -1,7 +1,5 @@
 -- `seeds::rows::declared_row` meets its contract. Assumes nothing.
-use mathlib.Core.Path.{refl}
 use Prim.Native.Nat.{◌≤◌, ◌-◌}
-use native.Mathlib.Omega.{arith}
 use Rattle.seeds.proofs.RowLaws as laws
 use Rattle.seeds.proofs.rows.declared_row.Given as goal
 

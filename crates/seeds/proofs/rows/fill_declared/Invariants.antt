@@ -1,6 +1,5 @@
 -- `seeds::rows::fill_declared` meets its contract. Assumes nothing.
 use Prim.Native.Nat.{◌≤◌, ◌-◌}
-use native.Mathlib.Omega.{arith}
 use Rattle.seeds.proofs.RowLaws as laws
 use Rattle.seeds.proofs.rows.fill_declared.Given as goal
 

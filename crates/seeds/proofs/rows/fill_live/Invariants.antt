@@ -1,6 +1,5 @@
 -- `seeds::rows::fill_live` meets its contract. Assumes nothing.
 use Prim.Native.Nat.{◌≤◌, ◌-◌}
-use native.Mathlib.Omega.{arith}
 use Rattle.seeds.proofs.LiveLaws as laws
 use Rattle.seeds.proofs.rows.fill_live.Given as goal
 

@@ -1,7 +1,5 @@
 -- `seeds::rows::spread` meets its contract. Assumes nothing.
-use mathlib.Core.Path.{ap}
-use Prim.Native.Nat.{ℕ, ◌-◌, ◌*◌}
-use native.Mathlib.Omega.{arith}
+use Prim.Native.Nat.{◌-◌}
 use Rattle.seeds.proofs.RowLaws as laws
 use Rattle.seeds.proofs.rows.spread.Given as goal
 

@@ -1,6 +1,5 @@
 use Rattle.ty.proofs.ShapeLaws as laws
 use native.Mathlib.Omega.{arith}
-use Prim.Native.Nat.{ℕ, ◌<◌, ◌+◌, ◌*◌}
 use Rattle.ty.proofs.shape.+same_arguments_same_first_same_types.Goals as goal
 
 pub same_arguments-returns-in-Refused : goal.same_arguments-returns-in-Refused

@@ -1,6 +1,4 @@
-use Rattle.ty.proofs.ShapeLaws as laws
-use native.Mathlib.Omega.{arith}
-use Prim.Native.Nat.{ℕ, ◌<◌, ◌+◌, ◌*◌}
+use Prim.Native.Nat.{◌+◌, ◌*◌}
 use Rattle.ty.proofs.shape.+same_arguments_same_first_same_types.Given as goal
 
 abbrev pub decreases-same_arguments : goal.decreases-same_arguments

@@ -2,7 +2,6 @@ use Rattle.ty.proofs.SubstLaws as laws
 use native.Mathlib.Omega.{arith}
 use lib.ListN.{length-set}
 use mathlib.Core.Path.{◌∙◌}
-use Prim.Native.Nat.{ℕ, ◌<◌, ◌+◌, ◌*◌}
 use Rattle.ty.proofs.write.+subst_arguments_subst_type.Goals as goal
 
 pub subst_arguments-returns-then-n-eq0 : goal.subst_arguments-returns-then-n-eq0

@@ -1,8 +1,4 @@
-use Rattle.ty.proofs.SubstLaws as laws
-use native.Mathlib.Omega.{arith}
-use lib.ListN.{length-set}
-use mathlib.Core.Path.{◌∙◌}
-use Prim.Native.Nat.{ℕ, ◌<◌, ◌+◌, ◌*◌}
+use Prim.Native.Nat.{◌+◌, ◌*◌}
 use Rattle.ty.proofs.write.+subst_arguments_subst_type.Given as goal
 
 abbrev pub decreases-subst_arguments : goal.decreases-subst_arguments

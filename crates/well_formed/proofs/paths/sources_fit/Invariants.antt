@@ -1,12 +1,9 @@
 -- `well_formed::paths::sources_fit` meets its contract. Assumes nothing.
-use mathlib.Core.Path.{refl}
-use borrow.Author.Tests.{not-true, not-false}
 use Rattle.nll_spec.specs.Syntax.{Job}
 use Rattle.nll_spec.specs.Decode.{path}
 use Rattle.record.specs.Layout.{Layout}
-use Rattle.refusals.proofs.RowLaws.{only_test, Passing, passing_start, passing_end, passing_stop, passing_more}
+use Rattle.refusals.proofs.RowLaws.{Passing}
 use Rattle.well_formed.specs.Tests.{path_taken}
-use Rattle.well_formed.proofs.PathLaws.{source-refused, source-passes, source-fails}
 use Rattle.well_formed.proofs.paths.sources_fit.Given as goal
 
 abbrev pub invariant-loop-left : goal.invariant-loop-left

@@ -1,5 +1,4 @@
 -- `well_formed::points::action_refusal` meets its contract. Assumes nothing.
-use borrow.Author.Tests.{not-true, not-false}
 use Rattle.well_formed.proofs.PathLaws as laws
 use Rattle.well_formed.proofs.points.action_refusal.Goals as goal
 

@@ -1,7 +1,5 @@
 -- `well_formed::points::points_refusal` meets its contract. Assumes nothing.
 use Prim.Native.Nat.{◌-◌}
-use Rattle.nll_spec.specs.Syntax.{Job}
-use Rattle.record.specs.Layout.{Layout}
 use Rattle.well_formed.proofs.PointLaws as laws
 use Rattle.well_formed.proofs.points.points_refusal.Goals as goal
 
