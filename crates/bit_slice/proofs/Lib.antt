@@ -1,4 +1,3 @@
 pub mod LentLaws
 pub mod SomeLaws
 pub mod ShiftLaws
-mod Cited

@@ -1,4 +1,4 @@
--- An action of an accepted job makes at most 264 constraints: `few-constraints`. Assumes nothing.
+-- An action of an accepted job makes at most 264 constraints: `few_constraints`. Assumes nothing.
 use mathlib.Core.Path.{◌≡◌, refl}
 use mathlib.Core.Bool.{Bool, true, false, ◌&&◌, cond}
 use mathlib.Core.List.{List, [], ◌∷◌}

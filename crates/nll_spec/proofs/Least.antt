@@ -1,4 +1,4 @@
--- `least` of a rule is closed under the rule, and nothing is in it that the rule does not bring: `least-closed` and `least-ind`.
+-- `least` of a rule is closed under the rule, and nothing is in it that the rule does not bring: `least-closed` and `least_ind`.
 -- Assumes nothing.
 use mathlib.Core.Path.{◌≡◌, refl, sym, ◌∙◌, subst, subst₂, ap}
 use mathlib.Core.Logic.{◌⊎◌, inl, inr}

@@ -1,4 +1,4 @@
--- Laws and theorems over the definitions. The demands' theorems: `OutputLaws.refuses` (1), `MeansLaws.answers-mean` (2), `GuaranteeLaws.guarantee` (3).
+-- Laws and theorems over the definitions. The demands' theorems: `OutputLaws.refuses` (1), `MeansLaws.answers_mean` (2), `GuaranteeLaws.guarantee` (3).
 pub mod Tests
 pub mod Lookup
 pub mod Members

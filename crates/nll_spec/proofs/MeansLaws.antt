@@ -1,4 +1,4 @@
--- Demand 2: what an accepting call writes means what document 01 says, `answers-mean`, for either end rule. And the facts of an accepted record, `accepted-record`.
+-- Demand 2: what an accepting call writes means what document 01 says, `answers_mean`, for either end rule. And the facts of an accepted record, `accepted_record`.
 -- Assumes nothing.
 use mathlib.Core.Path.{◌≡◌, refl, sym, ◌∙◌, subst, fun_ext}
 use mathlib.Core.Logic.{◌↔◌}

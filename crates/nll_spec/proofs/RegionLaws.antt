@@ -1,4 +1,4 @@
--- The regions' sets: the computed table contains its seeds, meets every constraint and is the least that does, `table-least`; under `held_ends` the sets lie
+-- The regions' sets: the computed table contains its seeds, meets every constraint and is the least that does, `table_least`; under `held_ends` the sets lie
 -- within those under `every_end`.
 -- Assumes nothing.
 use mathlib.Core.Path.{◌≡◌, sym, subst, refl, ap}

@@ -1,4 +1,4 @@
--- A loan is in scope exactly where a path from its borrow says so: `scope-path` and `path-scope`.
+-- A loan is in scope exactly where a path from its borrow says so: `scope_path` and `path_scope`.
 -- Assumes nothing.
 use mathlib.Core.Path.{◌≡◌, refl, sym, subst}
 use mathlib.Core.Logic.{◌⊎◌, inl, inr}

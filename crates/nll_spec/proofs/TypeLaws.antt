@@ -1,5 +1,5 @@
--- In a job that refusals 6, 7 and 9 let pass, the types of paths name regions of the job and hold no bound, and so do the constraints: `path-good`,
--- `constraints-good`.
+-- In a job that refusals 6, 7 and 9 let pass, the types of paths name regions of the job and hold no bound, and so do the constraints: `path_good`,
+-- `constraints_good`.
 -- Assumes nothing.
 use mathlib.Core.Path.{◌≡◌, refl, sym, subst as transport, ap}
 use mathlib.Core.Bool.{Bool, true, false, ◌&&◌, cond}

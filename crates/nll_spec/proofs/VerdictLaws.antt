@@ -1,5 +1,5 @@
--- The computed verdict at a point is that of document 01's words: a loan of a walked borrow, in scope by a path, that conflicts. `verdict-judged`,
--- `judged-fault`.
+-- The computed verdict at a point is that of document 01's words: a loan of a walked borrow, in scope by a path, that conflicts. `verdict_judged`,
+-- `judged_fault`.
 -- Assumes nothing.
 use mathlib.Core.Path.{◌≡◌, refl, sym, subst}
 use mathlib.Core.Logic.{◌↔◌}

@@ -1,4 +1,4 @@
--- What the points of walked blocks give, one after the other, is what the reached points give: `walked-member`, `member-walked`.
+-- What the points of walked blocks give, one after the other, is what the reached points give: `walked_member`, `member_walked`.
 -- Assumes nothing.
 use mathlib.Core.List.{List}
 use lib.Dec.{T}
