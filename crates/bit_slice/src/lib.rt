@@ -1,6 +1,6 @@
 #![tactic(auto)]
 // A view of a set that holds the lent words, and thin functions over it, whose work is bit_set's. `some_set` and `word_at` read the words themselves.
-// What takes or makes a view is proved by a walk of its code; `is_set`, `some_set`, `word_at` and `insert_bits_from_slice` have plain parameters, so that their callers need none.
+// `is_set`, `some_set`, `word_at` and `insert_bits_from_slice` take plain slices.
 // No function requires anything: a number past the words is in no set, a run past the words changes nothing, and of such a run `some_set` says yes.
 ghost use Rattle.std.specs.Prelude.{◌≡◌, ◌+◌, ◌*◌, get_or};
 ghost use Rattle.nll_spec.specs.Output.{word_bits};

@@ -122,7 +122,7 @@ fn is_found(found: Found) -> bool
     }
 }
 
-// The first of the accesses that conflicts with one of the loans; the bridge from arrays by value, since its callers have plain values only.
+// The first of the accesses that conflicts with one of the loans; its arrays come by value.
 pub fn search_in(
     s: &[u8],
     loans: [Loan; 16],

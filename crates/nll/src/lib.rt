@@ -41,7 +41,7 @@ pub fn analyse(input: &[u8], words: &mut [u32], bytes: &mut [u8]) -> Analysis
     }
 }
 
-// The same for C, as document 01's number: 0, or a refusal's.
+// The same as document 01's number: 0, or a refusal's.
 pub fn nll_analyse(input: &[u8], words: &mut [u32], bytes: &mut [u8]) -> u8
     ensures { AnalyseSays input.now words.old bytes.old result words.new bytes.new }
 {
