@@ -1,8 +1,6 @@
 #![tactic(auto)]
-// The calls for C, as include/nll.h declares them.
-ghost use Rattle.std.specs.Prelude.{◌≡◌};
-ghost use Rattle.nll_spec.specs.Output as output;
-ghost use Rattle.nll.specs.Analysis.{AnalyseSays, points_of};
+// The call for C, as include/nll.h declares it.
+ghost use Rattle.nll.specs.Analysis.{AnalyseSays};
 
 // Analyses the record `input`, and answers document 01's number: 0, or a refusal's.
 #[unsafe(no_mangle)]
