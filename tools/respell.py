@@ -1,7 +1,7 @@
 #!/usr/bin/env python3
 """Respells the repository's own definitions and lemmas: words in snake case, a dash only where it joins two names.
 
-usage: python3 tools/respell.py          in the repository, once, right after /opt/rattle/port/port.py
+usage: python3 tools/respell.py          in the repository, once, right after port/port.py of the kit
        python3 tools/respell.py --list   says which names would change, and which would fall together
 
 Types, modules, names of the library and the names of goals stay; so do functions of src/, which are in snake case already.
