@@ -39,9 +39,9 @@ pub fn put(list: &[u32], p: usize, absent: &mut [u32])
         return;
     }
     let inner = inner_regions(list);
-    for x in 0..128 {
-        if inner[x] == 0 {
-            bit_set::add(absent, 4 * p, x);
+    for region in 0..128 {
+        if inner[region] == 0 {
+            bit_set::add(absent, 4 * p, region);
         }
     }
 }
