@@ -138,7 +138,7 @@ fn mask(b: usize, n: usize) -> u32
     requires { b + n < 32 }
     ensures { Mask b n result }
 {
-    (4294967295 >> (31 - n)) << b
+    (u32::MAX >> (31 - n)) << b
 }
 
 // Puts the next points of a walk along the chain into the points, as far as they are in one word, and returns the last of them. Returns q where q is
