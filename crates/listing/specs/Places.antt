@@ -12,7 +12,7 @@ use Rattle.listing.specs.declared.writer.Text.{Text}
 use Rattle.listing.specs.declared.Place.{Place}
 use Rattle.listing.specs.declared.Place.TheVariants.{Points, Region, Within, Access, Grown, Done}
 
--- The counts are those of the job, within document 01's limits.
+-- The counts are those of the job, within the limits of a record.
 pub record Counted (j : Job) (n : Counts) : Type 0 where
   pub points : n.points ≡ point_count j
   pub regions : n.regions ≡ j.regions

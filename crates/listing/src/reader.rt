@@ -2,6 +2,7 @@
 ghost use Rattle.std.specs.Prelude.{◌≡◌, ◌≤◌, ◌<◌, List, [], ◌∷◌, ℕ, length, IfSome};
 ghost use Rattle.nll_spec.specs.Listing.{is_skipped, digit};
 ghost use Rattle.listing.specs.Digits.{value_of, waiting};
+ghost use Rattle.listing.specs.declared.reader.TheConstants.{ROOM};
 
 // How many bytes of a record are kept: one more than the longest record has.
 pub const ROOM: usize = 16388;
@@ -18,10 +19,10 @@ pub enum Digits {
 #[derive(Drop)]
 pub struct Hex {
     digits: Digits,
-    kept: [u8; 16388],
+    kept: [u8; ROOM],
     count: usize,
     ghost digit: { waiting digits < 16 },
-    ghost room: { count ≤ 16388 },
+    ghost room: { count ≤ ROOM },
 }
 
 impl Hex {

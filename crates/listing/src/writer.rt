@@ -1,5 +1,6 @@
 // Bytes, words and decimal numbers, put into a buffer one after the other.
 ghost use Rattle.std.specs.Prelude.{◌≡◌, ◌≤◌};
+ghost use Rattle.listing.specs.declared.writer.TheConstants.{SIZE};
 
 // How many bytes a text has room for.
 pub const SIZE: usize = 4096;
@@ -7,9 +8,9 @@ pub const SIZE: usize = 4096;
 // A text: the first bytes of a buffer.
 #[derive(Drop)]
 pub struct Text {
-    bytes: [u8; 4096],
+    bytes: [u8; SIZE],
     used: usize,
-    ghost room: { used ≤ 4096 },
+    ghost room: { used ≤ SIZE },
 }
 
 impl Text {
@@ -45,7 +46,7 @@ impl Text {
 
     // How many bytes more there is room for.
     pub fn room(&self) -> usize
-        ensures { result ≡ 4096 - self.now.used }
+        ensures { result ≡ SIZE - self.now.used }
     {
         SIZE - self.used
     }
@@ -57,7 +58,7 @@ impl Text {
     }
 
     pub fn byte(&mut self, byte: u8)
-        requires { self.old.used < 4096 }
+        requires { self.old.used < SIZE }
         ensures { Puts (byte ∷ []) self.old self.new }
     {
         self.bytes[self.used] = byte;
@@ -65,7 +66,7 @@ impl Text {
     }
 
     pub fn word(&mut self, word: &[u8])
-        requires { self.old.used + length word.now ≤ 4096 }
+        requires { self.old.used + length word.now ≤ SIZE }
         ensures { Puts word.now self.old self.new }
     {
         for byte in word {
@@ -75,7 +76,7 @@ impl Text {
 
     // A number in decimal.
     pub fn number(&mut self, n: u16)
-        requires { self.old.used + length (digits_of (suc n) n) ≤ 4096 }
+        requires { self.old.used + length (digits_of (suc n) n) ≤ SIZE }
         ensures { Puts (digits_of (suc n) n) self.old self.new }
     {
         if n >= 10 {
@@ -86,7 +87,7 @@ impl Text {
 
     // A space and a number in decimal.
     pub fn spaced(&mut self, n: u16)
-        requires { self.old.used + 6 ≤ 4096 }
+        requires { self.old.used + 6 ≤ SIZE }
         ensures { Puts (spaced n) self.old self.new }
     {
         self.byte(b' ');
@@ -95,7 +96,7 @@ impl Text {
 
     // A line: a word and numbers.
     pub fn line(&mut self, word: &[u8], numbers: &[u16])
-        requires { self.old.used + length word.now + 6 * length numbers.now + 1 ≤ 4096 }
+        requires { self.old.used + length word.now + 6 * length numbers.now + 1 ≤ SIZE }
         ensures { Puts (word.now ++ gather spaced numbers.now ++ (10 ∷ [])) self.old self.new }
     {
         self.word(word);

@@ -1,5 +1,6 @@
 // Room for a file.
 ghost use Rattle.std.specs.Prelude.{◌≡◌, ◌≤◌};
+ghost use Rattle.replay.specs.declared.room.TheConstants.{ROOM};
 
 use std::io::Read;
 
@@ -8,9 +9,9 @@ pub const ROOM: usize = 1048576;
 // The bytes of a file.
 #[derive(Drop)]
 pub struct FileBytes {
-    bytes: [u8; 1048576],
+    bytes: [u8; ROOM],
     len: usize,
-    ghost room: { len ≤ 1048576 },
+    ghost room: { len ≤ ROOM },
 }
 
 impl FileBytes {
@@ -42,7 +43,7 @@ impl FileBytes {
 
     // Puts the bytes of src after the others.
     pub fn put(&mut self, src: &[u8])
-        requires { self.old.len + length src.now ≤ 1048576 }
+        requires { self.old.len + length src.now ≤ ROOM }
         ensures { Appended src.now self.old self.new }
     {
         let end = self.len + src.len();
@@ -52,7 +53,7 @@ impl FileBytes {
 
     // Puts n zeros after the others.
     pub fn zeros(&mut self, n: usize)
-        requires { self.old.len + n ≤ 1048576 }
+        requires { self.old.len + n ≤ ROOM }
         ensures { Appended (replicate n 0) self.old self.new }
     {
         let end = self.len + n;
