@@ -180,14 +180,7 @@ module _ {text : List ℕ} {h : Hex} (m : Reads text h) (c : ℕ) where
       more : More m.bytes h.kept h.count (d * 16 + low) size m.count m.same (cond (ltb h.count room) (h.count + 1) h.count) (cond (ltb h.count room) (set h.kept h.count (d * 16 + low)) h.kept)
       more = kept_more m.bytes h.kept h.count (d * 16 + low) size m.count m.same
 
--- ---- The start and the end
-
-pub read_none : {h : Hex} → h.digits ≡ Paired → h.count ≡ 0 → Reads [] h
-read_none e n = record { bytes = []; means = λ rest. rw e (whole_of (bytes_from none rest)); count = n; same = rw n refl }
-  where
-    whole_of : (o : Option (List ℕ)) → o ≡ after [] o
-    whole_of none = refl
-    whole_of (some bs) = refl
+-- ---- The end
 
 -- the record of a text, by the bytes of its digits
 unfoldable or_empty : Option (List ℕ) → List ℕ
