@@ -7,7 +7,7 @@ ghost use Rattle.bit_set.specs.Bits.{with_bit};
 ghost use Rattle.graph.specs.Tables.{Edge};
 ghost use Rattle.dfs.specs.Walk.{in_code, Follows, Chained, Along, Stopped, Run, Mask, Reach, visited, row, left, is_leaf, Roomy, Reaches};
 
-use graph::tables::up_to;
+use graph::tables::{FuncGraph, up_to};
 
 // The points that a walk reached, and whether one of them has no point after it.
 #[derive(Clone, Copy)]
@@ -29,31 +29,31 @@ fn wide32(x: u32) -> usize
 }
 
 // Whether the one point that follows q is q + 1.
-fn follows(first: &[u16; 1025], succ: &[u16; 1536], q: usize) -> bool
+fn follows(graph: &FuncGraph, q: usize) -> bool
     requires { q < 1024 }
-    ensures { result ≡ true → Follows first.now succ.now q }
+    ensures { result ≡ true → Follows graph.now.first graph.now.succ q }
 {
-    let start = wide(first[q]);
-    let end = wide(first[q + 1]);
+    let start = wide(graph.first[q]);
+    let end = wide(graph.first[q + 1]);
     if 1536 < end {
         return false;
     }
     if end <= start {
         return false;
     }
-    (end - start == 1) & (wide(succ[start]) == q + 1)
+    (end - start == 1) & (wide(graph.succ[start]) == q + 1)
 }
 
 // Points below code, each followed by the next one alone. Not all of them need be there: a smaller chain is as right, and slower.
-pub fn chains(first: &[u16; 1025], succ: &[u16; 1536], code: usize) -> [u32; 32]
-    ensures { Chained result first.now succ.now }
+pub fn chains(graph: &FuncGraph, code: usize) -> [u32; 32]
+    ensures { Chained result graph.now.first graph.now.succ }
 {
     let mut chain = [0; 32];
     if 1024 < code {
         return chain;
     }
     for q in 0..code {
-        if follows(first, succ, q) {
+        if follows(graph, q) {
             bit_set::add(&mut chain, 0, q);
         }
     }
@@ -90,8 +90,7 @@ fn visit(
 
 // Visits each point that follows q. Returns the stack's new depth.
 fn visit_next(
-    first: &[u16; 1025],
-    succ: &[u16; 1536],
+    graph: &FuncGraph,
     words: &[u32],
     from: usize,
     code: usize,
@@ -102,14 +101,14 @@ fn visit_next(
 ) -> usize
     requires { (code ≤ 1024) × (q < 1024) × Roomy seen.old depth }
     ensures { state seen.new stack.new result
-        ≡ row (in_code words.now from code) first.now succ.now q (state seen.old stack.old depth) }
+        ≡ row (in_code words.now from code) graph.now.first graph.now.succ q (state seen.old stack.old depth) }
 {
-    let start = wide(first[q]);
-    let end = up_to(first[q + 1]);
+    let start = wide(graph.first[q]);
+    let end = up_to(graph.first[q + 1]);
     let mut k = start;
     let mut d = depth;
     while k < end {
-        d = visit(words, from, code, succ[k], seen, stack, d);
+        d = visit(words, from, code, graph.succ[k], seen, stack, d);
         k += 1;
     }
     d
@@ -203,8 +202,7 @@ fn follow(
 // Visits each point that follows q, where q is not of the chain. Returns the stack's new depth.
 fn leave(
     chain: &[u32; 32],
-    first: &[u16; 1025],
-    succ: &[u16; 1536],
+    graph: &FuncGraph,
     words: &[u32],
     from: usize,
     code: usize,
@@ -215,35 +213,34 @@ fn leave(
 ) -> usize
     requires { (code ≤ 1024) × (q < 1024) × Roomy seen.old depth }
     ensures { state seen.new stack.new result
-        ≡ left chain.now (in_code words.now from code) first.now succ.now q (state seen.old stack.old depth) }
+        ≡ left chain.now (in_code words.now from code) graph.now.first graph.now.succ q (state seen.old stack.old depth) }
 {
     if bit_set::test(chain, 0, q) {
         return depth;
     }
-    visit_next(first, succ, words, from, code, q, seen, stack, depth)
+    visit_next(graph, words, from, code, q, seen, stack, depth)
 }
 
 // Whether q is not of the chain and has no point after it.
-fn is_leaf(chain: &[u32; 32], first: &[u16; 1025], q: usize) -> bool
+fn is_leaf(chain: &[u32; 32], graph: &FuncGraph, q: usize) -> bool
     requires { q < 1024 }
-    ensures { result ≡ is_leaf chain.now first.now q }
+    ensures { result ≡ is_leaf chain.now graph.now.first q }
 {
-    !bit_set::test(chain, 0, q) & (first[q + 1] <= first[q])
+    !bit_set::test(chain, 0, q) & (graph.first[q + 1] <= graph.first[q])
 }
 
 // The points that a walk from p through the set from word from reaches, by a search with marks and a stack.
 fn search(
     chain: &[u32; 32],
-    first: &[u16; 1025],
-    succ: &[u16; 1536],
+    graph: &FuncGraph,
     words: &[u32],
     from: usize,
     code: usize,
     p: usize,
 ) -> Reached
     requires { (code ≤ 1024) × (in_code words.now from code p ≡ true) }
-    ensures { Chained chain.now first.now succ.now
-        → Reaches (Reach (Edge first.now succ.now) (in_code words.now from code) p) first.now result.points result.exit }
+    ensures { Chained chain.now graph.now.first graph.now.succ
+        → Reaches (Reach (Edge graph.now.first graph.now.succ) (in_code words.now from code) p) graph.now.first result.points result.exit }
 {
     let mut points = [0; 32];
     let mut exit = false;
@@ -256,9 +253,9 @@ fn search(
         depth -= 1;
         let q = wide(stack[depth]);
         let e = follow(chain, words, from, code, &mut points, q);
-        exit = exit | is_leaf(chain, first, e);
+        exit = exit | is_leaf(chain, graph, e);
         depth = leave(
-            chain, first, succ, words, from, code, e, &mut seen, &mut stack, depth,
+            chain, graph, words, from, code, e, &mut seen, &mut stack, depth,
         );
     }
     Reached { points, exit }
@@ -268,15 +265,14 @@ fn search(
 // nothing is promised where there are more than 1,024 points.
 pub fn reach(
     chain: &[u32; 32],
-    first: &[u16; 1025],
-    succ: &[u16; 1536],
+    graph: &FuncGraph,
     words: &[u32],
     from: usize,
     code: usize,
     p: usize,
 ) -> Reached
-    ensures { code ≤ 1024 → Chained chain.now first.now succ.now
-        → Reaches (Reach (Edge first.now succ.now) (in_code words.now from code) p) first.now result.points result.exit }
+    ensures { code ≤ 1024 → Chained chain.now graph.now.first graph.now.succ
+        → Reaches (Reach (Edge graph.now.first graph.now.succ) (in_code words.now from code) p) graph.now.first result.points result.exit }
 {
     let mut points = [0; 32];
     if (1024 < code) | (code <= p) | !bit_set::test(words, from, p) {
@@ -292,5 +288,5 @@ pub fn reach(
             exit: false,
         };
     }
-    search(chain, first, succ, words, from, code, p)
+    search(chain, graph, words, from, code, p)
 }

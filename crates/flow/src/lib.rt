@@ -7,7 +7,7 @@ ghost use Rattle.graph.specs.Tables.{Edges};
 ghost use Rattle.flow.specs.Flows.{FlowSays};
 ghost use Rattle.flow.specs.Running.{Mixed, Ran, Lanes, Turned, Row, nth, Rows};
 
-use graph::tables::up_to;
+use graph::tables::{FuncGraph, up_to};
 
 // Whether numbers go from a point to those that follow it, or to those that it follows.
 #[derive(Clone, Copy)]
@@ -81,21 +81,20 @@ fn turned(
 fn row(
     sets: &mut [u32],
     pass: &[u32],
-    first: &[u16; 1025],
-    succ: &[u16; 1536],
+    graph: &FuncGraph,
     code: usize,
     p: usize,
     direction: Direction,
 ) -> bool
     requires { (code ≤ 1024) × (p < code) × (4 * code ≤ length sets.old) × (4 * code ≤ length pass.now) }
-    ensures { Ran (Row direction code first.now succ.now p) pass.now sets.old sets.new result }
+    ensures { Ran (Row direction code graph.now.first graph.now.succ p) pass.now sets.old sets.new result }
 {
-    let start = wide(first[p]);
-    let end = up_to(first[p + 1]);
+    let start = wide(graph.first[p]);
+    let end = up_to(graph.first[p + 1]);
     let mut changed = false;
     let mut k = start;
     while k < end {
-        changed = turned(sets, pass, code, p, succ[k], direction) | changed;
+        changed = turned(sets, pass, code, p, graph.succ[k], direction) | changed;
         k += 1;
     }
     changed
@@ -116,35 +115,27 @@ fn point(code: usize, i: usize, direction: Direction) -> usize
 fn round(
     sets: &mut [u32],
     pass: &[u32],
-    first: &[u16; 1025],
-    succ: &[u16; 1536],
+    graph: &FuncGraph,
     code: usize,
     direction: Direction,
 ) -> bool
     requires { (code ≤ 1024) × (4 * code ≤ length sets.old) × (4 * code ≤ length pass.now) }
-    ensures { Ran (Rows direction code first.now succ.now code) pass.now sets.old sets.new result }
+    ensures { Ran (Rows direction code graph.now.first graph.now.succ code) pass.now sets.old sets.new result }
 {
     let mut changed = false;
     let mut i = 0;
     while i < code {
         let p = point(code, i, direction);
-        changed = row(sets, pass, first, succ, code, p, direction) | changed;
+        changed = row(sets, pass, graph, code, p, direction) | changed;
         i += 1;
     }
     changed
 }
 
 // Puts into each point's set the numbers that come to it along edges, through points that let them pass, if both tables have four words a point.
-pub fn flow(
-    sets: &mut [u32],
-    pass: &[u32],
-    first: &[u16; 1025],
-    succ: &[u16; 1536],
-    code: usize,
-    direction: Direction,
-)
+pub fn flow(sets: &mut [u32], pass: &[u32], graph: &FuncGraph, code: usize, direction: Direction)
     ensures { (length sets.new ≡ length sets.old) × (4 * code ≤ length sets.old → 4 * code ≤ length pass.now
-        → (g : Graph) → Edges g first.now succ.now → code ≡ g.code
+        → (g : Graph) → Edges g graph.now.first graph.now.succ → code ≡ g.code
         → FlowSays g direction pass.now sets.old sets.new) }
 {
     if 1024 < code {
@@ -159,12 +150,12 @@ pub fn flow(
     // A loop for each direction, so that no edge has to test it.
     match direction {
         Direction::Forward => loop {
-            if !round(sets, pass, first, succ, code, Direction::Forward) {
+            if !round(sets, pass, graph, code, Direction::Forward) {
                 return;
             }
         },
         Direction::Backward => loop {
-            if !round(sets, pass, first, succ, code, Direction::Backward) {
+            if !round(sets, pass, graph, code, Direction::Backward) {
                 return;
             }
         },

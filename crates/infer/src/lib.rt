@@ -13,6 +13,7 @@ ghost use Rattle.infer.specs.Ran.{Setting, Given, Names, Ran, Runs, constraint, 
 
 use constraint_list::Constraint;
 use dfs::reach;
+use graph::tables::FuncGraph;
 
 // A region's number.
 #[derive(Clone, Copy)]
@@ -88,8 +89,7 @@ fn put(words: &mut [u32], to: usize, n: usize, points: &[u32; 32]) -> bool
 // Puts into the set from word to what a constraint at p puts there, where the inner set starts at word from, and says whether one point was not there.
 fn spread(
     words: &mut [u32],
-    first: &[u16; 1025],
-    succ: &[u16; 1536],
+    graph: &FuncGraph,
     chain: &[u32; 32],
     shape: Shape,
     rule: EndRule,
@@ -98,13 +98,13 @@ fn spread(
     p: usize,
 ) -> bool
     requires { (shape.code ≤ shape.points) × (shape.points ≤ 1024) × (in_code words.old from shape.code p ≡ true) }
-    ensures { Chained chain.now first.now succ.now
-        → Spread (Gets (rule_of rule) first.now succ.now words.old from shape.code shape.points p)
+    ensures { Chained chain.now graph.now.first graph.now.succ
+        → Spread (Gets (rule_of rule) graph.now.first graph.now.succ words.old from shape.code shape.points p)
         shape.points words.old words.new to result }
 {
     let code = shape.code;
     let end = shape.points;
-    let reached = reach(chain, first, succ, words, from, code, p);
+    let reached = reach(chain, graph, words, from, code, p);
     let mut points = reached.points;
     if reached.exit {
         put_ends(words, from, code, end, rule, &mut points);
@@ -219,8 +219,7 @@ fn in_bounds(shape: Shape, s: usize, t: usize, p: usize) -> bool
 // followed by the next one alone.
 pub fn outlives(
     words: &mut [u32],
-    first: &[u16; 1025],
-    succ: &[u16; 1536],
+    graph: &FuncGraph,
     chain: &[u32; 32],
     shape: Shape,
     rule: EndRule,
@@ -230,7 +229,7 @@ pub fn outlives(
     sub: RegionVariable,
     point: usize,
 )
-    ensures { (s : Setting) → Given s shape rule first.now succ.now chain.now words.old grew.old
+    ensures { (s : Setting) → Given s shape rule graph.now.first graph.now.succ chain.now words.old grew.old
         → Names s (constraint sup.0 sub.0 point)
         → Ran s last.now (constraint sup.0 sub.0 point ∷ []) words.old grew.old words.new grew.new }
 {
@@ -253,7 +252,7 @@ pub fn outlives(
     if adds_nothing(words, shape, rule, to, from) {
         return;
     }
-    if spread(words, first, succ, chain, shape, rule, to, from, point) {
+    if spread(words, graph, chain, shape, rule, to, from, point) {
         grew[s] = 1;
     }
 }
@@ -275,8 +274,7 @@ fn mark(grew: &[u8; 128], region: u8) -> u8
 // Runs a constraint, and puts it into the list `recent`, if there is room, where by it the outer region gets its mark.
 fn run_one(
     words: &mut [u32],
-    first: &[u16; 1025],
-    succ: &[u16; 1536],
+    graph: &FuncGraph,
     chain: &[u32; 32],
     shape: Shape,
     rule: EndRule,
@@ -285,7 +283,7 @@ fn run_one(
     recent: &mut [u32],
     c: Constraint,
 )
-    ensures { Runs shape rule first.now succ.now chain.now last.now (outlives_of c ∷ [])
+    ensures { Runs shape rule graph.now.first graph.now.succ chain.now last.now (outlives_of c ∷ [])
         words.old grew.old words.new grew.new
         × Draws (outlives_of c ∷ []) recent.old recent.new }
 {
@@ -294,7 +292,7 @@ fn run_one(
     let sub = RegionVariable(c.sub);
     let point = wide16(c.point);
     outlives(
-        words, first, succ, chain, shape, rule, last, grew, sup, sub, point,
+        words, graph, chain, shape, rule, last, grew, sup, sub, point,
     );
     if mark(grew, c.sup) == before {
         return;
@@ -305,8 +303,7 @@ fn run_one(
 // Runs each constraint of the list once. Those by which regions are marked come into the list `recent`, as far as it has room.
 pub fn run(
     words: &mut [u32],
-    first: &[u16; 1025],
-    succ: &[u16; 1536],
+    graph: &FuncGraph,
     chain: &[u32; 32],
     shape: Shape,
     rule: EndRule,
@@ -315,7 +312,7 @@ pub fn run(
     recent: &mut [u32],
     list: &[u32],
 )
-    ensures { Runs shape rule first.now succ.now chain.now last.now (constraints_in list.now)
+    ensures { Runs shape rule graph.now.first graph.now.succ chain.now last.now (constraints_in list.now)
         words.old grew.old words.new grew.new
         × Draws (constraints_in list.now) recent.old recent.new }
 {
@@ -323,9 +320,7 @@ pub fn run(
     let mut i = 0;
     while i < count {
         let c = constraint_list::get(list, i);
-        run_one(
-            words, first, succ, chain, shape, rule, last, grew, recent, c,
-        );
+        run_one(words, graph, chain, shape, rule, last, grew, recent, c);
         i += 1;
     }
 }

@@ -17,6 +17,7 @@ ghost use Rattle.liveness.specs.Rows.{LiveRows};
 
 use actions::fill;
 use flow::Direction;
+use graph::tables::FuncGraph;
 use record::Head;
 use rows::rows;
 
@@ -36,8 +37,7 @@ fn wide(x: u16) -> usize
 fn by_tables(
     s: &[u8],
     layout: &[u16; 1280],
-    first: &[u16; 1025],
-    succ: &[u16; 1536],
+    graph: &FuncGraph,
     walked: &[u32; 32],
     code: usize,
     many: usize,
@@ -50,11 +50,11 @@ fn by_tables(
     requires { (length layout.now ≡ 1280) × (code ≤ 32 * width) × (width ≤ 32) × (many ≤ 64) × Blank code sets.old pass.old
         × (4 * code ≤ length sets.old) × (4 * code ≤ length pass.old) × (64 * width ≤ length used.old) × (64 * width ≤ length dropped.old) }
     ensures { (h : heads.Head) (j : Job) → code ≡ h.code → many ≡ h.variables → Layout s.now layout.now h j
-        → Edges (graph_of j) first.now succ.now → WalkedIn j walked.now
+        → Edges (graph_of j) graph.now.first graph.now.succ → WalkedIn j walked.now
         → LiveRows j width used.new dropped.new }
 {
     fill(s, layout, code, sets, pass);
-    flow::flow(sets, pass, first, succ, code, Direction::Backward);
+    flow::flow(sets, pass, graph, code, Direction::Backward);
     rows(sets, walked, code, 0, many, width, used);
     rows(sets, walked, code, 64, many, width, dropped);
 }
@@ -63,8 +63,7 @@ fn by_tables(
 fn compute_small(
     s: &[u8],
     layout: &[u16; 1280],
-    first: &[u16; 1025],
-    succ: &[u16; 1536],
+    graph: &FuncGraph,
     walked: &[u32; 32],
     code: usize,
     many: usize,
@@ -74,20 +73,20 @@ fn compute_small(
 )
     requires { (length layout.now ≡ 1280) × (code ≤ 128) × (code ≤ 32 * width) × (width ≤ 32) × (many ≤ 64) × (64 * width ≤ length used.old) × (64 * width ≤ length dropped.old) }
     ensures { (h : heads.Head) (j : Job) → code ≡ h.code → many ≡ h.variables → Layout s.now layout.now h j
-        → Edges (graph_of j) first.now succ.now → WalkedIn j walked.now
+        → Edges (graph_of j) graph.now.first graph.now.succ → WalkedIn j walked.now
         → LiveRows j width used.new dropped.new }
 {
     if code <= 32 {
         let mut sets = [0; 128];
         let mut pass = [4294967295; 128];
         by_tables(
-            s, layout, first, succ, walked, code, many, width, &mut sets, &mut pass, used, dropped,
+            s, layout, graph, walked, code, many, width, &mut sets, &mut pass, used, dropped,
         );
     } else {
         let mut sets = [0; 512];
         let mut pass = [4294967295; 512];
         by_tables(
-            s, layout, first, succ, walked, code, many, width, &mut sets, &mut pass, used, dropped,
+            s, layout, graph, walked, code, many, width, &mut sets, &mut pass, used, dropped,
         );
     }
 }
@@ -96,8 +95,7 @@ fn compute_small(
 fn compute(
     s: &[u8],
     layout: &[u16; 1280],
-    first: &[u16; 1025],
-    succ: &[u16; 1536],
+    graph: &FuncGraph,
     walked: &[u32; 32],
     code: usize,
     many: usize,
@@ -107,18 +105,16 @@ fn compute(
 )
     requires { (length layout.now ≡ 1280) × (code ≤ 32 * width) × (width ≤ 32) × (many ≤ 64) × (64 * width ≤ length used.old) × (64 * width ≤ length dropped.old) }
     ensures { (h : heads.Head) (j : Job) → code ≡ h.code → many ≡ h.variables → Layout s.now layout.now h j
-        → Edges (graph_of j) first.now succ.now → WalkedIn j walked.now
+        → Edges (graph_of j) graph.now.first graph.now.succ → WalkedIn j walked.now
         → LiveRows j width used.new dropped.new }
 {
     if code <= 128 {
-        compute_small(
-            s, layout, first, succ, walked, code, many, width, used, dropped,
-        );
+        compute_small(s, layout, graph, walked, code, many, width, used, dropped);
     } else {
         let mut sets = [0; 4096];
         let mut pass = [4294967295; 4096];
         by_tables(
-            s, layout, first, succ, walked, code, many, width, &mut sets, &mut pass, used, dropped,
+            s, layout, graph, walked, code, many, width, &mut sets, &mut pass, used, dropped,
         );
     }
 }
@@ -128,8 +124,7 @@ pub fn liveness(
     s: &[u8],
     layout: &[u16; 1280],
     head: Head,
-    first: &[u16; 1025],
-    succ: &[u16; 1536],
+    graph: &FuncGraph,
     walked: &[u32; 32],
     width: usize,
     used: &mut [u32],
@@ -138,7 +133,7 @@ pub fn liveness(
     requires { length layout.now ≡ 1280 }
     ensures { (j : Job) → Layout s.now layout.now head j → code_count j.blocks ≤ word_bits * width → width ≤ 32
         → 64 * width ≤ length used.old → 64 * width ≤ length dropped.old
-        → Edges (graph_of j) first.now succ.now → WalkedIn j walked.now
+        → Edges (graph_of j) graph.now.first graph.now.succ → WalkedIn j walked.now
         → LiveRows j width used.new dropped.new }
 {
     let code = wide(head.code);
@@ -155,7 +150,5 @@ pub fn liveness(
     if dropped.len() < 64 * width {
         return;
     }
-    compute(
-        s, layout, first, succ, walked, code, many, width, used, dropped,
-    );
+    compute(s, layout, graph, walked, code, many, width, used, dropped);
 }

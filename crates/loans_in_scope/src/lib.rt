@@ -14,7 +14,7 @@ ghost use Rattle.loans_in_scope.specs.Scope.{overwritten_by, paths_of, killed, R
 
 use env::prefixes::is_prefix;
 use flow::Direction;
-use graph::tables::up_to;
+use graph::tables::{FuncGraph, up_to};
 use loans::{Loan, loan_at};
 use record::Head;
 use record::access::action_at;
@@ -283,34 +283,27 @@ fn onto(code: usize, from: &[u32], p: usize, q: u16, scope: &mut [u32])
 }
 
 // The same for each point that follows p.
-fn follow(
-    first: &[u16; 1025],
-    succ: &[u16; 1536],
-    code: usize,
-    from: &[u32],
-    p: usize,
-    scope: &mut [u32],
-)
+fn follow(graph: &FuncGraph, code: usize, from: &[u32], p: usize, scope: &mut [u32])
     requires { (code ≤ 1024) × (p < code) × (4 * code ≤ length from.now) × (4 * code ≤ length scope.old) }
-    ensures { Gains (Row from.now code first.now succ.now p) scope.old scope.new }
+    ensures { Gains (Row from.now code graph.now.first graph.now.succ p) scope.old scope.new }
 {
-    let start = wide(first[p]);
-    let end = up_to(first[p + 1]);
+    let start = wide(graph.first[p]);
+    let end = up_to(graph.first[p + 1]);
     let mut k = start;
     while k < end {
-        onto(code, from, p, succ[k], scope);
+        onto(code, from, p, graph.succ[k], scope);
         k += 1;
     }
 }
 
 // The same for each point.
-fn gather(first: &[u16; 1025], succ: &[u16; 1536], code: usize, from: &[u32], scope: &mut [u32])
+fn gather(graph: &FuncGraph, code: usize, from: &[u32], scope: &mut [u32])
     requires { (code ≤ 1024) × (4 * code ≤ length from.now) × (4 * code ≤ length scope.old) }
-    ensures { Gains (Rows from.now code first.now succ.now code) scope.old scope.new }
+    ensures { Gains (Rows from.now code graph.now.first graph.now.succ code) scope.old scope.new }
 {
     let mut p = 0;
     while p < code {
-        follow(first, succ, code, from, p, scope);
+        follow(graph, code, from, p, scope);
         p += 1;
     }
 }
@@ -331,8 +324,7 @@ fn mask(by: &[u32], n: usize, sets: &mut [u32])
 fn by_tables(
     s: &[u8],
     layout: &[u16; 1280],
-    first: &[u16; 1025],
-    succ: &[u16; 1536],
+    graph: &FuncGraph,
     words: &[u32],
     width: usize,
     table: &[u16; 1024],
@@ -345,14 +337,14 @@ fn by_tables(
 )
     requires { (length layout.now ≡ 1280) × (length table.now ≡ 1024) × Sized code (tables leaves.old pass.old region.old) × Empty (tables leaves.old pass.old region.old)
         × (width ≤ 32) × (count ≤ 128) × (code ≤ 1024) × (4 * code ≤ length scope.old) }
-    ensures { (h : heads.Head) → code ≡ h.code → ScopeSays s.now layout.now h first.now succ.now words.now width table.now count scope.new }
+    ensures { (h : heads.Head) → code ≡ h.code → ScopeSays s.now layout.now h graph.now.first graph.now.succ words.now width table.now count scope.new }
 {
     fill(
         s, layout, words, width, table, count, code, leaves, pass, region,
     );
-    flow::flow(leaves, pass, first, succ, code, Direction::Forward);
+    flow::flow(leaves, pass, graph, code, Direction::Forward);
     bit_set::clear(scope, 0, 4 * code);
-    gather(first, succ, code, leaves, scope);
+    gather(graph, code, leaves, scope);
     mask(region, 4 * code, scope);
 }
 
@@ -360,8 +352,7 @@ fn by_tables(
 fn compute_small(
     s: &[u8],
     layout: &[u16; 1280],
-    first: &[u16; 1025],
-    succ: &[u16; 1536],
+    graph: &FuncGraph,
     words: &[u32],
     width: usize,
     table: &[u16; 1024],
@@ -370,7 +361,7 @@ fn compute_small(
     scope: &mut [u32],
 )
     requires { (length layout.now ≡ 1280) × (length table.now ≡ 1024) × (width ≤ 32) × (count ≤ 128) × (code ≤ 128) × (4 * code ≤ length scope.old) }
-    ensures { (h : heads.Head) → code ≡ h.code → ScopeSays s.now layout.now h first.now succ.now words.now width table.now count scope.new }
+    ensures { (h : heads.Head) → code ≡ h.code → ScopeSays s.now layout.now h graph.now.first graph.now.succ words.now width table.now count scope.new }
 {
     if code <= 32 {
         let mut leaves = [0; 128];
@@ -379,8 +370,7 @@ fn compute_small(
         by_tables(
             s,
             layout,
-            first,
-            succ,
+            graph,
             words,
             width,
             table,
@@ -398,8 +388,7 @@ fn compute_small(
         by_tables(
             s,
             layout,
-            first,
-            succ,
+            graph,
             words,
             width,
             table,
@@ -417,8 +406,7 @@ fn compute_small(
 fn compute(
     s: &[u8],
     layout: &[u16; 1280],
-    first: &[u16; 1025],
-    succ: &[u16; 1536],
+    graph: &FuncGraph,
     words: &[u32],
     width: usize,
     table: &[u16; 1024],
@@ -427,12 +415,10 @@ fn compute(
     scope: &mut [u32],
 )
     requires { (length layout.now ≡ 1280) × (length table.now ≡ 1024) × (width ≤ 32) × (count ≤ 128) × (code ≤ 1024) × (4 * code ≤ length scope.old) }
-    ensures { (h : heads.Head) → code ≡ h.code → ScopeSays s.now layout.now h first.now succ.now words.now width table.now count scope.new }
+    ensures { (h : heads.Head) → code ≡ h.code → ScopeSays s.now layout.now h graph.now.first graph.now.succ words.now width table.now count scope.new }
 {
     if code <= 128 {
-        compute_small(
-            s, layout, first, succ, words, width, table, count, code, scope,
-        );
+        compute_small(s, layout, graph, words, width, table, count, code, scope);
     } else {
         let mut leaves = [0; 4096];
         let mut pass = [0; 4096];
@@ -440,8 +426,7 @@ fn compute(
         by_tables(
             s,
             layout,
-            first,
-            succ,
+            graph,
             words,
             width,
             table,
@@ -460,8 +445,7 @@ pub fn loans_in_scope(
     s: &[u8],
     layout: &[u16; 1280],
     head: Head,
-    first: &[u16; 1025],
-    succ: &[u16; 1536],
+    graph: &FuncGraph,
     words: &[u32],
     width: usize,
     table: &[u16; 1024],
@@ -470,7 +454,7 @@ pub fn loans_in_scope(
 )
     requires { (length layout.now ≡ 1280) × (length table.now ≡ 1024) }
     ensures { 4 * head.code ≤ length scope.old
-        → ScopeSays s.now layout.now head first.now succ.now words.now width table.now count scope.new }
+        → ScopeSays s.now layout.now head graph.now.first graph.now.succ words.now width table.now count scope.new }
 {
     let code = wide(head.code);
     if 1024 < code {
@@ -488,7 +472,5 @@ pub fn loans_in_scope(
     if scope.len() < 4 * code {
         return;
     }
-    compute(
-        s, layout, first, succ, words, width, table, count, code, scope,
-    );
+    compute(s, layout, graph, words, width, table, count, code, scope);
 }

@@ -22,8 +22,8 @@ pub loop-q-preserved : goal.loop-q-preserved
 loop-q-preserved c = let a = c.args in
     let l = c.loop-q in
     elim c.if-follows.branch [
-      | then-follows w ↦ let e = w.chain-is ∙ w.add.ensures.0 in (omega arith, with_sized l.chain c.if-follows.chain _ e l.invariant.1, chained_more l.chain a.first.now a.succ.now l.q c.if-follows.chain e l.invariant.2 (c.follows.ensures w.if-follows.true))
-      | else-follows w ↦ (omega arith, ap length w.chain-is ∙ l.invariant.1, subst (λ (x : List ℕ). Chained x a.first.now a.succ.now) (sym w.chain-is) l.invariant.2)
+      | then-follows w ↦ let e = w.chain-is ∙ w.add.ensures.0 in (omega arith, with_sized l.chain c.if-follows.chain _ e l.invariant.1, chained_more l.chain a.graph.now.first a.graph.now.succ l.q c.if-follows.chain e l.invariant.2 (c.follows.ensures w.if-follows.true))
+      | else-follows w ↦ (omega arith, ap length w.chain-is ∙ l.invariant.1, subst (λ (x : List ℕ). Chained x a.graph.now.first a.graph.now.succ) (sym w.chain-is) l.invariant.2)
     ]
 
 pub returns : goal.returns

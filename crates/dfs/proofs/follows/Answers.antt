@@ -12,4 +12,4 @@ returns-then-end-start c = λ e. absurd (true≢false (sym e))
 
 pub returns : goal.returns
 returns c = let a = c.args in
-    follows_tests a.first.now a.succ.now a.q c.wide-start.result c.wide-end.result c.wide.result c.wide-start.ensures c.wide-end.ensures c.wide.ensures c.if-end-gt1536.false c.if-end-start.false
+    follows_tests a.graph.now.first a.graph.now.succ a.q c.wide-start.result c.wide-end.result c.wide.result c.wide-start.ensures c.wide-end.ensures c.wide.ensures c.if-end-gt1536.false c.if-end-start.false

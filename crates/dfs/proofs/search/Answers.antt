@@ -12,7 +12,7 @@ pub overflow_cast-stack : goal.overflow_cast-stack
 overflow_cast-stack c = let a = c.args in omega (arith, code-small a.words.now a.from a.code c.requires.0 a.p c.requires.1)
 
 pub loop-depth-init : goal.loop-depth-init
-loop-depth-init c = let a = c.args in going_start a.chain.now a.first.now a.succ.now (in_code a.words.now a.from a.code) a.p (code-small a.words.now a.from a.code c.requires.0) c.requires.1
+loop-depth-init c = let a = c.args in going_start a.chain.now a.graph.now.first a.graph.now.succ (in_code a.words.now a.from a.code) a.p (code-small a.words.now a.from a.code c.requires.0) c.requires.1
 
 pub offset_bounds-stack-depth : goal.offset_bounds-stack-depth
 offset_bounds-stack-depth c = omega (arith, c.loop-depth.invariant.search.roomy.room)
@@ -22,7 +22,7 @@ bounds-stack-depth c = omega (arith, c.loop-depth.invariant.search.roomy.room)
 
 pub follow-e-requires : goal.follow-e-requires
 follow-e-requires c = let a = c.args in let l = c.loop-depth in
-    (c.requires.0, top_small a.chain.now a.first.now a.succ.now (in_code a.words.now a.from a.code) a.p (code-small a.words.now a.from a.code c.requires.0) l.points l.exit (state l.seen l.stack l.depth) c.wide-q.result l.invariant (omega arith) c.wide-q.ensures, l.invariant.sized)
+    (c.requires.0, top_small a.chain.now a.graph.now.first a.graph.now.succ (in_code a.words.now a.from a.code) a.p (code-small a.words.now a.from a.code c.requires.0) l.points l.exit (state l.seen l.stack l.depth) c.wide-q.result l.invariant (omega arith) c.wide-q.ensures, l.invariant.sized)
 
 pub is_leaf-exit-requires : goal.is_leaf-exit-requires
 is_leaf-exit-requires c = c.follow-e.ensures.0.below
@@ -35,7 +35,7 @@ pub loop-depth-smaller : goal.loop-depth-smaller
 loop-depth-smaller c =
     let a = c.args in
     let l = c.loop-depth in
-    (turn_code a.chain.now a.first.now a.succ.now (in_code a.words.now a.from a.code) a.p (code-small a.words.now a.from a.code c.requires.0)
+    (turn_code a.chain.now a.graph.now.first a.graph.now.succ (in_code a.words.now a.from a.code) a.p (code-small a.words.now a.from a.code c.requires.0)
     l.points c.follow-e.new.points l.exit (state l.seen l.stack l.depth) (state c.leave-depth.new.seen c.leave-depth.new.stack c.leave-depth.result)
     c.wide-q.result c.follow-e.result c.is_leaf-exit.result l.invariant (omega arith) c.wide-q.ensures c.follow-e.ensures c.is_leaf-exit.ensures c.leave-depth.ensures).less
 
@@ -43,10 +43,10 @@ pub loop-depth-preserved : goal.loop-depth-preserved
 loop-depth-preserved c =
     let a = c.args in
     let l = c.loop-depth in
-    (turn_code a.chain.now a.first.now a.succ.now (in_code a.words.now a.from a.code) a.p (code-small a.words.now a.from a.code c.requires.0)
+    (turn_code a.chain.now a.graph.now.first a.graph.now.succ (in_code a.words.now a.from a.code) a.p (code-small a.words.now a.from a.code c.requires.0)
     l.points c.follow-e.new.points l.exit (state l.seen l.stack l.depth) (state c.leave-depth.new.seen c.leave-depth.new.stack c.leave-depth.result)
     c.wide-q.result c.follow-e.result c.is_leaf-exit.result l.invariant (omega arith) c.wide-q.ensures c.follow-e.ensures c.is_leaf-exit.ensures c.leave-depth.ensures).going
 
 pub returns : goal.returns
 returns c = let a = c.args in let l = c.loop-depth in
-    finish a.chain.now a.first.now a.succ.now (in_code a.words.now a.from a.code) a.p (code-small a.words.now a.from a.code c.requires.0) l.points l.exit (state l.seen l.stack l.depth) l.invariant (omega arith)
+    finish a.chain.now a.graph.now.first a.graph.now.succ (in_code a.words.now a.from a.code) a.p (code-small a.words.now a.from a.code c.requires.0) l.points l.exit (state l.seen l.stack l.depth) l.invariant (omega arith)

@@ -6,7 +6,7 @@ use Rattle.dfs.proofs.SearchLaws.{Going}
 use Rattle.dfs.proofs.search.Given as goal
 
 abbrev pub invariant-loop-depth : goal.invariant-loop-depth
-invariant-loop-depth l = Going l.chain l.first l.succ (in_code l.words l.from l.code) l.p l.points l.exit (state l.seen l.stack l.depth)
+invariant-loop-depth l = Going l.chain l.graph.first l.graph.succ (in_code l.words l.from l.code) l.p l.points l.exit (state l.seen l.stack l.depth)
 
 abbrev pub decreases-loop-depth : goal.decreases-loop-depth
 decreases-loop-depth l = work (state l.seen l.stack l.depth)

@@ -12,11 +12,11 @@ use Rattle.dfs.proofs.visit_next.Goals as goal
 pub loop-k-init : goal.loop-k-init
 loop-k-init c = (search rules, search rules, c.requires.2, nexts-none _ _ _ _)
 
-pub offset_bounds-succ-k : goal.offset_bounds-succ-k
-offset_bounds-succ-k c = omega (arith, c.up_to-end.ensures.1)
+pub offset_bounds-graph-k : goal.offset_bounds-graph-k
+offset_bounds-graph-k c = omega (arith, c.up_to-end.ensures.1)
 
-pub bounds-succ-k : goal.bounds-succ-k
-bounds-succ-k c = omega (arith, c.up_to-end.ensures.1)
+pub bounds-graph-k : goal.bounds-graph-k
+bounds-graph-k c = omega (arith, c.up_to-end.ensures.1)
 
 pub visit-d-requires : goal.visit-d-requires
 visit-d-requires c = (c.requires.0, c.loop-k.invariant.2)
@@ -25,12 +25,12 @@ pub loop-k-preserved : goal.loop-k-preserved
 loop-k-preserved c = let a = c.args in
     let l = c.loop-k in
     let h = in_code a.words.now a.from a.code in
-    let s = get_or a.succ.now l.k 0 in
+    let s = get_or a.graph.now.succ l.k 0 in
     let e : state c.visit-d.new.seen c.visit-d.new.stack c.visit-d.result ≡ visited h s (state l.seen l.stack l.d) = c.visit-d.ensures in (
       omega arith,
       omega arith,
       subst (λ (t : State). Roomy t.seen t.depth) (sym e) (visited_roomy h s (state l.seen l.stack l.d) (λ q. omega (arith, code_below a.words.now a.from a.code s q)) l.invariant.2),
-      e ∙ ap (visited h s) l.invariant.3 ∙ nexts-more h a.succ.now c.wide-start.result l.k (state a.seen.now a.stack.now a.depth) l.invariant.0,
+      e ∙ ap (visited h s) l.invariant.3 ∙ nexts-more h a.graph.now.succ c.wide-start.result l.k (state a.seen.now a.stack.now a.depth) l.invariant.0,
     )
 
 pub returns : goal.returns

@@ -8,7 +8,7 @@ use Rattle.dfs.proofs.visit_next.Given as goal
 abbrev pub invariant-loop-k : goal.invariant-loop-k
 invariant-loop-k l =
     (l.start ≤ l.k) × (l.k - l.start ≤ l.end - l.start) × Roomy l.seen l.d
-    × (state l.seen l.stack l.d ≡ nexts (in_code l.words l.from l.code) l.succ l.start (l.k - l.start) (state l.initial.seen l.initial.stack l.depth))
+    × (state l.seen l.stack l.d ≡ nexts (in_code l.words l.from l.code) l.graph.succ l.start (l.k - l.start) (state l.initial.seen l.initial.stack l.depth))
 
 abbrev pub decreases-loop-k : goal.decreases-loop-k
 decreases-loop-k l = l.end - l.k

@@ -8,13 +8,13 @@ use Rattle.flow.proofs.row.Goals as goal
 
 pub loop-k-init : goal.loop-k-init
 loop-k-init c = let a = c.args in
-    (search rules, search rules, search rules, leaving_none a.direction a.code a.first.now a.succ.now a.pass.now a.sets.now a.p _ c.wide-start.ensures)
+    (search rules, search rules, search rules, leaving_none a.direction a.code a.graph.now.first a.graph.now.succ a.pass.now a.sets.now a.p _ c.wide-start.ensures)
 
-pub offset_bounds-succ-k : goal.offset_bounds-succ-k
-offset_bounds-succ-k c = omega (arith, c.up_to-end.ensures.1)
+pub offset_bounds-graph-k : goal.offset_bounds-graph-k
+offset_bounds-graph-k c = omega (arith, c.up_to-end.ensures.1)
 
-pub bounds-succ-k : goal.bounds-succ-k
-bounds-succ-k c = omega (arith, c.up_to-end.ensures.1)
+pub bounds-graph-k : goal.bounds-graph-k
+bounds-graph-k c = omega (arith, c.up_to-end.ensures.1)
 
 pub loop-k-preserved : goal.loop-k-preserved
 loop-k-preserved c = let a = c.args in
@@ -22,10 +22,10 @@ loop-k-preserved c = let a = c.args in
       omega arith,
       omega arith,
       c.turned-changed.ensures.since.as_long ∙ l.invariant.2,
-      leaving_more a.direction a.code a.first.now a.succ.now a.pass.now a.sets.now a.p l.k _ _ (omega (arith, c.wide-start.ensures)) l.invariant.3 c.turned-changed.ensures,
+      leaving_more a.direction a.code a.graph.now.first a.graph.now.succ a.pass.now a.sets.now a.p l.k _ _ (omega (arith, c.wide-start.ensures)) l.invariant.3 c.turned-changed.ensures,
     )
 
 pub returns : goal.returns
 returns c = let a = c.args in
     let l = c.loop-k in
-    leaving_all a.direction a.code a.first.now a.succ.now a.pass.now a.sets.now a.p _ _ l.k c.wide-start.ensures c.up_to-end.ensures.0 l.invariant.0 l.invariant.1 (omega arith) l.invariant.3
+    leaving_all a.direction a.code a.graph.now.first a.graph.now.succ a.pass.now a.sets.now a.p _ _ l.k c.wide-start.ensures c.up_to-end.ensures.0 l.invariant.0 l.invariant.1 (omega arith) l.invariant.3

@@ -6,7 +6,7 @@ use Rattle.flow.specs.Running.{Ran, Leaving}
 use Rattle.flow.proofs.row.Given as goal
 
 abbrev pub invariant-loop-k : goal.invariant-loop-k
-invariant-loop-k l = (l.start ≤ l.k) × (l.k - l.start ≤ l.end - l.start) × (length l.sets ≡ length l.initial.sets) × Ran (Leaving l.direction l.code l.first l.succ l.p l.k) l.pass l.initial.sets l.sets l.changed
+invariant-loop-k l = (l.start ≤ l.k) × (l.k - l.start ≤ l.end - l.start) × (length l.sets ≡ length l.initial.sets) × Ran (Leaving l.direction l.code l.graph.first l.graph.succ l.p l.k) l.pass l.initial.sets l.sets l.changed
 
 abbrev pub decreases-loop-k : goal.decreases-loop-k
 decreases-loop-k l = l.end - l.k

@@ -10,7 +10,7 @@ use Rattle.infer.proofs.outlives.Goals as goal
 pub returns-then-not-in_bounds : goal.returns-then-not-in_bounds
 returns-then-not-in_bounds c = λ s given names.
     let a = c.args in
-    absurd (true≢false (sym (given_bounds s a.shape a.rule a.first.now a.succ.now a.chain.now a.words.now a.grew.now given _ names c.wide8-s.result c.wide8-t.result c.wide8-s.ensures c.wide8-t.ensures) ∙ sym c.in_bounds.ensures ∙ c.if-not-in_bounds.true))
+    absurd (true≢false (sym (given_bounds s a.shape a.rule a.graph.now.first a.graph.now.succ a.chain.now a.words.now a.grew.now given _ names c.wide8-s.result c.wide8-t.result c.wide8-s.ensures c.wide8-t.ensures) ∙ sym c.in_bounds.ensures ∙ c.if-not-in_bounds.true))
 
 pub bounds-last-t : goal.bounds-last-t
 bounds-last-t c = (bounds_in c.args.shape.width c.args.shape.code c.args.shape.points c.wide8-s.result c.wide8-t.result c.args.point (sym c.in_bounds.ensures ∙ c.if-not-in_bounds.false)).sub
@@ -43,7 +43,7 @@ returns-then-stays_within c = λ s given names.
     let a = c.args in
     let sup = c.wide8-s in
     let sub = c.wide8-t in
-    ran_covered s a.shape a.rule a.first.now a.succ.now a.chain.now a.words.now a.grew.now given (constraint a.sup.0 a.sub.0 a.point) names a.last.now sup.result sub.result sup.ensures sub.ensures
+    ran_covered s a.shape a.rule a.graph.now.first a.graph.now.succ a.chain.now a.words.now a.grew.now given (constraint a.sup.0 a.sub.0 a.point) names a.last.now sup.result sub.result sup.ensures sub.ensures
     (c.stays_within.ensures c.if-stays_within.true)
 
 pub returns-then-adds_nothing : goal.returns-then-adds_nothing
@@ -51,7 +51,7 @@ returns-then-adds_nothing c = λ s given names.
     let a = c.args in
     let sup = c.wide8-s in
     let sub = c.wide8-t in
-    ran_nothing s a.shape a.rule a.first.now a.succ.now a.chain.now a.words.now a.grew.now given (constraint a.sup.0 a.sub.0 a.point) names a.last.now sup.result sub.result sup.ensures sub.ensures
+    ran_nothing s a.shape a.rule a.graph.now.first a.graph.now.succ a.chain.now a.words.now a.grew.now given (constraint a.sup.0 a.sub.0 a.point) names a.last.now sup.result sub.result sup.ensures sub.ensures
     (sym c.adds_nothing.ensures ∙ c.if-adds_nothing.true)
 
 pub spread-requires : goal.spread-requires
@@ -71,8 +71,8 @@ returns-then-spread c = λ s given names.
     let sup = c.wide8-s in
     let sub = c.wide8-t in
     rw sup.ensures
-    (ran-grew s a.shape a.rule a.first.now a.succ.now a.chain.now ws a.grew.now given d names a.last.now x.new.words x.result
-    (spread_got s a.shape a.rule a.first.now a.succ.now a.chain.now ws a.grew.now given d names sup.result sub.result sup.ensures sub.ensures x.new.words x.result (x.ensures given.linked))
+    (ran-grew s a.shape a.rule a.graph.now.first a.graph.now.succ a.chain.now ws a.grew.now given d names a.last.now x.new.words x.result
+    (spread_got s a.shape a.rule a.graph.now.first a.graph.now.succ a.chain.now ws a.grew.now given d names sup.result sub.result sup.ensures sub.ensures x.new.words x.result (x.ensures given.linked))
     c.if-spread.true)
 
 pub returns-else-spread : goal.returns-else-spread
@@ -83,6 +83,6 @@ returns-else-spread c = λ s given names.
     let x = c.spread in
     let sup = c.wide8-s in
     let sub = c.wide8-t in
-    ran-still s a.shape a.rule a.first.now a.succ.now a.chain.now ws a.grew.now given d names a.last.now x.new.words x.result
-    (spread_got s a.shape a.rule a.first.now a.succ.now a.chain.now ws a.grew.now given d names sup.result sub.result sup.ensures sub.ensures x.new.words x.result (x.ensures given.linked))
+    ran-still s a.shape a.rule a.graph.now.first a.graph.now.succ a.chain.now ws a.grew.now given d names a.last.now x.new.words x.result
+    (spread_got s a.shape a.rule a.graph.now.first a.graph.now.succ a.chain.now ws a.grew.now given d names sup.result sub.result sup.ensures sub.ensures x.new.words x.result (x.ensures given.linked))
     c.if-spread.false

@@ -11,8 +11,8 @@ use Rattle.infer.proofs.spread.Goals.{then-reached, else-reached}
 
 pub returns : goal.returns
 returns c = let a = c.args in
-    let first = a.first.now in
-    let succ = a.succ.now in
+    let first = a.graph.now.first in
+    let succ = a.graph.now.succ in
     let ws = a.words.now in
     let code = a.shape.code in
     let end = a.shape.points in

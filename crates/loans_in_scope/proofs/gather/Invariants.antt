@@ -6,7 +6,7 @@ use Rattle.loans_in_scope.specs.Gains.{Gains, Rows}
 use Rattle.loans_in_scope.proofs.gather.Given as goal
 
 abbrev pub invariant-loop-p : goal.invariant-loop-p
-invariant-loop-p l = (l.p ≤ l.code) × (length l.scope ≡ length l.initial.scope) × Gains (Rows l.from l.code l.first l.succ l.p) l.initial.scope l.scope
+invariant-loop-p l = (l.p ≤ l.code) × (length l.scope ≡ length l.initial.scope) × Gains (Rows l.from l.code l.graph.first l.graph.succ l.p) l.initial.scope l.scope
 
 abbrev pub decreases-loop-p : goal.decreases-loop-p
 decreases-loop-p l = l.code - l.p
