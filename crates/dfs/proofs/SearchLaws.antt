@@ -15,7 +15,8 @@ use borrow.Author.Tests.{eqb-true, eqb-false, eq-eqb, ne_eqb, ltb-true, ltb-fals
 use Rattle.nll_spec.specs.Output.{word_bits}
 use Rattle.bit_set.specs.Bits.{has, with_bit}
 use Rattle.bit_set.proofs.BitLaws.{has_with, has_with_other}
-use Rattle.graph.specs.Tables.{row_start, row_end, Edge, up_to}
+use Rattle.graph.specs.Tables.{row_start, row_end, Edge, up_to, successors}
+use Rattle.graph.proofs.RowLaws.{successor_at}
 use Rattle.graph.specs.Search.{Marked, State, state, zeros}
 use Rattle.graph.proofs.SearchLaws.{mark-kept, mark-new, mark-old, no_mark, work, zeros-mark, zeros-replicate}
 use Rattle.dfs.specs.Walk.{in_code, Chained, Along, Stopped, Reach, here, step, pushed, visited, nexts, row, left, Roomy, Leaf, is_leaf, Reaches}
@@ -208,17 +209,18 @@ visited_roomy h s st hs w = go (eqb (get_or st.seen s 0) 0) (h s) refl refl
     go true false e eb = w
     go false b e eb = w
 
-pub nexts-none : (h : ℕ → Bool) (succ : List ℕ) (lo : ℕ) (st : State) → st ≡ nexts h succ lo (lo - lo) st
+pub nexts-none : (h : ℕ → Bool) (succ : List ℕ) (lo : ℕ) (st : State) → st ≡ nexts h succ lo 0 st
 unfolding nexts
-nexts-none h succ lo st = let e : lo - lo ≡ 0 = omega arith in rw e
+nexts-none h succ lo st = refl
 
-pub nexts-more : (h : ℕ → Bool) (succ : List ℕ) (lo k : ℕ) (st : State) → lo ≤ k
-    → visited h (get_or succ k 0) (nexts h succ lo (k - lo) st) ≡ nexts h succ lo (k + 1 - lo) st
+-- the visit of the point that is number i of the list
+pub nexts-more : (h : ℕ → Bool) (first succ : List ℕ) (q i : ℕ) (st : State) {ss : List ℕ} → ss ≡ successors first succ q → i < length ss
+    → visited h (get_or ss i 0) (nexts h succ (row_start first q) i st) ≡ nexts h succ (row_start first q) (i + 1) st
 unfolding nexts
-nexts-more h succ lo k st l =
-    let e : k + 1 - lo ≡ suc (k - lo) = omega arith in
-    let q : lo + (k - lo) ≡ k = omega arith in
-    rw (e, q)
+nexts-more h first succ q i st {ss} e l =
+    let at : get_or ss i 0 ≡ get_or succ (row_start first q + i) 0 = rw e (successor_at first succ q i (rw e at l)) in
+    let k : i + 1 ≡ suc i = omega arith in
+    rw (k, at)
 
 -- ---- Points of blocks
 

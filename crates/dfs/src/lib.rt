@@ -1,13 +1,12 @@
 #![tactic(auto)]
 // The walk of one constraint, "S outlives T at p": the points that are reached from p through T.
-// The points that follow point p are succ[first[p]..first[p + 1]].
 ghost use Rattle.std.specs.Prelude.{◌≡◌, true, ◌+◌, ◌<◌, ◌≤◌, min, length};
 ghost use Rattle.graph.specs.Search.{state};
 ghost use Rattle.bit_set.specs.Bits.{with_bit};
 ghost use Rattle.graph.specs.Tables.{Edge};
 ghost use Rattle.dfs.specs.Walk.{in_code, Follows, Chained, Along, Stopped, Run, Mask, Reach, visited, row, left, is_leaf, Roomy, Reaches};
 
-use graph::tables::{FuncGraph, up_to};
+use graph::tables::FuncGraph;
 
 // The points that a walk reached, and whether one of them has no point after it.
 #[derive(Clone, Copy)]
@@ -16,32 +15,12 @@ pub struct Reached {
     pub exit: bool,
 }
 
-fn wide(x: u16) -> usize
-    ensures { result ≡ x }
-{
-    x as usize
-}
-
-fn wide32(x: u32) -> usize
-    ensures { result ≡ x }
-{
-    x as usize
-}
-
 // Whether the one point that follows q is q + 1.
 fn follows(graph: &FuncGraph, q: usize) -> bool
     requires { q < 1024 }
     ensures { result ≡ true → Follows graph.now.first graph.now.succ q }
 {
-    let start = wide(graph.first[q]);
-    let end = wide(graph.first[q + 1]);
-    if 1536 < end {
-        return false;
-    }
-    if end <= start {
-        return false;
-    }
-    (end - start == 1) & (wide(graph.succ[start]) == q + 1)
+    matches!(graph.successors(q), [s] if usize::from(*s) == q + 1)
 }
 
 // Points below code, each followed by the next one alone. Not all of them need be there: a smaller chain is as right, and slower.
@@ -73,7 +52,7 @@ fn visit(
     requires { (code ≤ 1024) × Roomy seen.old depth }
     ensures { state seen.new stack.new result ≡ visited (in_code words.now from code) s (state seen.old stack.old depth) }
 {
-    let at = wide(s);
+    let at = usize::from(s);
     if code <= at {
         return depth;
     }
@@ -103,24 +82,11 @@ fn visit_next(
     ensures { state seen.new stack.new result
         ≡ row (in_code words.now from code) graph.now.first graph.now.succ q (state seen.old stack.old depth) }
 {
-    let start = wide(graph.first[q]);
-    let end = up_to(graph.first[q + 1]);
-    let mut k = start;
     let mut d = depth;
-    while k < end {
-        d = visit(words, from, code, graph.succ[k], seen, stack, d);
-        k += 1;
+    for &s in graph.successors(q) {
+        d = visit(words, from, code, s, seen, stack, d);
     }
     d
-}
-
-fn lesser(x: usize, y: usize) -> usize
-    ensures { result ≡ min x y }
-{
-    if x < y {
-        return x;
-    }
-    y
 }
 
 // How many steps a walk may take from bit b on within a word: from a bit of links to the next bit, if that is of inner.
@@ -169,8 +135,8 @@ fn advance(
     }
     let k = next / 32;
     let b = next % 32;
-    let limit = lesser(31 - b, code - 1 - next);
-    let n = lesser(wide32(run_length(chain[k], words[from + k], b)), limit);
+    let limit = (31 - b).min(code - 1 - next);
+    let n = (run_length(chain[k], words[from + k], b) as usize).min(limit);
     points[k] = points[k] | mask(b, n);
     next + n
 }
@@ -251,7 +217,7 @@ fn search(
     let mut depth = 1;
     while depth > 0 {
         depth -= 1;
-        let q = wide(stack[depth]);
+        let q = usize::from(stack[depth]);
         let e = follow(chain, words, from, code, &mut points, q);
         exit = exit | is_leaf(chain, graph, e);
         depth = leave(

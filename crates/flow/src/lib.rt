@@ -1,25 +1,18 @@
 #![tactic(auto)]
 // Least sets of numbers along the edges of a graph, in four words a point: number b of point p is bit b of the words from 4 * p on.
-// The points that follow point p are succ[first[p]..first[p + 1]].
 ghost use Rattle.std.specs.Prelude.{◌≡◌, ◌+◌, ◌*◌, ◌<◌, ◌≤◌, length};
 ghost use Rattle.nll_spec.specs.Graph.{Graph};
 ghost use Rattle.graph.specs.Tables.{Edges};
 ghost use Rattle.flow.specs.Flows.{FlowSays};
 ghost use Rattle.flow.specs.Running.{Mixed, Ran, Lanes, Turned, Row, nth, Rows};
 
-use graph::tables::{FuncGraph, up_to};
+use graph::tables::FuncGraph;
 
 // Whether numbers go from a point to those that follow it, or to those that it follows.
 #[derive(Clone, Copy)]
 pub enum Direction {
     Forward,
     Backward,
-}
-
-fn wide(x: u16) -> usize
-    ensures { result ≡ x }
-{
-    x as usize
 }
 
 // A word with the bits of another one that may pass.
@@ -67,7 +60,7 @@ fn turned(
     requires { (code ≤ 1024) × (p < code) × (4 * code ≤ length sets.old) × (4 * code ≤ length pass.now) }
     ensures { Ran (Turned direction code p s) pass.now sets.old sets.new result }
 {
-    let q = wide(s);
+    let q = usize::from(s);
     if code <= q {
         return false;
     }
@@ -89,13 +82,9 @@ fn row(
     requires { (code ≤ 1024) × (p < code) × (4 * code ≤ length sets.old) × (4 * code ≤ length pass.now) }
     ensures { Ran (Row direction code graph.now.first graph.now.succ p) pass.now sets.old sets.new result }
 {
-    let start = wide(graph.first[p]);
-    let end = up_to(graph.first[p + 1]);
     let mut changed = false;
-    let mut k = start;
-    while k < end {
-        changed = turned(sets, pass, code, p, graph.succ[k], direction) | changed;
-        k += 1;
+    for &s in graph.successors(p) {
+        changed = turned(sets, pass, code, p, s, direction) | changed;
     }
     changed
 }
@@ -123,11 +112,9 @@ fn round(
     ensures { Ran (Rows direction code graph.now.first graph.now.succ code) pass.now sets.old sets.new result }
 {
     let mut changed = false;
-    let mut i = 0;
-    while i < code {
+    for i in 0..code {
         let p = point(code, i, direction);
         changed = row(sets, pass, graph, code, p, direction) | changed;
-        i += 1;
     }
     changed
 }

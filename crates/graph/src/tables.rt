@@ -1,6 +1,6 @@
 // The control-flow graph as two tables.
-ghost use Rattle.std.specs.Prelude.{◌≡◌, ◌≤◌};
-ghost use Rattle.graph.specs.Tables.{up_to, successors};
+ghost use Rattle.std.specs.Prelude.{◌≡◌, ◌≤◌, ◌-◌, length};
+ghost use Rattle.graph.specs.Tables.{up_to, row_start, row_end, successors};
 
 // The points that follow each point: those of p are succ[first[p]..first[p + 1]].
 #[derive(Clone, Copy)]
@@ -20,7 +20,8 @@ impl FuncGraph {
 
     // The points that follow p. A row is cut where the table ends; a point past the table has none.
     pub fn successors(&self, p: usize) -> &[u16]
-        ensures { result.now ≡ successors self.now.first self.now.succ p }
+        ensures points { result.now ≡ successors self.now.first self.now.succ p }
+        ensures count { length result.now ≡ up_to (row_end self.now.first p) - row_start self.now.first p }
     {
         if 1024 <= p {
             return &self.succ[..0];
@@ -32,21 +33,4 @@ impl FuncGraph {
         }
         &self.succ[start..end]
     }
-}
-
-fn wide(x: u16) -> usize
-    ensures { result ≡ x }
-{
-    x as usize
-}
-
-// e, or the size of the table of successors where that is less.
-pub fn up_to(e: u16) -> usize
-    ensures { (result ≡ up_to e) × (result ≤ 1536) }
-{
-    let k = wide(e);
-    if k < 1536 {
-        return k;
-    }
-    1536
 }

@@ -14,7 +14,7 @@ ghost use Rattle.loans_in_scope.specs.Scope.{overwritten_by, paths_of, killed, R
 
 use env::prefixes::is_prefix;
 use flow::Direction;
-use graph::tables::{FuncGraph, up_to};
+use graph::tables::FuncGraph;
 use loans::{Loan, loan_at};
 use record::Head;
 use record::access::action_at;
@@ -287,12 +287,8 @@ fn follow(graph: &FuncGraph, code: usize, from: &[u32], p: usize, scope: &mut [u
     requires { (code ≤ 1024) × (p < code) × (4 * code ≤ length from.now) × (4 * code ≤ length scope.old) }
     ensures { Gains (Row from.now code graph.now.first graph.now.succ p) scope.old scope.new }
 {
-    let start = wide(graph.first[p]);
-    let end = up_to(graph.first[p + 1]);
-    let mut k = start;
-    while k < end {
-        onto(code, from, p, graph.succ[k], scope);
-        k += 1;
+    for &s in graph.successors(p) {
+        onto(code, from, p, s, scope);
     }
 }
 
@@ -301,10 +297,8 @@ fn gather(graph: &FuncGraph, code: usize, from: &[u32], scope: &mut [u32])
     requires { (code ≤ 1024) × (4 * code ≤ length from.now) × (4 * code ≤ length scope.old) }
     ensures { Gains (Rows from.now code graph.now.first graph.now.succ code) scope.old scope.new }
 {
-    let mut p = 0;
-    while p < code {
+    for p in 0..code {
         follow(graph, code, from, p, scope);
-        p += 1;
     }
 }
 

@@ -37,7 +37,6 @@ bounds-words-from c = let a = c.args in
 
 pub returns : goal.returns
 returns c = let a = c.args in
-    let n = c.lesser-n in
-    let limit = c.lesser-limit.ensures in
+    let n = c.min-n in
     let run = c.run_length in
-    one_run a.chain.now a.words.now a.from a.code a.points.now a.q c.requires.2 c.requires.0 c.if-code-next.false c.test.result c.test-2.result c.test.ensures c.if-not-test.false c.test-2.ensures c.if-not-test-2.false run.result n.result c.mask.result run.ensures (omega (arith, n.ensures, c.wide32.ensures)) (omega (arith, n.ensures, limit)) (omega (arith, n.ensures, limit)) c.mask.ensures
+    one_run a.chain.now a.words.now a.from a.code a.points.now a.q c.requires.2 c.requires.0 c.if-code-next.false c.test.result c.test-2.result c.test.ensures c.if-not-test.false c.test-2.ensures c.if-not-test-2.false run.result n.result c.mask.result run.ensures (omega arith) (omega arith) (omega arith) c.mask.ensures

@@ -1,5 +1,4 @@
 -- `dfs::follow`. The loop's invariant: `Along`. Assumes nothing.
-use Prim.Native.Nat.{◌-◌}
 use native.Mathlib.Omega.{arith}
 use Rattle.dfs.specs.Walk.{in_code}
 use Rattle.dfs.proofs.ChainLaws.{with_sized, along-none, along_trans, follow_end}

@@ -22,7 +22,7 @@ bounds-stack-depth c = omega (arith, c.loop-depth.invariant.search.roomy.room)
 
 pub follow-e-requires : goal.follow-e-requires
 follow-e-requires c = let a = c.args in let l = c.loop-depth in
-    (c.requires.0, top_small a.chain.now a.graph.now.first a.graph.now.succ (in_code a.words.now a.from a.code) a.p (code-small a.words.now a.from a.code c.requires.0) l.points l.exit (state l.seen l.stack l.depth) c.wide-q.result l.invariant (omega arith) c.wide-q.ensures, l.invariant.sized)
+    (c.requires.0, top_small a.chain.now a.graph.now.first a.graph.now.succ (in_code a.words.now a.from a.code) a.p (code-small a.words.now a.from a.code c.requires.0) l.points l.exit (state l.seen l.stack l.depth) c.from-q.result l.invariant (omega arith) c.from-q.ensures, l.invariant.sized)
 
 pub is_leaf-exit-requires : goal.is_leaf-exit-requires
 is_leaf-exit-requires c = c.follow-e.ensures.0.below
@@ -37,7 +37,7 @@ loop-depth-smaller c =
     let l = c.loop-depth in
     (turn_code a.chain.now a.graph.now.first a.graph.now.succ (in_code a.words.now a.from a.code) a.p (code-small a.words.now a.from a.code c.requires.0)
     l.points c.follow-e.new.points l.exit (state l.seen l.stack l.depth) (state c.leave-depth.new.seen c.leave-depth.new.stack c.leave-depth.result)
-    c.wide-q.result c.follow-e.result c.is_leaf-exit.result l.invariant (omega arith) c.wide-q.ensures c.follow-e.ensures c.is_leaf-exit.ensures c.leave-depth.ensures).less
+    c.from-q.result c.follow-e.result c.is_leaf-exit.result l.invariant (omega arith) c.from-q.ensures c.follow-e.ensures c.is_leaf-exit.ensures c.leave-depth.ensures).less
 
 pub loop-depth-preserved : goal.loop-depth-preserved
 loop-depth-preserved c =
@@ -45,7 +45,7 @@ loop-depth-preserved c =
     let l = c.loop-depth in
     (turn_code a.chain.now a.graph.now.first a.graph.now.succ (in_code a.words.now a.from a.code) a.p (code-small a.words.now a.from a.code c.requires.0)
     l.points c.follow-e.new.points l.exit (state l.seen l.stack l.depth) (state c.leave-depth.new.seen c.leave-depth.new.stack c.leave-depth.result)
-    c.wide-q.result c.follow-e.result c.is_leaf-exit.result l.invariant (omega arith) c.wide-q.ensures c.follow-e.ensures c.is_leaf-exit.ensures c.leave-depth.ensures).going
+    c.from-q.result c.follow-e.result c.is_leaf-exit.result l.invariant (omega arith) c.from-q.ensures c.follow-e.ensures c.is_leaf-exit.ensures c.leave-depth.ensures).going
 
 pub returns : goal.returns
 returns c = let a = c.args in let l = c.loop-depth in
