@@ -100,8 +100,8 @@ module _ (chain ws : List ℕ) (from code : ℕ) (a : List ℕ) (q : ℕ) (sized
   pub past_code : code ≤ q + 1 → Advanced a q
   past_code l = stay chain (in_code ws from code) a q sized lq (λ c k. absurd (true≢false (sym k ∙ rw (le-ltb (q + 1) code l))))
 
-  pub no_link : (t : Bool) → t ≡ has chain (word_bits * 0 + q) → t ≡ false → Advanced a q
-  no_link t e f = stay chain (in_code ws from code) a q sized lq (λ c k. absurd (true≢false (sym c ∙ sym (at_zero chain q) ∙ sym e ∙ f)))
+  pub no_link : (t : Bool) → t ≡ has chain q → t ≡ false → Advanced a q
+  no_link t e f = stay chain (in_code ws from code) a q sized lq (λ c k. absurd (true≢false (sym c ∙ sym e ∙ f)))
 
   pub not-held : (t : Bool) → q + 1 < code → t ≡ has ws (word_bits * from + (q + 1)) → t ≡ false → Advanced a q
   not-held t l e f = stay chain (in_code ws from code) a q sized lq (λ c k. absurd (true≢false (sym k ∙ rw (lt-ltb (q + 1) code l) (sym e ∙ f))))

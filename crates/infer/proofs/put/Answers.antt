@@ -1,6 +1,6 @@
--- `infer::put_words`: the union is what `Spread` says. Assumes nothing.
+-- `infer::put`: the union is what `Spread` says. Assumes nothing.
 use Rattle.infer.proofs.PutLaws.{spreads}
-use Rattle.infer.proofs.put_words.Goals as goal
+use Rattle.infer.proofs.put.Goals as goal
 
 pub returns : goal.returns
 returns c = let a = c.args in

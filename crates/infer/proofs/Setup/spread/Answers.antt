@@ -1,4 +1,4 @@
--- `infer::spread`: what is reached, with the ends, is what the outer set gets. Assumes nothing.
+-- `infer::Setup::spread`: what is reached, with the ends, is what the outer set gets. Assumes nothing.
 use Prim.Native.Nat.{◌-◌}
 use mathlib.Core.Path.{◌≡◌, ◌∙◌}
 use mathlib.Core.Bool.{cond}
@@ -6,17 +6,17 @@ use native.Mathlib.Omega.{arith}
 use Rattle.infer.specs.Search.{rule_of, passes, Gets, with_run}
 use Rattle.infer.proofs.EndLaws.{Holds, ends_hold, gets_below}
 use Rattle.infer.proofs.PutLaws.{spread_holds}
-use Rattle.infer.proofs.spread.Goals as goal
-use Rattle.infer.proofs.spread.Goals.{then-reached, else-reached}
+use Rattle.infer.proofs.Setup.spread.Goals as goal
+use Rattle.infer.proofs.Setup.spread.Goals.{then-reached, else-reached}
 
 pub returns : goal.returns
 returns c = let a = c.args in
-    let first = a.graph.now.first in
-    let succ = a.graph.now.succ in
+    let first = a.self.now.graph.now.first in
+    let succ = a.self.now.graph.now.succ in
     let ws = a.words.now in
-    let code = a.shape.code in
-    let end = a.shape.points in
-    let rule = rule_of a.rule in
+    let code = a.self.now.shape.code in
+    let end = a.self.now.shape.points in
+    let rule = rule_of a.self.now.rule in
     let got = c.reach-reached in
     let points = c.if-reached.points in
     λ chained.
