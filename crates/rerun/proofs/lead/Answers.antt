@@ -1,5 +1,4 @@
 -- `rerun::lead` is safe, and ends. Assumes nothing.
-use Prim.Native.Nat.{◌-◌}
 use native.Mathlib.Omega.{arith}
 use Rattle.rerun.proofs.lead.Goals as goal
 
