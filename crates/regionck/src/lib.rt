@@ -53,8 +53,7 @@ fn solve(
     constraint_list::clear(recent);
     let to = collect(s, layout, head, walked, setup.shape.code, list);
     let mut last = [1; 128];
-    let mut left = ROUNDS;
-    while left != 0 {
+    for _ in 0..ROUNDS {
         keep(words, before);
         last = round(
             s, layout, head, walked, setup, words, &last, recent, absent, before, list, to,
@@ -63,7 +62,6 @@ fn solve(
             return;
         }
         note(&last, grown);
-        left -= 1;
     }
 }
 
