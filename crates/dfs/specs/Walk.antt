@@ -4,6 +4,7 @@ use Rattle.nll_spec.specs.Output.{word_bits}
 use Rattle.bit_set.specs.Bits.{has}
 use Rattle.graph.specs.Tables.{row_start, row_end, up_to, Edge}
 use Rattle.graph.specs.Search.{zeros, State, state}
+use Rattle.dfs.specs.declared.Search.{Search}
 
 -- ---- The walk
 
@@ -53,6 +54,10 @@ pub record Mask (b n m : ℕ) : Type 0 where
 -- s with a mark and on the stack
 abbrev pub pushed : ℕ → State → State
 pushed s st = state (set st.seen s 1) (set st.stack st.depth s) (st.depth + 1)
+
+-- the marks and the stack of a search
+abbrev pub state_of : Search → State
+state_of s = state s.seen s.stack s.depth
 
 -- s is marked and pushed, where it has no mark and h holds it
 abbrev pub visited : (ℕ → Bool) → ℕ → State → State

@@ -9,7 +9,7 @@ ghost use Rattle.constraint_list.specs.Listed.{constraints_in, Draws};
 ghost use Rattle.infer.specs.Ran.{Runs};
 ghost use Rattle.rerun.specs.Rerun.{no_marks, Noted, Holding, RunsAgain, RunsMore, Keeps};
 
-use infer::{EndRule, Shape};
+use infer::Setup;
 use marks::note;
 use point::point;
 use record::Head;
@@ -19,26 +19,20 @@ const TIMES: u32 = 65536;
 
 // Runs the constraints of the list once, those whose inner set has a mark in `last` or gets one. The answer marks, by 1, the regions whose sets grew, and so does `grew`.
 fn rerun(
+    setup: &Setup,
     words: &mut [u32],
-    first: &[u16; 1025],
-    succ: &[u16; 1536],
-    chain: &[u32; 32],
-    shape: Shape,
-    rule: EndRule,
     last: &[u8; 128],
     grew: &mut [u8; 128],
     recent: &mut [u32],
     list: &[u32],
 ) -> [u8; 128]
-    ensures { Runs shape rule first.now succ.now chain.now last.now (constraints_in list.now)
+    ensures { Runs setup.now.shape setup.now.rule setup.now.graph.now.first setup.now.graph.now.succ setup.now.chain.now last.now (constraints_in list.now)
         words.old no_marks words.new result
         × (length grew.old ≡ 128 → Noted result grew.old grew.new 128)
         × Draws (constraints_in list.now) recent.old recent.new }
 {
     let mut next = [0; 128];
-    infer::run(
-        words, first, succ, chain, shape, rule, last, &mut next, recent, list,
-    );
+    setup.run(words, last, &mut next, recent, list);
     note(&next, grew);
     next
 }
@@ -46,32 +40,24 @@ fn rerun(
 // Runs the constraints of the list until by them no set grows, at most TIMES times; at first those whose inner set has a mark in `fresh`. Marks, by 1, the regions whose
 // sets grew, in `fresh` and in `grew`.
 fn settle(
+    setup: &Setup,
     words: &mut [u32],
-    first: &[u16; 1025],
-    succ: &[u16; 1536],
-    chain: &[u32; 32],
-    shape: Shape,
-    rule: EndRule,
     fresh: &mut [u8; 128],
     grew: &mut [u8; 128],
     list: &[u32],
 )
-    ensures { RunsAgain shape rule first.now succ.now chain.now (constraints_in list.now)
+    ensures { RunsAgain setup.now.shape setup.now.rule setup.now.graph.now.first setup.now.graph.now.succ setup.now.chain.now (constraints_in list.now)
         words.old grew.old words.new grew.new }
 {
     let mut none = [0; 1];
     let mut last = [0; 128];
     note(fresh, &mut last);
-    let mut left = TIMES;
-    while left != 0 {
+    for _ in 0..TIMES {
         if !infer::any_marked(&last) {
             return;
         }
-        last = rerun(
-            words, first, succ, chain, shape, rule, &last, grew, &mut none, list,
-        );
+        last = rerun(setup, words, &last, grew, &mut none, list);
         note(&last, fresh);
-        left -= 1;
     }
 }
 
@@ -79,11 +65,8 @@ fn settle(
 pub fn keep(words: &[u32], before: &mut [u32])
     ensures { Keeps words.now before.old before.new (length before.old) }
 {
-    let many = before.len();
-    let mut i = 0;
-    while i < many {
+    for i in 0..before.len() {
         before[i] = bit_slice::word_at(words, i);
-        i += 1;
     }
 }
 
@@ -147,12 +130,8 @@ fn revisit(
     layout: &[u16; 1280],
     head: Head,
     walked: &[u32; 32],
-    shape: Shape,
-    rule: EndRule,
+    setup: &Setup,
     words: &mut [u32],
-    first: &[u16; 1025],
-    succ: &[u16; 1536],
-    chain: &[u32; 32],
     last: &[u8; 128],
     fresh: &mut [u8; 128],
     grew: &mut [u8; 128],
@@ -161,8 +140,8 @@ fn revisit(
     absent: &[u32],
     p: usize,
 )
-    requires { (length layout.now ≡ 1280) × (p < shape.code) }
-    ensures { RunsMore s.now layout.now head walked.now shape rule first.now succ.now chain.now
+    requires { (length layout.now ≡ 1280) × (p < setup.now.shape.code) }
+    ensures { RunsMore s.now layout.now head walked.now setup.now.shape setup.now.rule setup.now.graph.now.first setup.now.graph.now.succ setup.now.chain.now
         recent.old words.old grew.old recent.new words.new grew.new }
 {
     if !bit_set::test(near, 0, p) {
@@ -174,9 +153,7 @@ fn revisit(
     }
     let mut list = [0; 265];
     point(s, layout, head, walked, p, &mut list);
-    let next = rerun(
-        words, first, succ, chain, shape, rule, last, grew, recent, &list,
-    );
+    let next = rerun(setup, words, last, grew, recent, &list);
     note(&next, fresh);
 }
 
@@ -186,12 +163,8 @@ fn revisit_near(
     layout: &[u16; 1280],
     head: Head,
     walked: &[u32; 32],
-    shape: Shape,
-    rule: EndRule,
+    setup: &Setup,
     words: &mut [u32],
-    first: &[u16; 1025],
-    succ: &[u16; 1536],
-    chain: &[u32; 32],
     last: &[u8; 128],
     fresh: &mut [u8; 128],
     grew: &mut [u8; 128],
@@ -200,17 +173,13 @@ fn revisit_near(
     absent: &[u32],
 )
     requires { length layout.now ≡ 1280 }
-    ensures { RunsMore s.now layout.now head walked.now shape rule first.now succ.now chain.now
+    ensures { RunsMore s.now layout.now head walked.now setup.now.shape setup.now.rule setup.now.graph.now.first setup.now.graph.now.succ setup.now.chain.now
         recent.old words.old grew.old recent.new words.new grew.new }
 {
-    let code = shape.code;
-    let mut p = 0;
-    while p < code {
+    for p in 0..setup.shape.code {
         revisit(
-            s, layout, head, walked, shape, rule, words, first, succ, chain, last, fresh, grew,
-            recent, near, absent, p,
+            s, layout, head, walked, setup, words, last, fresh, grew, recent, near, absent, p,
         );
-        p += 1;
     }
 }
 
@@ -221,12 +190,8 @@ fn turn(
     layout: &[u16; 1280],
     head: Head,
     walked: &[u32; 32],
-    shape: Shape,
-    rule: EndRule,
+    setup: &Setup,
     words: &mut [u32],
-    first: &[u16; 1025],
-    succ: &[u16; 1536],
-    chain: &[u32; 32],
     last: &[u8; 128],
     grew: &mut [u8; 128],
     recent: &mut [u32],
@@ -235,18 +200,15 @@ fn turn(
     list: &[u32],
 ) -> [u8; 128]
     requires { length layout.now ≡ 1280 }
-    ensures { (to : Point) → Holding s.now layout.now head walked.now shape.code list.now 0 to
-        → RunsMore s.now layout.now head walked.now shape rule first.now succ.now chain.now
+    ensures { (to : Point) → Holding s.now layout.now head walked.now setup.now.shape.code list.now 0 to
+        → RunsMore s.now layout.now head walked.now setup.now.shape setup.now.rule setup.now.graph.now.first setup.now.graph.now.succ setup.now.chain.now
         recent.old words.old grew.old recent.new words.new grew.new }
 {
-    let near = leading(words, before, shape.width, last);
+    let near = leading(words, before, setup.shape.width, last);
     make_room(recent);
-    let mut fresh = rerun(
-        words, first, succ, chain, shape, rule, last, grew, recent, list,
-    );
+    let mut fresh = rerun(setup, words, last, grew, recent, list);
     revisit_near(
-        s, layout, head, walked, shape, rule, words, first, succ, chain, last, &mut fresh, grew,
-        recent, &near, absent,
+        s, layout, head, walked, setup, words, last, &mut fresh, grew, recent, &near, absent,
     );
     fresh
 }
@@ -257,12 +219,8 @@ fn turns(
     layout: &[u16; 1280],
     head: Head,
     walked: &[u32; 32],
-    shape: Shape,
-    rule: EndRule,
+    setup: &Setup,
     words: &mut [u32],
-    first: &[u16; 1025],
-    succ: &[u16; 1536],
-    chain: &[u32; 32],
     marks: [u8; 128],
     grew: &mut [u8; 128],
     recent: &mut [u32],
@@ -271,24 +229,19 @@ fn turns(
     list: &[u32],
 )
     requires { length layout.now ≡ 1280 }
-    ensures { (to : Point) → Holding s.now layout.now head walked.now shape.code list.now 0 to
-        → RunsMore s.now layout.now head walked.now shape rule first.now succ.now chain.now
+    ensures { (to : Point) → Holding s.now layout.now head walked.now setup.now.shape.code list.now 0 to
+        → RunsMore s.now layout.now head walked.now setup.now.shape setup.now.rule setup.now.graph.now.first setup.now.graph.now.succ setup.now.chain.now
         recent.old words.old grew.old recent.new words.new grew.new }
 {
     let mut last = marks;
-    let mut left = TIMES;
-    while left != 0 {
+    for _ in 0..TIMES {
         if !infer::any_marked(&last) {
             return;
         }
         last = turn(
-            s, layout, head, walked, shape, rule, words, first, succ, chain, &last, grew, recent,
-            before, absent, list,
+            s, layout, head, walked, setup, words, &last, grew, recent, before, absent, list,
         );
-        settle(
-            words, first, succ, chain, shape, rule, &mut last, grew, recent,
-        );
-        left -= 1;
+        settle(setup, words, &mut last, grew, recent);
     }
 }
 
@@ -299,12 +252,8 @@ pub fn repeat(
     layout: &[u16; 1280],
     head: Head,
     walked: &[u32; 32],
-    shape: Shape,
-    rule: EndRule,
+    setup: &Setup,
     words: &mut [u32],
-    first: &[u16; 1025],
-    succ: &[u16; 1536],
-    chain: &[u32; 32],
     grew: &mut [u8; 128],
     recent: &mut [u32],
     before: &mut [u32],
@@ -313,20 +262,17 @@ pub fn repeat(
     to: usize,
 )
     requires { length layout.now ≡ 1280 }
-    ensures { Holding s.now layout.now head walked.now shape.code list.now 0 to
-        → RunsMore s.now layout.now head walked.now shape rule first.now succ.now chain.now
+    ensures { Holding s.now layout.now head walked.now setup.now.shape.code list.now 0 to
+        → RunsMore s.now layout.now head walked.now setup.now.shape setup.now.rule setup.now.graph.now.first setup.now.graph.now.succ setup.now.chain.now
         recent.old words.old grew.old recent.new words.new grew.new }
 {
     let mut last = [0; 128];
     note(grew, &mut last);
-    settle(
-        words, first, succ, chain, shape, rule, &mut last, grew, recent,
-    );
-    if shape.code <= to {
+    settle(setup, words, &mut last, grew, recent);
+    if setup.shape.code <= to {
         return;
     }
     turns(
-        s, layout, head, walked, shape, rule, words, first, succ, chain, last, grew, recent,
-        before, absent, list,
+        s, layout, head, walked, setup, words, last, grew, recent, before, absent, list,
     );
 }

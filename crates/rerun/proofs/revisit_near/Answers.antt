@@ -1,5 +1,4 @@
 -- `rerun::revisit_near`. The loop's invariant: more of the job's constraints are run. Assumes nothing.
-use Prim.Native.Nat.{◌-◌}
 use native.Mathlib.Omega.{arith}
 use Rattle.rerun.proofs.RerunLaws.{more-none, more_then}
 use borrow.Author.Rules.{rules}
@@ -10,9 +9,6 @@ loop-p-init c = (search rules, search rules, more-none)
 
 pub revisit-requires : goal.revisit-requires
 revisit-requires c = (c.requires, omega arith)
-
-pub overflow_add-p : goal.overflow_add-p
-overflow_add-p c = search (rules, c.loop-p-test.true, c.well_formed)
 
 pub loop-p-preserved : goal.loop-p-preserved
 loop-p-preserved c = (search rules, search rules, more_then c.loop-p.invariant.2 c.revisit.ensures)
