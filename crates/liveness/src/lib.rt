@@ -102,17 +102,11 @@ fn compute(
         → LiveRows j width used.new dropped.new }
 {
     if code <= 32 {
-        with_tables::<128>(
-            s, layout, graph, walked, code, many, width, used, dropped,
-        );
+        with_tables::<128>(s, layout, graph, walked, code, many, width, used, dropped);
     } else if code <= 128 {
-        with_tables::<512>(
-            s, layout, graph, walked, code, many, width, used, dropped,
-        );
+        with_tables::<512>(s, layout, graph, walked, code, many, width, used, dropped);
     } else {
-        with_tables::<4096>(
-            s, layout, graph, walked, code, many, width, used, dropped,
-        );
+        with_tables::<4096>(s, layout, graph, walked, code, many, width, used, dropped);
     }
 }
 

@@ -393,17 +393,11 @@ fn compute(
     ensures { (h : heads.Head) → code ≡ h.code → ScopeSays s.now layout.now h graph.now.first graph.now.succ words.now width table.now count scope.new }
 {
     if code <= 32 {
-        with_tables::<128>(
-            s, layout, graph, words, width, table, count, code, scope,
-        );
+        with_tables::<128>(s, layout, graph, words, width, table, count, code, scope);
     } else if code <= 128 {
-        with_tables::<512>(
-            s, layout, graph, words, width, table, count, code, scope,
-        );
+        with_tables::<512>(s, layout, graph, words, width, table, count, code, scope);
     } else {
-        with_tables::<4096>(
-            s, layout, graph, words, width, table, count, code, scope,
-        );
+        with_tables::<4096>(s, layout, graph, words, width, table, count, code, scope);
     }
 }
 

@@ -48,19 +48,16 @@ fn with_words<const N: usize>(
     s: &[u8],
     layout: &[u16; 1280],
     head: Head,
-    first: &[u16; 1025],
-    succ: &[u16; 1536],
+    graph: &FuncGraph,
     walked: &[u32; 32],
     words: &[u32],
     bytes: &mut [u8],
 )
     requires { (length layout.now ≡ 1280) × (head.code ≤ 1024 → 4 * head.code ≤ N) × (N ≤ 4096) }
-    ensures { Judges s.now layout.now head first.now succ.now walked.now words.now bytes.old bytes.new }
+    ensures { Judges s.now layout.now head graph.now.first graph.now.succ walked.now words.now bytes.old bytes.new }
 {
     let mut scope = [0; N];
-    by_scope(
-        s, layout, head, first, succ, walked, words, &mut scope, bytes,
-    );
+    by_scope(s, layout, head, graph, walked, words, &mut scope, bytes);
 }
 
 // The same with words of a size for so many points.

@@ -35,14 +35,13 @@ fn with_rows<const N: usize>(
     s: &[u8],
     layout: &[u16; 1280],
     head: Head,
-    first: &[u16; 1025],
-    succ: &[u16; 1536],
+    graph: &FuncGraph,
     walked: &[u32; 32],
     width: usize,
     words: &mut [u32],
 )
     requires { (length layout.now ≡ 1280) × (length walked.now ≡ 32) × (width ≤ 32 → 64 * width ≤ N) × (N ≤ 2048) }
-    ensures { Seeds s.now layout.now head first.now succ.now walked.now width words.old words.new }
+    ensures { Seeds s.now layout.now head graph.now.first graph.now.succ walked.now width words.old words.new }
 {
     let mut used = [0; N];
     let mut dropped = [0; N];
@@ -50,8 +49,7 @@ fn with_rows<const N: usize>(
         s,
         layout,
         head,
-        first,
-        succ,
+        graph,
         walked,
         width,
         &mut used,
