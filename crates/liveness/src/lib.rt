@@ -59,8 +59,9 @@ fn by_tables(
     rows(sets, walked, code, 64, many, width, dropped);
 }
 
-// The same for at most 128 points.
-fn compute_small(
+// The same by tables of N words.
+#[inline(never)]
+fn with_tables<const N: usize>(
     s: &[u8],
     layout: &[u16; 1280],
     first: &[u16; 1025],
@@ -72,24 +73,16 @@ fn compute_small(
     used: &mut [u32],
     dropped: &mut [u32],
 )
-    requires { (length layout.now ≡ 1280) × (code ≤ 128) × (code ≤ 32 * width) × (width ≤ 32) × (many ≤ 64) × (64 * width ≤ length used.old) × (64 * width ≤ length dropped.old) }
+    requires { (length layout.now ≡ 1280) × (4 * code ≤ N) × (N ≤ 4096) × (code ≤ 32 * width) × (width ≤ 32) × (many ≤ 64) × (64 * width ≤ length used.old) × (64 * width ≤ length dropped.old) }
     ensures { (h : heads.Head) (j : Job) → code ≡ h.code → many ≡ h.variables → Layout s.now layout.now h j
         → Edges (graph_of j) first.now succ.now → WalkedIn j walked.now
         → LiveRows j width used.new dropped.new }
 {
-    if code <= 32 {
-        let mut sets = [0; 128];
-        let mut pass = [4294967295; 128];
-        by_tables(
-            s, layout, first, succ, walked, code, many, width, &mut sets, &mut pass, used, dropped,
-        );
-    } else {
-        let mut sets = [0; 512];
-        let mut pass = [4294967295; 512];
-        by_tables(
-            s, layout, first, succ, walked, code, many, width, &mut sets, &mut pass, used, dropped,
-        );
-    }
+    let mut sets = [0; N];
+    let mut pass = [u32::MAX; N];
+    by_tables(
+        s, layout, first, succ, walked, code, many, width, &mut sets, &mut pass, used, dropped,
+    );
 }
 
 // The same by tables of a size for so many points.
@@ -110,15 +103,17 @@ fn compute(
         → Edges (graph_of j) first.now succ.now → WalkedIn j walked.now
         → LiveRows j width used.new dropped.new }
 {
-    if code <= 128 {
-        compute_small(
+    if code <= 32 {
+        with_tables::<128>(
+            s, layout, first, succ, walked, code, many, width, used, dropped,
+        );
+    } else if code <= 128 {
+        with_tables::<512>(
             s, layout, first, succ, walked, code, many, width, used, dropped,
         );
     } else {
-        let mut sets = [0; 4096];
-        let mut pass = [4294967295; 4096];
-        by_tables(
-            s, layout, first, succ, walked, code, many, width, &mut sets, &mut pass, used, dropped,
+        with_tables::<4096>(
+            s, layout, first, succ, walked, code, many, width, used, dropped,
         );
     }
 }

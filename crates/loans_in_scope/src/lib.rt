@@ -356,8 +356,9 @@ fn by_tables(
     mask(region, 4 * code, scope);
 }
 
-// The same for at most 128 points.
-fn compute_small(
+// The same by tables of N words.
+#[inline(never)]
+fn with_tables<const N: usize>(
     s: &[u8],
     layout: &[u16; 1280],
     first: &[u16; 1025],
@@ -369,48 +370,27 @@ fn compute_small(
     code: usize,
     scope: &mut [u32],
 )
-    requires { (length layout.now ≡ 1280) × (length table.now ≡ 1024) × (width ≤ 32) × (count ≤ 128) × (code ≤ 128) × (4 * code ≤ length scope.old) }
+    requires { (length layout.now ≡ 1280) × (length table.now ≡ 1024) × (width ≤ 32) × (count ≤ 128) × (4 * code ≤ N) × (N ≤ 4096) × (4 * code ≤ length scope.old) }
     ensures { (h : heads.Head) → code ≡ h.code → ScopeSays s.now layout.now h first.now succ.now words.now width table.now count scope.new }
 {
-    if code <= 32 {
-        let mut leaves = [0; 128];
-        let mut pass = [0; 128];
-        let mut region = [0; 128];
-        by_tables(
-            s,
-            layout,
-            first,
-            succ,
-            words,
-            width,
-            table,
-            count,
-            code,
-            &mut leaves,
-            &mut pass,
-            &mut region,
-            scope,
-        );
-    } else {
-        let mut leaves = [0; 512];
-        let mut pass = [0; 512];
-        let mut region = [0; 512];
-        by_tables(
-            s,
-            layout,
-            first,
-            succ,
-            words,
-            width,
-            table,
-            count,
-            code,
-            &mut leaves,
-            &mut pass,
-            &mut region,
-            scope,
-        );
-    }
+    let mut leaves = [0; N];
+    let mut pass = [0; N];
+    let mut region = [0; N];
+    by_tables(
+        s,
+        layout,
+        first,
+        succ,
+        words,
+        width,
+        table,
+        count,
+        code,
+        &mut leaves,
+        &mut pass,
+        &mut region,
+        scope,
+    );
 }
 
 // The same by tables of a size for so many points.
@@ -429,28 +409,17 @@ fn compute(
     requires { (length layout.now ≡ 1280) × (length table.now ≡ 1024) × (width ≤ 32) × (count ≤ 128) × (code ≤ 1024) × (4 * code ≤ length scope.old) }
     ensures { (h : heads.Head) → code ≡ h.code → ScopeSays s.now layout.now h first.now succ.now words.now width table.now count scope.new }
 {
-    if code <= 128 {
-        compute_small(
+    if code <= 32 {
+        with_tables::<128>(
+            s, layout, first, succ, words, width, table, count, code, scope,
+        );
+    } else if code <= 128 {
+        with_tables::<512>(
             s, layout, first, succ, words, width, table, count, code, scope,
         );
     } else {
-        let mut leaves = [0; 4096];
-        let mut pass = [0; 4096];
-        let mut region = [0; 4096];
-        by_tables(
-            s,
-            layout,
-            first,
-            succ,
-            words,
-            width,
-            table,
-            count,
-            code,
-            &mut leaves,
-            &mut pass,
-            &mut region,
-            scope,
+        with_tables::<4096>(
+            s, layout, first, succ, words, width, table, count, code, scope,
         );
     }
 }

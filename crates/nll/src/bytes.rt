@@ -43,6 +43,27 @@ fn by_scope(
     borrow_check(s, layout, head, &table, count, scope, bytes);
 }
 
+// The same with N words for the loans in scope.
+#[inline(never)]
+fn with_words<const N: usize>(
+    s: &[u8],
+    layout: &[u16; 1280],
+    head: Head,
+    first: &[u16; 1025],
+    succ: &[u16; 1536],
+    walked: &[u32; 32],
+    words: &[u32],
+    bytes: &mut [u8],
+)
+    requires { (length layout.now ≡ 1280) × (head.code ≤ 1024 → 4 * head.code ≤ N) × (N ≤ 4096) }
+    ensures { Judges s.now layout.now head first.now succ.now walked.now words.now bytes.old bytes.new }
+{
+    let mut scope = [0; N];
+    by_scope(
+        s, layout, head, first, succ, walked, words, &mut scope, bytes,
+    );
+}
+
 // The same with words of a size for so many points.
 pub fn verdicts(
     s: &[u8],
@@ -58,20 +79,11 @@ pub fn verdicts(
     ensures { Judges s.now layout.now head first.now succ.now walked.now words.now bytes.old bytes.new }
 {
     if head.code <= 32 {
-        let mut scope = [0; 128];
-        by_scope(
-            s, layout, head, first, succ, walked, words, &mut scope, bytes,
-        );
+        with_words::<128>(s, layout, head, first, succ, walked, words, bytes);
     } else if head.code <= 128 {
-        let mut scope = [0; 512];
-        by_scope(
-            s, layout, head, first, succ, walked, words, &mut scope, bytes,
-        );
+        with_words::<512>(s, layout, head, first, succ, walked, words, bytes);
     } else {
-        let mut scope = [0; 4096];
-        by_scope(
-            s, layout, head, first, succ, walked, words, &mut scope, bytes,
-        );
+        with_words::<4096>(s, layout, head, first, succ, walked, words, bytes);
     }
 }
 

@@ -29,6 +29,37 @@ fn by_rows(
     seeds(s, layout, head, walked, used, dropped, width, words);
 }
 
+// The same with N words for each of the two tables of rows.
+#[inline(never)]
+fn with_rows<const N: usize>(
+    s: &[u8],
+    layout: &[u16; 1280],
+    head: Head,
+    first: &[u16; 1025],
+    succ: &[u16; 1536],
+    walked: &[u32; 32],
+    width: usize,
+    words: &mut [u32],
+)
+    requires { (length layout.now ≡ 1280) × (length walked.now ≡ 32) × (width ≤ 32 → 64 * width ≤ N) × (N ≤ 2048) }
+    ensures { Seeds s.now layout.now head first.now succ.now walked.now width words.old words.new }
+{
+    let mut used = [0; N];
+    let mut dropped = [0; N];
+    by_rows(
+        s,
+        layout,
+        head,
+        first,
+        succ,
+        walked,
+        width,
+        &mut used,
+        &mut dropped,
+        words,
+    );
+}
+
 // The same with rows of a size for sets of so many words.
 fn seed(
     s: &[u8],
@@ -44,50 +75,11 @@ fn seed(
     ensures { Seeds s.now layout.now head first.now succ.now walked.now width words.old words.new }
 {
     if width <= 1 {
-        let mut used = [0; 64];
-        let mut dropped = [0; 64];
-        by_rows(
-            s,
-            layout,
-            head,
-            first,
-            succ,
-            walked,
-            width,
-            &mut used,
-            &mut dropped,
-            words,
-        );
+        with_rows::<64>(s, layout, head, first, succ, walked, width, words);
     } else if width <= 4 {
-        let mut used = [0; 256];
-        let mut dropped = [0; 256];
-        by_rows(
-            s,
-            layout,
-            head,
-            first,
-            succ,
-            walked,
-            width,
-            &mut used,
-            &mut dropped,
-            words,
-        );
+        with_rows::<256>(s, layout, head, first, succ, walked, width, words);
     } else {
-        let mut used = [0; 2048];
-        let mut dropped = [0; 2048];
-        by_rows(
-            s,
-            layout,
-            head,
-            first,
-            succ,
-            walked,
-            width,
-            &mut used,
-            &mut dropped,
-            words,
-        );
+        with_rows::<2048>(s, layout, head, first, succ, walked, width, words);
     }
 }
 

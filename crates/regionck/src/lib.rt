@@ -71,8 +71,9 @@ fn solve(
     }
 }
 
-// The same for at most 128 points, by tables of a size for so many.
-fn solve_small(
+// The same by tables of so many words each.
+#[inline(never)]
+fn with_tables<const LIST: usize, const RECENT: usize, const ABSENT: usize, const BEFORE: usize>(
     s: &[u8],
     layout: &[u16; 1280],
     head: Head,
@@ -85,53 +86,30 @@ fn solve_small(
     words: &mut [u32],
     grown: &mut [u8; 128],
 )
-    requires { (length layout.now ≡ 1280) × (length grown.old ≡ 128) }
+    requires { (length layout.now ≡ 1280) × (length grown.old ≡ 128) × (LIST ≤ 4097) × (RECENT ≤ 4097) × (ABSENT ≤ 4096) × (BEFORE ≤ 4096) }
     ensures { (length grown.new ≡ 128) × ((j : Job) → Seeded s.now layout.now head first.now succ.now walked.now shape words.old j → Chained chain.now first.now succ.now → Solved (rule_of rule) j words.old words.new grown.new) }
 {
-    let mut before = [0; 1];
-    if shape.code <= 32 {
-        let mut list = [0; 393];
-        let mut recent = [0; 193];
-        let mut absent = [0; 128];
-        solve(
-            s,
-            layout,
-            head,
-            first,
-            succ,
-            chain,
-            walked,
-            shape,
-            rule,
-            words,
-            grown,
-            &mut list,
-            &mut recent,
-            &mut absent,
-            &mut before,
-        );
-    } else {
-        let mut list = [0; 1025];
-        let mut recent = [0; 513];
-        let mut absent = [0; 512];
-        solve(
-            s,
-            layout,
-            head,
-            first,
-            succ,
-            chain,
-            walked,
-            shape,
-            rule,
-            words,
-            grown,
-            &mut list,
-            &mut recent,
-            &mut absent,
-            &mut before,
-        );
-    }
+    let mut list = [0; LIST];
+    let mut recent = [0; RECENT];
+    let mut absent = [0; ABSENT];
+    let mut before = [0; BEFORE];
+    solve(
+        s,
+        layout,
+        head,
+        first,
+        succ,
+        chain,
+        walked,
+        shape,
+        rule,
+        words,
+        grown,
+        &mut list,
+        &mut recent,
+        &mut absent,
+        &mut before,
+    );
 }
 
 // The words hold the regions' seeds before, and their least sets after. `grown` marks, by 1, the declared regions whose sets exceed their seeds.
@@ -152,31 +130,17 @@ pub fn regionck(
         → Solved (rule_of rule) j words.old words.new grown.new) }
 {
     let chain = dfs::chains(first, succ, shape.code);
-    if shape.code <= 128 {
-        solve_small(
+    if shape.code <= 32 {
+        with_tables::<393, 193, 128, 1>(
             s, layout, head, first, succ, &chain, walked, shape, rule, words, grown,
         );
-        return;
+    } else if shape.code <= 128 {
+        with_tables::<1025, 513, 512, 1>(
+            s, layout, head, first, succ, &chain, walked, shape, rule, words, grown,
+        );
+    } else {
+        with_tables::<4097, 4097, 4096, 4096>(
+            s, layout, head, first, succ, &chain, walked, shape, rule, words, grown,
+        );
     }
-    let mut list = [0; 4097];
-    let mut recent = [0; 4097];
-    let mut absent = [0; 4096];
-    let mut before = [0; 4096];
-    solve(
-        s,
-        layout,
-        head,
-        first,
-        succ,
-        &chain,
-        walked,
-        shape,
-        rule,
-        words,
-        grown,
-        &mut list,
-        &mut recent,
-        &mut absent,
-        &mut before,
-    );
 }
