@@ -3,7 +3,7 @@ ghost use Rattle.std.specs.Prelude.{◌≡◌, length};
 ghost use Rattle.record.specs.Access.{entry_in};
 ghost use Rattle.graph.specs.Shape.{Listed, ShapeSays};
 
-use super::{Shape, wide};
+use super::Shape;
 use record::access::block_at;
 use repr::{BasicBlockData, BasicBlockIndex, BlockStep};
 
@@ -12,8 +12,8 @@ fn listed(s: &[u8], d: BasicBlockData) -> Shape
     ensures { Listed s.now d result }
 {
     let from = d.targets.at;
-    let actions = wide(d.actions);
-    let count = wide(d.successors);
+    let actions = usize::from(d.actions);
+    let count = usize::from(d.successors);
     if s.len() <= from {
         return Shape {
             actions,

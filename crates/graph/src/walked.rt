@@ -7,8 +7,8 @@ ghost use Rattle.record.specs.Layout.{Layout};
 ghost use Rattle.graph.specs.Shape.{InRecord, row_of};
 ghost use Rattle.graph.specs.Search.{state, Roomy, visited, visits, WalkedBlocks, with_run, BlockPoints, WalkedIn};
 
+use super::Shape;
 use super::shapes::shape;
-use super::{Shape, wide};
 use record::Head;
 use repr::BasicBlockIndex;
 
@@ -17,7 +17,7 @@ fn visit(b: u8, seen: &mut [u8; 64], stack: &mut [u8; 64], depth: usize) -> usiz
     requires { Roomy (state seen.old stack.old depth) }
     ensures { state seen.new stack.new result ≡ visited b (state seen.old stack.old depth) }
 {
-    let at = wide(b);
+    let at = usize::from(b);
     if 64 <= at {
         return depth;
     }
@@ -34,13 +34,9 @@ fn visit_next(s: &[u8], d: Shape, seen: &mut [u8; 64], stack: &mut [u8; 64], dep
     requires { InRecord s.now d × Roomy (state seen.old stack.old depth) }
     ensures { state seen.new stack.new result ≡ visits (row_of s.now d) (state seen.old stack.old depth) }
 {
-    let from = d.from;
-    let many = d.count;
     let mut top = depth;
-    let mut i = 0;
-    while i < many {
-        top = visit(s[from + i], seen, stack, top);
-        i += 1;
+    for &b in &s[d.from..d.from + d.count] {
+        top = visit(b, seen, stack, top);
     }
     top
 }
@@ -68,10 +64,8 @@ fn run(words: &mut [u32; 32], p: usize, n: usize)
     requires { p + n ≤ 1024 }
     ensures { words.new ≡ with_run words.old p n }
 {
-    let mut i = 0;
-    while i < n {
+    for i in 0..n {
         bit_set::add(words, 0, p + i);
-        i += 1;
     }
 }
 
@@ -96,7 +90,7 @@ fn block_points(
     if 1024 < next {
         return p;
     }
-    let at = wide(b);
+    let at = usize::from(b);
     if seen[at] == 0 {
         return next;
     }
@@ -118,9 +112,7 @@ pub fn walked(
     let seen = blocks(s, layout, start);
     bit_set::clear(words, 0, 32);
     let mut p = 0;
-    let mut b = 0;
-    while b < head.blocks {
+    for b in 0..head.blocks {
         p = block_points(s, layout, &seen, b, p, words);
-        b += 1;
     }
 }
