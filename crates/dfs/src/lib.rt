@@ -95,7 +95,7 @@ fn mask(b: usize, n: usize) -> u32
     requires { b + n < 32 }
     ensures { Mask b n result }
 {
-    (4294967295 >> (31 - n)) << b
+    (u32::MAX >> (31 - n)) << b
 }
 
 impl Walk<'_> {

@@ -138,7 +138,7 @@ fn stays_within(
         if !is_covered(chain, words, from, to, k) {
             return false;
         }
-        if words[from + k] < 2147483648 {
+        if words[from + k] < 1 << 31 {
             return true;
         }
     }

@@ -120,7 +120,7 @@ fn lead(words: &[u32], before: &[u32], start: usize, width: usize, near: &mut [u
         let from = (held ^ (held & old)) | (held & after);
         let lead = lead_within(held, from);
         near[k] = near[k] | lead | (lead >> 1) | after;
-        after = (lead % 2) * 2147483648;
+        after = lead << 31;
     }
 }
 

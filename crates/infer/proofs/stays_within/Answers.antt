@@ -19,8 +19,8 @@ is_covered-requires c = let i = c.loop-k.invariant in (omega arith, omega (arith
 pub returns-then-not-is_covered : goal.returns-then-not-is_covered
 returns-then-not-is_covered c = λ e. absurd (true≢false (sym e))
 
-pub returns-then-words-from-lt2147483648 : goal.returns-then-words-from-lt2147483648
-returns-then-words-from-lt2147483648 c = λ e. let a = c.args in cover_done a.chain.now a.words.now a.from a.to a.width (a.p / word_bits) c.loop-k.k c.is_covered.result c.loop-k.invariant c.is_covered.ensures c.if-not-is_covered.false (omega arith)
+pub returns-then-words-from : goal.returns-then-words-from
+returns-then-words-from c = λ e. let a = c.args in cover_done a.chain.now a.words.now a.from a.to a.width (a.p / word_bits) c.loop-k.k c.is_covered.result c.loop-k.invariant c.is_covered.ensures c.if-not-is_covered.false (omega arith)
 
 pub loop-k-preserved : goal.loop-k-preserved
 loop-k-preserved c = let a = c.args in cover_more a.chain.now a.words.now a.from a.to a.width (a.p / word_bits) c.loop-k.k c.is_covered.result c.loop-k.invariant c.is_covered.ensures c.if-not-is_covered.false
