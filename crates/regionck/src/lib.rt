@@ -10,7 +10,7 @@ ghost use Rattle.dfs.specs.Walk.{Chained};
 ghost use Rattle.regionck.specs.Rounds.{Cleared, Seeded, Solved};
 
 use graph::tables::FuncGraph;
-use infer::{EndRule, Shape};
+use infer::{EndRule, Setup, Shape};
 use record::Head;
 use rerun::keep;
 use rerun::marks::note;
@@ -36,11 +36,8 @@ fn solve(
     s: &[u8],
     layout: &[u16; 1280],
     head: Head,
-    graph: &FuncGraph,
-    chain: &[u32; 32],
     walked: &[u32; 32],
-    shape: Shape,
-    rule: EndRule,
+    setup: &Setup,
     words: &mut [u32],
     grown: &mut [u8; 128],
     list: &mut [u32],
@@ -49,19 +46,18 @@ fn solve(
     before: &mut [u32],
 )
     requires { (length layout.now ≡ 1280) × (length grown.old ≡ 128) × ((i : ℕ) → has absent.old i ≡ false) }
-    ensures { (length grown.new ≡ 128) × ((j : Job) → Seeded s.now layout.now head graph.now.first graph.now.succ walked.now shape words.old j
-        → Chained chain.now graph.now.first graph.now.succ → Solved (rule_of rule) j words.old words.new grown.new) }
+    ensures { (length grown.new ≡ 128) × ((j : Job) → Seeded s.now layout.now head setup.now.graph.now.first setup.now.graph.now.succ walked.now setup.now.shape words.old j
+        → Chained setup.now.chain.now setup.now.graph.now.first setup.now.graph.now.succ → Solved (rule_of setup.now.rule) j words.old words.new grown.new) }
 {
     clear(grown);
     constraint_list::clear(recent);
-    let to = collect(s, layout, head, walked, shape.code, list);
+    let to = collect(s, layout, head, walked, setup.shape.code, list);
     let mut last = [1; 128];
     let mut left = ROUNDS;
     while left != 0 {
         keep(words, before);
         last = round(
-            s, layout, head, walked, shape, rule, words, graph, chain, &last, recent, absent,
-            before, list, to,
+            s, layout, head, walked, setup, words, &last, recent, absent, before, list, to,
         );
         if !infer::any_marked(&last) {
             return;
@@ -77,16 +73,13 @@ fn with_tables<const LIST: usize, const RECENT: usize, const ABSENT: usize, cons
     s: &[u8],
     layout: &[u16; 1280],
     head: Head,
-    graph: &FuncGraph,
-    chain: &[u32; 32],
     walked: &[u32; 32],
-    shape: Shape,
-    rule: EndRule,
+    setup: &Setup,
     words: &mut [u32],
     grown: &mut [u8; 128],
 )
     requires { (length layout.now ≡ 1280) × (length grown.old ≡ 128) × (LIST ≤ 4097) × (RECENT ≤ 4097) × (ABSENT ≤ 4096) × (BEFORE ≤ 4096) }
-    ensures { (length grown.new ≡ 128) × ((j : Job) → Seeded s.now layout.now head graph.now.first graph.now.succ walked.now shape words.old j → Chained chain.now graph.now.first graph.now.succ → Solved (rule_of rule) j words.old words.new grown.new) }
+    ensures { (length grown.new ≡ 128) × ((j : Job) → Seeded s.now layout.now head setup.now.graph.now.first setup.now.graph.now.succ walked.now setup.now.shape words.old j → Chained setup.now.chain.now setup.now.graph.now.first setup.now.graph.now.succ → Solved (rule_of setup.now.rule) j words.old words.new grown.new) }
 {
     let mut list = [0; LIST];
     let mut recent = [0; RECENT];
@@ -96,11 +89,8 @@ fn with_tables<const LIST: usize, const RECENT: usize, const ABSENT: usize, cons
         s,
         layout,
         head,
-        graph,
-        chain,
         walked,
-        shape,
-        rule,
+        setup,
         words,
         grown,
         &mut list,
@@ -127,17 +117,17 @@ pub fn regionck(
         → Solved (rule_of rule) j words.old words.new grown.new) }
 {
     let chain = dfs::chains(graph, shape.code);
+    let setup = Setup {
+        graph,
+        chain: &chain,
+        shape,
+        rule,
+    };
     if shape.code <= 32 {
-        with_tables::<393, 193, 128, 1>(
-            s, layout, head, graph, &chain, walked, shape, rule, words, grown,
-        );
+        with_tables::<393, 193, 128, 1>(s, layout, head, walked, &setup, words, grown);
     } else if shape.code <= 128 {
-        with_tables::<1025, 513, 512, 1>(
-            s, layout, head, graph, &chain, walked, shape, rule, words, grown,
-        );
+        with_tables::<1025, 513, 512, 1>(s, layout, head, walked, &setup, words, grown);
     } else {
-        with_tables::<4097, 4097, 4096, 4096>(
-            s, layout, head, graph, &chain, walked, shape, rule, words, grown,
-        );
+        with_tables::<4097, 4097, 4096, 4096>(s, layout, head, walked, &setup, words, grown);
     }
 }

@@ -6,8 +6,7 @@ ghost use Rattle.constraint_list.specs.Listed.{count_in, Draws};
 ghost use Rattle.rerun.specs.Rerun.{Holding, OwnKept};
 ghost use Rattle.regionck.specs.Rounds.{Sound, RunsBelow, RoundRuns};
 
-use graph::tables::FuncGraph;
-use infer::{EndRule, Shape};
+use infer::Setup;
 use record::Head;
 use rerun::point::point;
 use rerun::{make_room, repeat};
@@ -45,24 +44,21 @@ fn visit(
     layout: &[u16; 1280],
     head: Head,
     walked: &[u32; 32],
-    shape: Shape,
-    rule: EndRule,
+    setup: &Setup,
     words: &mut [u32],
-    graph: &FuncGraph,
-    chain: &[u32; 32],
     last: &[u8; 128],
     grew: &mut [u8; 128],
     recent: &mut [u32],
     absent: &mut [u32],
     p: usize,
 )
-    requires { (length layout.now ≡ 1280) × (p < shape.code) × Sound s.now layout.now head walked.now shape.code absent.old }
-    ensures { ((ws : List ℕ) → RunsBelow s.now layout.now head walked.now shape rule graph.now.first graph.now.succ chain.now
+    requires { (length layout.now ≡ 1280) × (p < setup.now.shape.code) × Sound s.now layout.now head walked.now setup.now.shape.code absent.old }
+    ensures { ((ws : List ℕ) → RunsBelow s.now layout.now head walked.now setup.now.shape setup.now.rule setup.now.graph.now.first setup.now.graph.now.succ setup.now.chain.now
         last.now ws words.old grew.old p
-        → RunsBelow s.now layout.now head walked.now shape rule graph.now.first graph.now.succ chain.now
+        → RunsBelow s.now layout.now head walked.now setup.now.shape setup.now.rule setup.now.graph.now.first setup.now.graph.now.succ setup.now.chain.now
         last.now ws words.new grew.new (p + 1))
-        × OwnKept s.now layout.now head walked.now shape.code recent.old recent.new
-        × Sound s.now layout.now head walked.now shape.code absent.new }
+        × OwnKept s.now layout.now head walked.now setup.now.shape.code recent.old recent.new
+        × Sound s.now layout.now head walked.now setup.now.shape.code absent.new }
 {
     let marks = absent_regions::marked(last, grew);
     if absent_regions::all_in(absent, p, &marks) {
@@ -71,7 +67,7 @@ fn visit(
     let mut list = [0; 265];
     point(s, layout, head, walked, p, &mut list);
     absent_regions::put(&list, p, absent);
-    infer::run(words, graph, chain, shape, rule, last, grew, recent, &list);
+    setup.run(words, last, grew, recent, &list);
 }
 
 // Runs the constraints of point `from` and of those after it.
@@ -80,31 +76,27 @@ fn rest(
     layout: &[u16; 1280],
     head: Head,
     walked: &[u32; 32],
-    shape: Shape,
-    rule: EndRule,
+    setup: &Setup,
     words: &mut [u32],
-    graph: &FuncGraph,
-    chain: &[u32; 32],
     last: &[u8; 128],
     grew: &mut [u8; 128],
     recent: &mut [u32],
     absent: &mut [u32],
     from: usize,
 )
-    requires { (length layout.now ≡ 1280) × (from ≤ shape.code) × Sound s.now layout.now head walked.now shape.code absent.old }
-    ensures { ((ws : List ℕ) → RunsBelow s.now layout.now head walked.now shape rule graph.now.first graph.now.succ chain.now
+    requires { (length layout.now ≡ 1280) × (from ≤ setup.now.shape.code) × Sound s.now layout.now head walked.now setup.now.shape.code absent.old }
+    ensures { ((ws : List ℕ) → RunsBelow s.now layout.now head walked.now setup.now.shape setup.now.rule setup.now.graph.now.first setup.now.graph.now.succ setup.now.chain.now
         last.now ws words.old grew.old from
-        → RunsBelow s.now layout.now head walked.now shape rule graph.now.first graph.now.succ chain.now
-        last.now ws words.new grew.new shape.code)
-        × OwnKept s.now layout.now head walked.now shape.code recent.old recent.new
-        × Sound s.now layout.now head walked.now shape.code absent.new }
+        → RunsBelow s.now layout.now head walked.now setup.now.shape setup.now.rule setup.now.graph.now.first setup.now.graph.now.succ setup.now.chain.now
+        last.now ws words.new grew.new setup.now.shape.code)
+        × OwnKept s.now layout.now head walked.now setup.now.shape.code recent.old recent.new
+        × Sound s.now layout.now head walked.now setup.now.shape.code absent.new }
 {
-    let code = shape.code;
+    let code = setup.shape.code;
     let mut p = from;
     while p < code {
         visit(
-            s, layout, head, walked, shape, rule, words, graph, chain, last, grew, recent, absent,
-            p,
+            s, layout, head, walked, setup, words, last, grew, recent, absent, p,
         );
         p += 1;
     }
@@ -117,32 +109,26 @@ fn sweep(
     layout: &[u16; 1280],
     head: Head,
     walked: &[u32; 32],
-    shape: Shape,
-    rule: EndRule,
+    setup: &Setup,
     words: &mut [u32],
-    graph: &FuncGraph,
-    chain: &[u32; 32],
     last: &[u8; 128],
     recent: &mut [u32],
     absent: &mut [u32],
     list: &[u32],
     to: usize,
 ) -> [u8; 128]
-    requires { (length layout.now ≡ 1280) × Holding s.now layout.now head walked.now shape.code list.now 0 to
-        × Sound s.now layout.now head walked.now shape.code absent.old }
-    ensures { RunsBelow s.now layout.now head walked.now shape rule graph.now.first graph.now.succ chain.now
-        last.now words.old words.new result shape.code
-        × OwnKept s.now layout.now head walked.now shape.code recent.old recent.new
-        × Sound s.now layout.now head walked.now shape.code absent.new }
+    requires { (length layout.now ≡ 1280) × Holding s.now layout.now head walked.now setup.now.shape.code list.now 0 to
+        × Sound s.now layout.now head walked.now setup.now.shape.code absent.old }
+    ensures { RunsBelow s.now layout.now head walked.now setup.now.shape setup.now.rule setup.now.graph.now.first setup.now.graph.now.succ setup.now.chain.now
+        last.now words.old words.new result setup.now.shape.code
+        × OwnKept s.now layout.now head walked.now setup.now.shape.code recent.old recent.new
+        × Sound s.now layout.now head walked.now setup.now.shape.code absent.new }
 {
     let mut grew = [0; 128];
     make_room(recent);
-    infer::run(
-        words, graph, chain, shape, rule, last, &mut grew, recent, list,
-    );
+    setup.run(words, last, &mut grew, recent, list);
     rest(
-        s, layout, head, walked, shape, rule, words, graph, chain, last, &mut grew, recent, absent,
-        to,
+        s, layout, head, walked, setup, words, last, &mut grew, recent, absent, to,
     );
     grew
 }
@@ -153,11 +139,8 @@ pub fn round(
     layout: &[u16; 1280],
     head: Head,
     walked: &[u32; 32],
-    shape: Shape,
-    rule: EndRule,
+    setup: &Setup,
     words: &mut [u32],
-    graph: &FuncGraph,
-    chain: &[u32; 32],
     last: &[u8; 128],
     recent: &mut [u32],
     absent: &mut [u32],
@@ -165,18 +148,17 @@ pub fn round(
     list: &[u32],
     to: usize,
 ) -> [u8; 128]
-    requires { (length layout.now ≡ 1280) × Holding s.now layout.now head walked.now shape.code list.now 0 to × Sound s.now layout.now head walked.now shape.code absent.old }
-    ensures { RoundRuns s.now layout.now head walked.now shape rule graph.now.first graph.now.succ chain.now
+    requires { (length layout.now ≡ 1280) × Holding s.now layout.now head walked.now setup.now.shape.code list.now 0 to × Sound s.now layout.now head walked.now setup.now.shape.code absent.old }
+    ensures { RoundRuns s.now layout.now head walked.now setup.now.shape setup.now.rule setup.now.graph.now.first setup.now.graph.now.succ setup.now.chain.now
         last.now recent.old words.old words.new result
-        × OwnKept s.now layout.now head walked.now shape.code recent.old recent.new
-        × Sound s.now layout.now head walked.now shape.code absent.new }
+        × OwnKept s.now layout.now head walked.now setup.now.shape.code recent.old recent.new
+        × Sound s.now layout.now head walked.now setup.now.shape.code absent.new }
 {
     let mut grew = sweep(
-        s, layout, head, walked, shape, rule, words, graph, chain, last, recent, absent, list, to,
+        s, layout, head, walked, setup, words, last, recent, absent, list, to,
     );
     repeat(
-        s, layout, head, walked, shape, rule, words, graph, chain, &mut grew, recent, before,
-        absent, list, to,
+        s, layout, head, walked, setup, words, &mut grew, recent, before, absent, list, to,
     );
     grew
 }

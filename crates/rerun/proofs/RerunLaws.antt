@@ -1,6 +1,6 @@
 -- Constraints of a job that are run more often. Assumes nothing.
 use mathlib.Core.Path.{◌≡◌, ◌∙◌, subst}
-use mathlib.Core.Logic.{◌⊎◌, ⊎_elim}
+use mathlib.Core.Logic.{⊎_elim}
 use mathlib.Core.List.{List, []}
 use Prim.Native.Nat.{ℕ}
 use lib.ListN.{length, length-replicate}

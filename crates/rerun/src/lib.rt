@@ -9,8 +9,7 @@ ghost use Rattle.constraint_list.specs.Listed.{constraints_in, Draws};
 ghost use Rattle.infer.specs.Ran.{Runs};
 ghost use Rattle.rerun.specs.Rerun.{no_marks, Noted, Holding, RunsAgain, RunsMore, Keeps};
 
-use graph::tables::FuncGraph;
-use infer::{EndRule, Shape};
+use infer::Setup;
 use marks::note;
 use point::point;
 use record::Head;
@@ -20,25 +19,20 @@ const TIMES: u32 = 65536;
 
 // Runs the constraints of the list once, those whose inner set has a mark in `last` or gets one. The answer marks, by 1, the regions whose sets grew, and so does `grew`.
 fn rerun(
+    setup: &Setup,
     words: &mut [u32],
-    graph: &FuncGraph,
-    chain: &[u32; 32],
-    shape: Shape,
-    rule: EndRule,
     last: &[u8; 128],
     grew: &mut [u8; 128],
     recent: &mut [u32],
     list: &[u32],
 ) -> [u8; 128]
-    ensures { Runs shape rule graph.now.first graph.now.succ chain.now last.now (constraints_in list.now)
+    ensures { Runs setup.now.shape setup.now.rule setup.now.graph.now.first setup.now.graph.now.succ setup.now.chain.now last.now (constraints_in list.now)
         words.old no_marks words.new result
         × (length grew.old ≡ 128 → Noted result grew.old grew.new 128)
         × Draws (constraints_in list.now) recent.old recent.new }
 {
     let mut next = [0; 128];
-    infer::run(
-        words, graph, chain, shape, rule, last, &mut next, recent, list,
-    );
+    setup.run(words, last, &mut next, recent, list);
     note(&next, grew);
     next
 }
@@ -46,16 +40,13 @@ fn rerun(
 // Runs the constraints of the list until by them no set grows, at most TIMES times; at first those whose inner set has a mark in `fresh`. Marks, by 1, the regions whose
 // sets grew, in `fresh` and in `grew`.
 fn settle(
+    setup: &Setup,
     words: &mut [u32],
-    graph: &FuncGraph,
-    chain: &[u32; 32],
-    shape: Shape,
-    rule: EndRule,
     fresh: &mut [u8; 128],
     grew: &mut [u8; 128],
     list: &[u32],
 )
-    ensures { RunsAgain shape rule graph.now.first graph.now.succ chain.now (constraints_in list.now)
+    ensures { RunsAgain setup.now.shape setup.now.rule setup.now.graph.now.first setup.now.graph.now.succ setup.now.chain.now (constraints_in list.now)
         words.old grew.old words.new grew.new }
 {
     let mut none = [0; 1];
@@ -66,9 +57,7 @@ fn settle(
         if !infer::any_marked(&last) {
             return;
         }
-        last = rerun(
-            words, graph, chain, shape, rule, &last, grew, &mut none, list,
-        );
+        last = rerun(setup, words, &last, grew, &mut none, list);
         note(&last, fresh);
         left -= 1;
     }
@@ -146,11 +135,8 @@ fn revisit(
     layout: &[u16; 1280],
     head: Head,
     walked: &[u32; 32],
-    shape: Shape,
-    rule: EndRule,
+    setup: &Setup,
     words: &mut [u32],
-    graph: &FuncGraph,
-    chain: &[u32; 32],
     last: &[u8; 128],
     fresh: &mut [u8; 128],
     grew: &mut [u8; 128],
@@ -159,8 +145,8 @@ fn revisit(
     absent: &[u32],
     p: usize,
 )
-    requires { (length layout.now ≡ 1280) × (p < shape.code) }
-    ensures { RunsMore s.now layout.now head walked.now shape rule graph.now.first graph.now.succ chain.now
+    requires { (length layout.now ≡ 1280) × (p < setup.now.shape.code) }
+    ensures { RunsMore s.now layout.now head walked.now setup.now.shape setup.now.rule setup.now.graph.now.first setup.now.graph.now.succ setup.now.chain.now
         recent.old words.old grew.old recent.new words.new grew.new }
 {
     if !bit_set::test(near, 0, p) {
@@ -172,7 +158,7 @@ fn revisit(
     }
     let mut list = [0; 265];
     point(s, layout, head, walked, p, &mut list);
-    let next = rerun(words, graph, chain, shape, rule, last, grew, recent, &list);
+    let next = rerun(setup, words, last, grew, recent, &list);
     note(&next, fresh);
 }
 
@@ -182,11 +168,8 @@ fn revisit_near(
     layout: &[u16; 1280],
     head: Head,
     walked: &[u32; 32],
-    shape: Shape,
-    rule: EndRule,
+    setup: &Setup,
     words: &mut [u32],
-    graph: &FuncGraph,
-    chain: &[u32; 32],
     last: &[u8; 128],
     fresh: &mut [u8; 128],
     grew: &mut [u8; 128],
@@ -195,15 +178,14 @@ fn revisit_near(
     absent: &[u32],
 )
     requires { length layout.now ≡ 1280 }
-    ensures { RunsMore s.now layout.now head walked.now shape rule graph.now.first graph.now.succ chain.now
+    ensures { RunsMore s.now layout.now head walked.now setup.now.shape setup.now.rule setup.now.graph.now.first setup.now.graph.now.succ setup.now.chain.now
         recent.old words.old grew.old recent.new words.new grew.new }
 {
-    let code = shape.code;
+    let code = setup.shape.code;
     let mut p = 0;
     while p < code {
         revisit(
-            s, layout, head, walked, shape, rule, words, graph, chain, last, fresh, grew, recent,
-            near, absent, p,
+            s, layout, head, walked, setup, words, last, fresh, grew, recent, near, absent, p,
         );
         p += 1;
     }
@@ -216,11 +198,8 @@ fn turn(
     layout: &[u16; 1280],
     head: Head,
     walked: &[u32; 32],
-    shape: Shape,
-    rule: EndRule,
+    setup: &Setup,
     words: &mut [u32],
-    graph: &FuncGraph,
-    chain: &[u32; 32],
     last: &[u8; 128],
     grew: &mut [u8; 128],
     recent: &mut [u32],
@@ -229,16 +208,15 @@ fn turn(
     list: &[u32],
 ) -> [u8; 128]
     requires { length layout.now ≡ 1280 }
-    ensures { (to : Point) → Holding s.now layout.now head walked.now shape.code list.now 0 to
-        → RunsMore s.now layout.now head walked.now shape rule graph.now.first graph.now.succ chain.now
+    ensures { (to : Point) → Holding s.now layout.now head walked.now setup.now.shape.code list.now 0 to
+        → RunsMore s.now layout.now head walked.now setup.now.shape setup.now.rule setup.now.graph.now.first setup.now.graph.now.succ setup.now.chain.now
         recent.old words.old grew.old recent.new words.new grew.new }
 {
-    let near = leading(words, before, shape.width, last);
+    let near = leading(words, before, setup.shape.width, last);
     make_room(recent);
-    let mut fresh = rerun(words, graph, chain, shape, rule, last, grew, recent, list);
+    let mut fresh = rerun(setup, words, last, grew, recent, list);
     revisit_near(
-        s, layout, head, walked, shape, rule, words, graph, chain, last, &mut fresh, grew, recent,
-        &near, absent,
+        s, layout, head, walked, setup, words, last, &mut fresh, grew, recent, &near, absent,
     );
     fresh
 }
@@ -249,11 +227,8 @@ fn turns(
     layout: &[u16; 1280],
     head: Head,
     walked: &[u32; 32],
-    shape: Shape,
-    rule: EndRule,
+    setup: &Setup,
     words: &mut [u32],
-    graph: &FuncGraph,
-    chain: &[u32; 32],
     marks: [u8; 128],
     grew: &mut [u8; 128],
     recent: &mut [u32],
@@ -262,8 +237,8 @@ fn turns(
     list: &[u32],
 )
     requires { length layout.now ≡ 1280 }
-    ensures { (to : Point) → Holding s.now layout.now head walked.now shape.code list.now 0 to
-        → RunsMore s.now layout.now head walked.now shape rule graph.now.first graph.now.succ chain.now
+    ensures { (to : Point) → Holding s.now layout.now head walked.now setup.now.shape.code list.now 0 to
+        → RunsMore s.now layout.now head walked.now setup.now.shape setup.now.rule setup.now.graph.now.first setup.now.graph.now.succ setup.now.chain.now
         recent.old words.old grew.old recent.new words.new grew.new }
 {
     let mut last = marks;
@@ -273,10 +248,9 @@ fn turns(
             return;
         }
         last = turn(
-            s, layout, head, walked, shape, rule, words, graph, chain, &last, grew, recent, before,
-            absent, list,
+            s, layout, head, walked, setup, words, &last, grew, recent, before, absent, list,
         );
-        settle(words, graph, chain, shape, rule, &mut last, grew, recent);
+        settle(setup, words, &mut last, grew, recent);
         left -= 1;
     }
 }
@@ -288,11 +262,8 @@ pub fn repeat(
     layout: &[u16; 1280],
     head: Head,
     walked: &[u32; 32],
-    shape: Shape,
-    rule: EndRule,
+    setup: &Setup,
     words: &mut [u32],
-    graph: &FuncGraph,
-    chain: &[u32; 32],
     grew: &mut [u8; 128],
     recent: &mut [u32],
     before: &mut [u32],
@@ -301,18 +272,17 @@ pub fn repeat(
     to: usize,
 )
     requires { length layout.now ≡ 1280 }
-    ensures { Holding s.now layout.now head walked.now shape.code list.now 0 to
-        → RunsMore s.now layout.now head walked.now shape rule graph.now.first graph.now.succ chain.now
+    ensures { Holding s.now layout.now head walked.now setup.now.shape.code list.now 0 to
+        → RunsMore s.now layout.now head walked.now setup.now.shape setup.now.rule setup.now.graph.now.first setup.now.graph.now.succ setup.now.chain.now
         recent.old words.old grew.old recent.new words.new grew.new }
 {
     let mut last = [0; 128];
     note(grew, &mut last);
-    settle(words, graph, chain, shape, rule, &mut last, grew, recent);
-    if shape.code <= to {
+    settle(setup, words, &mut last, grew, recent);
+    if setup.shape.code <= to {
         return;
     }
     turns(
-        s, layout, head, walked, shape, rule, words, graph, chain, last, grew, recent, before,
-        absent, list,
+        s, layout, head, walked, setup, words, last, grew, recent, before, absent, list,
     );
 }

@@ -1,5 +1,4 @@
 -- `regionck::clear`. The loop's invariant: the first r regions have no mark. Assumes nothing.
-use Prim.Native.Nat.{◌-◌}
 use native.Mathlib.Omega.{arith}
 use mathlib.Core.Path.{◌≡◌}
 use Rattle.regionck.proofs.MarkLaws.{cleared-none, cleared_more}

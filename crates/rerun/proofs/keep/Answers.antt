@@ -1,5 +1,4 @@
 -- `rerun::keep`. The loop's invariant: the first i words are kept. Assumes nothing.
-use Prim.Native.Nat.{◌-◌}
 use native.Mathlib.Omega.{arith}
 use Rattle.rerun.proofs.KeepLaws.{keeps-none, keeps-more, keeps-all}
 use borrow.Author.Rules.{rules}

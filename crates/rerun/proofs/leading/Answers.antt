@@ -1,5 +1,4 @@
 -- `rerun::leading` is safe, and ends. Assumes nothing.
-use Prim.Native.Nat.{◌-◌}
 use native.Mathlib.Omega.{arith}
 use Rattle.rerun.proofs.KeepLaws.{start_small}
 use Rattle.rerun.proofs.leading.Goals as goal

@@ -1,5 +1,4 @@
 -- `rerun::revisit_near`. The loop's invariant: more of the job's constraints are run. Assumes nothing.
-use Prim.Native.Nat.{◌-◌}
 use native.Mathlib.Omega.{arith}
 use Rattle.rerun.proofs.RerunLaws.{more-none, more_then}
 use borrow.Author.Rules.{rules}

@@ -1,5 +1,4 @@
 -- `regionck::round::collect` meets its contract. The loop's invariant: the list has the constraints of the points up to p. Assumes nothing.
-use Prim.Native.Nat.{◌-◌}
 use native.Mathlib.Omega.{arith}
 use Rattle.rerun.proofs.PointLaws.{held_none, held_more}
 use borrow.Author.Rules.{rules}

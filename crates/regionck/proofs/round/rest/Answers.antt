@@ -1,5 +1,4 @@
 -- `regionck::round::rest`. The loop's invariant: the constraints of the points from `from` on, up to p, are run. Assumes nothing.
-use Prim.Native.Nat.{◌-◌}
 use native.Mathlib.Omega.{arith}
 use Rattle.rerun.proofs.RerunLaws.{own_same, own_then}
 use Rattle.regionck.proofs.RoundLaws.{below_code}

@@ -1,5 +1,4 @@
 -- `rerun::marks::note`. The loop's invariant: the marks of the first r regions are put to those of `grown`. Assumes nothing.
-use Prim.Native.Nat.{◌-◌}
 use native.Mathlib.Omega.{arith}
 use mathlib.Core.Path.{◌≡◌}
 use Rattle.rerun.proofs.MarkLaws.{noted_none, noted_more}
