@@ -5,7 +5,7 @@ use mathlib.Core.List.{List, [], ◌∷◌}
 use Prim.Native.Nat.{ℕ, zero, suc, ◌*◌, ◌≤◌}
 use native.Mathlib.Nat.{mul-le-mul}
 use native.Mathlib.Omega.{arith}
-use lib.ListN.{length, take}
+use lib.ListN.{length}
 use Rattle.nll_spec.specs.Syntax.{Job}
 use Rattle.nll_spec.specs.Decode.{Decoded, rejected, decoded, decode, point_count}
 use Rattle.nll_spec.specs.WellFormed.{refusal}
@@ -14,7 +14,7 @@ use Rattle.nll_spec.specs.Output.{Outcome, answer, word_count, words_needed, byt
 use Rattle.nll_spec.specs.Meaning.{Room}
 use Rattle.nll_spec.specs.Listing.{line, hex_bytes, answer_lines, listing}
 use Rattle.nll_spec.proofs.OutputLaws.{Leaves, rejecting, overfull, accepting, analyse-leaves}
-use Rattle.listing.specs.Reading.{room}
+use Rattle.listing.specs.Reading.{hex_record}
 use Rattle.listing.specs.Places.{Counted, rest}
 use Rattle.listing.specs.declared.Counts.{Counts}
 use Rattle.listing.specs.declared.Place.TheVariants.{Points}
@@ -26,7 +26,7 @@ unfoldable listing_of : Decoded → List ℕ
 listing_of d = elim d [ rejected n ↦ line "refused" (n ∷ []) | decoded j ↦ answer_lines j (answer every_end j) ]
 
 -- a text is listed as the kept bytes of its record are judged
-listing_by : (text input : List ℕ) {d : Decoded} → take room (hex_bytes text) ≡ input → judge input ≡ d → listing text ≡ listing_of d
+listing_by : (text input : List ℕ) {d : Decoded} → hex_record text ≡ input → judge input ≡ d → listing text ≡ listing_of d
 unfolding listing listing_of
 listing_by text input e q = rw (sym q, sym e, judge-kept (hex_bytes text))
 
@@ -52,7 +52,7 @@ roomy j n ws bs c w b =
     let words : j.regions * word_count (point_count j) ≤ 128 * 32 = mul-le-mul few each in
     (omega arith, omega (arith, c.points, c.point_limit, c.declared, c.declared_limit))
 
-module _ (text input ws bs : List ℕ) (n : Counts) (kept : take room (hex_bytes text) ≡ input) (counted : (j : Job) → decode input ≡ decoded j → Counted j n)
+module _ (text input ws bs : List ℕ) (n : Counts) (kept : hex_record text ≡ input) (counted : (j : Job) → decode input ≡ decoded j → Counted j n)
     (w : length ws ≡ 4096) (b : length bs ≡ 2064) where
   abbrev outcome : Outcome
   outcome = analyse every_end input ws bs
@@ -65,7 +65,7 @@ module _ (text input ws bs : List ℕ) (n : Counts) (kept : take room (hex_bytes
       go : (o : Outcome) → Leaves every_end input ws bs o → (o.number ≡ 0 → ⊥) → listing text ≡ line "refused" (o.number ∷ [])
       go o (rejecting k q l h) z = listing_by text input kept q
       go o (overfull j q no_room) z = absurd (no_room (roomy j n ws bs (counted j (judged-job input j q)) w b))
-      go o (accepting j q e r room) z = absurd (z refl)
+      go o (accepting j q e r fits) z = absurd (z refl)
 
   -- An accepted job's answer is listed from the first place on.
   pub lists_answer : outcome.number ≡ 0 → listing text ≡ rest n outcome.words outcome.bytes Points
@@ -75,4 +75,4 @@ module _ (text input ws bs : List ℕ) (n : Counts) (kept : take room (hex_bytes
       go : (o : Outcome) → Leaves every_end input ws bs o → o.number ≡ 0 → listing text ≡ rest n o.words o.bytes Points
       go o (rejecting k q l h) z = absurd (omega arith)
       go o (overfull j q no_room) z = absurd (omega arith)
-      go o (accepting j q e r room) z = listing_by text input kept q ∙ sym (whole-listing every_end j ws bs n (counted j e))
+      go o (accepting j q e r fits) z = listing_by text input kept q ∙ sym (whole-listing every_end j ws bs n (counted j e))

@@ -3,6 +3,7 @@
 use mathlib.Core.Path.{◌≡◌, refl, sym, ◌∙◌, ap}
 use mathlib.Core.Bool.{Bool, true, false, ◌&&◌, and-false, cond}
 use mathlib.Core.List.{List, [], ◌∷◌, ◌++◌, append_assoc, append-nil}
+use mathlib.Core.Logic.{◌⊎◌, inl, inr}
 use mathlib.Core.Option.{Option, none, some}
 use Prim.Native.Nat.{ℕ, ◌+◌, ◌-◌, ◌*◌, ◌<◌, ◌≤◌}
 use native.Mathlib.Numerals.{add-one}
@@ -15,16 +16,12 @@ use borrow.Author.Tests.{lt-ltb, le-ltb, le-leb, lt-leb, ne_eqb}
 use Rattle.nll_spec.specs.Decode.{Decoded, rejected, decoded, decode_body, decode}
 use Rattle.nll_spec.specs.Output.{judge_job, judge}
 use Rattle.nll_spec.specs.Listing.{is_skipped, between, digit, bytes_from, hex_bytes}
-use Rattle.listing.specs.Reading.{room, value_of, after, Reads, Kept, Feeds, Holds}
-use Rattle.listing.specs.declared.Hex.{Hex}
+use Rattle.listing.specs.Reading.{room, hex_record, after, bytes_after, Reads, Kept, Feeds}
+use Rattle.listing.specs.declared.reader.Hex.{Hex}
+use Rattle.listing.specs.declared.reader.Digits.{Digits}
+use Rattle.listing.specs.declared.reader.Digits.TheVariants.{Paired, Half, Other}
 
 -- ---- A digit
-
-value_some : (d : ℕ) → d < 16 → value_of d ≡ some d
-value_some d h = rw lt-ltb
-
-value_none : (d : ℕ) → 16 ≤ d → value_of d ≡ none
-value_none d h = rw le-ltb
 
 inside : (low high c : ℕ) → low ≤ c → c ≤ high → between low high c ≡ true
 inside low high c h k = rw (le-leb low c h, le-leb c high k)
@@ -34,6 +31,13 @@ under low high c h = rw (lt-leb low c h)
 
 over : (low high c : ℕ) → high < c → between low high c ≡ false
 over low high c h = rw (lt-leb c high h) (and-false (leb low c))
+
+outside : (low high c : ℕ) → (low ≤ c → high < c) → between low high c ≡ false
+outside low high c h = go (dec_lt c low)
+  where
+    go : Dec (c < low) → between low high c ≡ false
+    go (yes l) = under low high c l
+    go (no l) = over low high c (h (omega (arith, l)))
 
 -- the digit, by the three tests
 unfoldable chosen : Bool → Bool → Bool → ℕ → Option ℕ
@@ -47,37 +51,25 @@ module _ (c : ℕ) where
   unfolding digit chosen
   digit_by p q r = rw (sym p, sym q, sym r)
 
-  pub digit-under : c < 48 → none ≡ digit c
+  pub digit_decimal : 48 ≤ c → c ≤ 57 → some (c - 48) ≡ digit c
   unfolding chosen
-  digit-under h = sym (digit_by (under 0x30 0x39 c h) (under 0x41 0x46 c (omega arith)) (under 0x61 0x66 c (omega arith)))
+  digit_decimal h k = sym (digit_by (inside 0x30 0x39 c h k) refl refl)
 
-  pub digit_decimal : 48 ≤ c → c ≤ 57 → value_of (c - 48) ≡ digit c
-  unfolding chosen
-  digit_decimal h k = value_some (c - 48) (omega arith) ∙ sym (digit_by (inside 0x30 0x39 c h k) refl refl)
-
-  pub digit_colon : 57 < c → c < 65 → none ≡ digit c
-  unfolding chosen
-  digit_colon h k = sym (digit_by (over 0x30 0x39 c h) (under 0x41 0x46 c k) (under 0x61 0x66 c (omega arith)))
-
-  pub digit_upper : 65 ≤ c → c ≤ 70 → value_of (c - 65 + 10) ≡ digit c
+  pub digit_upper : 65 ≤ c → c ≤ 70 → some (c - 65 + 10) ≡ digit c
   unfolding chosen
   digit_upper h k =
       let e : c - 65 + 10 ≡ c - 55 = omega arith in
-      value_some (c - 65 + 10) (omega arith) ∙ ap some e ∙ sym (digit_by (over 0x30 0x39 c (omega arith)) (inside 0x41 0x46 c h k) refl)
+      ap some e ∙ sym (digit_by (over 0x30 0x39 c (omega arith)) (inside 0x41 0x46 c h k) refl)
 
-  pub digit_bracket : 70 < c → c < 97 → none ≡ digit c
-  unfolding chosen
-  digit_bracket h k = sym (digit_by (over 0x30 0x39 c (omega arith)) (over 0x41 0x46 c h) (under 0x61 0x66 c k))
-
-  pub digit_lower : 97 ≤ c → c ≤ 102 → value_of (c - 97 + 10) ≡ digit c
+  pub digit_lower : 97 ≤ c → c ≤ 102 → some (c - 97 + 10) ≡ digit c
   unfolding chosen
   digit_lower h k =
       let e : c - 97 + 10 ≡ c - 87 = omega arith in
-      value_some (c - 97 + 10) (omega arith) ∙ ap some e ∙ sym (digit_by (over 0x30 0x39 c (omega arith)) (over 0x41 0x46 c (omega arith)) (inside 0x61 0x66 c h k))
+      ap some e ∙ sym (digit_by (over 0x30 0x39 c (omega arith)) (over 0x41 0x46 c (omega arith)) (inside 0x61 0x66 c h k))
 
-  pub digit-over : 102 < c → none ≡ digit c
+  pub digit_none : (48 ≤ c → 57 < c) → (65 ≤ c → 70 < c) → (97 ≤ c → 102 < c) → none ≡ digit c
   unfolding chosen
-  digit-over h = sym (digit_by (over 0x30 0x39 c (omega arith)) (over 0x41 0x46 c (omega arith)) (over 0x61 0x66 c h))
+  digit_none p q r = sym (digit_by (outside 0x30 0x39 c p) (outside 0x41 0x46 c q) (outside 0x61 0x66 c r))
 
 -- ---- A byte of the text more
 
@@ -120,10 +112,6 @@ after-after : (xs bs : List ℕ) (o : Option (List ℕ)) → after xs (after bs 
 after-after xs bs none = refl
 after-after xs bs (some cs) = ap some (sym (append_assoc xs bs cs))
 
-none-none : (b : Bool) → ◌≡◌ {A = Option (List ℕ)} (cond b none none) none
-none-none true = refl
-none-none false = refl
-
 -- one byte more is kept, or there was no room for it
 module _ (bytes kept : List ℕ) (n byte : ℕ) (size : length kept ≡ room) (count : n ≡ length (take room bytes)) (same : take n kept ≡ take room bytes) where
   abbrev More : ℕ → List ℕ → Type 0
@@ -147,63 +135,55 @@ module _ (bytes kept : List ℕ) (n byte : ℕ) (size : length kept ≡ room) (c
           let less : take room (bytes ++ (byte ∷ [])) ≡ take room bytes = take-append-le room bytes (byte ∷ []) (omega (arith, no_room)) in
           rw (le-ltb n room (omega arith)) (count ∙ ap length (sym less), same ∙ sym less)
 
-module _ {text : List ℕ} {h : Hex} {kept : List ℕ} (m : Reads text h kept) (c : ℕ) where
+module _ {text : List ℕ} {h : Hex} (m : Reads text h) (c : ℕ) where
   -- the meaning of the text with c, by what c's place gives
-  onward : (rest : List ℕ) (o : Option (List ℕ)) → after m.bytes (bytes_from (value_of h.high) (c ∷ rest)) ≡ o
-      → bytes_from none ((text ++ (c ∷ [])) ++ rest) ≡ cond h.bad none o
-  onward rest o e = ap (bytes_from none) (append_assoc text (c ∷ []) rest) ∙ m.means (c ∷ rest) ∙ ap (cond h.bad none) e
+  onward : (rest : List ℕ) {o : Option (List ℕ)} → bytes_after h.digits m.bytes (c ∷ rest) ≡ o → bytes_from none ((text ++ (c ∷ [])) ++ rest) ≡ o
+  onward rest e = ap (bytes_from none) (append_assoc text (c ∷ []) rest) ∙ m.means (c ∷ rest) ∙ e
 
-  pub read_skip : is_skipped c ≡ true → Reads (text ++ (c ∷ [])) h kept
-  read_skip e =
-      record {
-        bytes = m.bytes;
-        means = λ rest. onward rest _ (ap (after m.bytes) (from_skip c rest (value_of h.high) e));
-        count = m.count;
-        same = m.same;
-      }
+  pub read_skip : is_skipped c ≡ true → Reads (text ++ (c ∷ [])) h
+  read_skip e = record { bytes = m.bytes; means = λ rest. onward rest (skip h.digits rest); count = m.count; same = m.same }
+    where
+      skip : (d : Digits) (rest : List ℕ) → bytes_after d m.bytes (c ∷ rest) ≡ bytes_after d m.bytes rest
+      skip Paired rest = ap (after m.bytes) (from_skip c rest none e)
+      skip (Half d) rest = ap (after m.bytes) (from_skip c rest (some d) e)
+      skip Other rest = refl
 
-  module _ (e : is_skipped c ≡ false) (low : ℕ) (v : value_of low ≡ digit c) where
-    pub read_other : 16 ≤ low → Reads (text ++ (c ∷ [])) (record { count = h.count; high = h.high; bad = true }) kept
-    read_other l =
-        record {
-          bytes = m.bytes;
-          means = λ rest. onward rest none (ap (after m.bytes) (from_other c rest (value_of h.high) e (sym v ∙ value_none low l))) ∙ none-none h.bad;
-          count = m.count;
-          same = m.same;
-        }
+  -- only the digits change
+  module _ {h' : Hex} (count : h'.count ≡ h.count) (kept : h'.kept ≡ h.kept) where
+    changed : ((rest : List ℕ) → bytes_after h.digits m.bytes (c ∷ rest) ≡ bytes_after h'.digits m.bytes rest) → Reads (text ++ (c ∷ [])) h'
+    changed e = record { bytes = m.bytes; means = λ rest. onward rest (e rest); count = count ∙ m.count; same = rw (count, kept) m.same }
 
-    pub read_first : low < 16 → 16 ≤ h.high → Reads (text ++ (c ∷ [])) (record { count = h.count; high = low; bad = h.bad }) kept
-    read_first l k =
-        record {
-          bytes = m.bytes;
-          means = λ rest. onward rest _
-              (ap (λ (o : Option ℕ). after m.bytes (bytes_from o (c ∷ rest))) (value_none h.high k)
-              ∙ ap (after m.bytes) (from_first c rest low e (sym v ∙ value_some low l))
-              ∙ ap (λ (o : Option ℕ). after m.bytes (bytes_from o rest)) (sym (value_some low l)));
-          count = m.count;
-          same = m.same;
-        }
+    pub read_more : h.digits ≡ Other → h'.digits ≡ Other → Reads (text ++ (c ∷ [])) h'
+    read_more e e' = changed (λ rest. rw (e, e') refl)
 
-    pub read-second : low < 16 → h.high < 16 → length kept ≡ room → {n' : ℕ} {kept' : List ℕ} → Kept h.count (h.high * 16 + low) kept n' kept'
-        → Reads (text ++ (c ∷ [])) (record { count = n'; high = 16; bad = h.bad }) kept'
-    read-second l k size {n'} {kept'} w =
-        record {
-          bytes = m.bytes ++ ((h.high * 16 + low) ∷ []);
-          means = λ rest. onward rest _
-              (ap (λ (o : Option ℕ). after m.bytes (bytes_from o (c ∷ rest))) (value_some h.high k)
-              ∙ ap (after m.bytes) (from_second c rest h.high low e (sym v ∙ value_some low l))
-              ∙ after-after m.bytes ((h.high * 16 + low) ∷ []) (bytes_from none rest));
-          count = rw w.count more.0;
-          same = rw (w.count, w.same) more.1;
-        }
+    pub read_other : is_skipped c ≡ false → none ≡ digit c → h'.digits ≡ Other → Reads (text ++ (c ∷ [])) h'
+    read_other e v e' = changed (λ rest. rw e' (stop h.digits rest))
       where
-        more : More m.bytes kept h.count (h.high * 16 + low) size m.count m.same (cond (ltb h.count room) (h.count + 1) h.count) (cond (ltb h.count room) (set kept h.count (h.high * 16 + low)) kept)
-        more = kept_more m.bytes kept h.count (h.high * 16 + low) size m.count m.same
+        stop : (d : Digits) (rest : List ℕ) → bytes_after d m.bytes (c ∷ rest) ≡ none
+        stop Paired rest = ap (after m.bytes) (from_other c rest none e (sym v))
+        stop (Half d) rest = ap (after m.bytes) (from_other c rest (some d) e (sym v))
+        stop Other rest = refl
+
+    pub read_first : is_skipped c ≡ false → {d : ℕ} → some d ≡ digit c → h.digits ≡ Paired → h'.digits ≡ Half d → Reads (text ++ (c ∷ [])) h'
+    read_first e {d} v p p' = changed (λ rest. rw (p, p') (ap (after m.bytes) (from_first c rest d e (sym v))))
+
+  pub read_second : is_skipped c ≡ false → {d low : ℕ} → some low ≡ digit c → h.digits ≡ Half d → length h.kept ≡ room → {h' k : Hex} → Kept (d * 16 + low) h k
+      → h'.digits ≡ Paired → h'.count ≡ k.count → h'.kept ≡ k.kept → Reads (text ++ (c ∷ [])) h'
+  read_second e {d} {low} v p size {h'} {k} w p' count kept =
+      record {
+        bytes = m.bytes ++ ((d * 16 + low) ∷ []);
+        means = λ rest. onward rest (rw (p, p') (ap (after m.bytes) (from_second c rest d low e (sym v)) ∙ after-after m.bytes ((d * 16 + low) ∷ []) (bytes_from none rest)));
+        count = rw (count, w.count) more.0;
+        same = rw (count, kept, w.count, w.same) more.1;
+      }
+    where
+      more : More m.bytes h.kept h.count (d * 16 + low) size m.count m.same (cond (ltb h.count room) (h.count + 1) h.count) (cond (ltb h.count room) (set h.kept h.count (d * 16 + low)) h.kept)
+      more = kept_more m.bytes h.kept h.count (d * 16 + low) size m.count m.same
 
 -- ---- The start and the end
 
-pub read_none : (kept : List ℕ) → Reads [] (record { count = 0; high = 16; bad = false }) kept
-read_none kept = record { bytes = []; means = λ rest. whole_of (bytes_from none rest); count = refl; same = refl }
+pub read_none : {h : Hex} → h.digits ≡ Paired → h.count ≡ 0 → Reads [] h
+read_none e n = record { bytes = []; means = λ rest. rw e (whole_of (bytes_from none rest)); count = n; same = rw n refl }
   where
     whole_of : (o : Option (List ℕ)) → o ≡ after [] o
     whole_of none = refl
@@ -213,44 +193,32 @@ read_none kept = record { bytes = []; means = λ rest. whole_of (bytes_from none
 unfoldable or_empty : Option (List ℕ) → List ℕ
 or_empty o = elim o [ none ↦ [] | some bs ↦ bs ]
 
-hex_by : (text : List ℕ) {o : Option (List ℕ)} → bytes_from none text ≡ o → hex_bytes text ≡ or_empty o
-unfolding hex_bytes or_empty
-hex_by text e = rw (sym e)
+module _ {text : List ℕ} {h : Hex} (m : Reads text h) where
+  record_by : (d : Digits) → h.digits ≡ d → take room (or_empty (bytes_after d m.bytes [])) ≡ hex_record text
+  unfolding hex_bytes or_empty
+  record_by d e =
+      let all : bytes_from none text ≡ bytes_after d m.bytes [] = ap (bytes_from none) (sym (append-nil text)) ∙ m.means [] ∙ ap (λ (x : Digits). bytes_after x m.bytes []) e in
+      ap (λ (o : Option (List ℕ)). take room (or_empty o)) (sym all)
 
-module _ {text : List ℕ} {h : Hex} {kept : List ℕ} (m : Reads text h kept) where
-  all : bytes_from none text ≡ cond h.bad none (after m.bytes (bytes_from (value_of h.high) []))
-  all = ap (bytes_from none) (sym (append-nil text)) ∙ m.means []
-
-  no_record : bytes_from none text ≡ none → Holds text 0 kept
-  unfolding or_empty
-  no_record e = record { size = ap (λ (l : List ℕ). length (take room l)) (sym (hex_by text e)); same = ap (take room) (sym (hex_by text e)) }
-
-  pub end_bad : h.bad ≡ true → Holds text 0 kept
-  end_bad e = no_record (all ∙ rw e)
-
-  pub end_odd : h.high < 16 → Holds text 0 kept
-  unfolding bytes_from
-  end_odd l = no_record (all ∙ rw (value_some h.high l) (none-none h.bad))
-
-  pub end_even : h.bad ≡ false → 16 ≤ h.high → Holds text h.count kept
+  pub end_whole : h.digits ≡ Paired → take h.count h.kept ≡ hex_record text
   unfolding bytes_from or_empty
-  end_even e l =
-      let some_bytes : bytes_from none text ≡ some (m.bytes ++ []) = all ∙ rw (e, value_none h.high l) in
-      let is : hex_bytes text ≡ m.bytes = hex_by text some_bytes ∙ append-nil m.bytes in
-      record { size = m.count ∙ ap (λ (l : List ℕ). length (take room l)) (sym is); same = m.same ∙ ap (take room) (sym is) }
+  end_whole e = m.same ∙ ap (take room) (sym (append-nil m.bytes)) ∙ record_by Paired e
+
+  pub end_none : ((d : ℕ) × (h.digits ≡ Half d)) ⊎ (h.digits ≡ Other) → [] ≡ hex_record text
+  unfolding bytes_from or_empty
+  end_none (inl (d, e)) = record_by (Half d) e
+  end_none (inr e) = record_by Other e
 
 -- ---- Pieces
 
-pub feeds-none : (h : Hex) (kept : List ℕ) → length kept ≡ room → Feeds [] h kept h kept
-feeds-none h kept size = record { size = size; feeds = λ text m. rw append-nil m }
+pub feeds_none : (h : Hex) → Feeds [] h h
+feeds_none h text m = rw append-nil m
 
-pub feeds_turn : (piece : List ℕ) (i : ℕ) {h₀ h h' : Hex} {kept₀ kept kept' : List ℕ} → i < length piece
-    → Feeds (take i piece) h₀ kept₀ h kept → Feeds (get_or piece i 0 ∷ []) h kept h' kept' → Feeds (take (i + 1) piece) h₀ kept₀ h' kept'
-feeds_turn piece i l f g =
-    record { size = g.size; feeds = λ text m. rw (add-one, take-suc piece i 0 l, ← append_assoc) (g.feeds (text ++ take i piece) (f.feeds text m)) }
+pub feeds_turn : (piece : List ℕ) (i : ℕ) {h₀ h h' : Hex} → i < length piece → Feeds (take i piece) h₀ h → Feeds (get_or piece i 0 ∷ []) h h' → Feeds (take (i + 1) piece) h₀ h'
+feeds_turn piece i l f g text m = rw (add-one, take-suc piece i 0 l, ← append_assoc) (g (text ++ take i piece) (f text m))
 
-pub feeds-all : (piece : List ℕ) (i : ℕ) {h₀ h : Hex} {kept₀ kept : List ℕ} → length piece ≤ i → Feeds (take i piece) h₀ kept₀ h kept → Feeds piece h₀ kept₀ h kept
-feeds-all piece i l f = rw (take_all i piece l) at f
+pub feeds_all : (piece : List ℕ) (i : ℕ) {h₀ h : Hex} → length piece ≤ i → Feeds (take i piece) h₀ h → Feeds piece h₀ h
+feeds_all piece i l f = rw (take_all i piece l) at f
 
 -- ---- A record that is cut is refused as the whole of it is
 

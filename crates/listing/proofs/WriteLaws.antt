@@ -1,6 +1,6 @@
 -- Texts into a buffer, and the decimal digits of a number.
 -- Assumes nothing.
-use mathlib.Core.Path.{◌≡◌, refl, sym, ◌∙◌, ap}
+use mathlib.Core.Path.{◌≡◌, sym, ◌∙◌, ap}
 use mathlib.Core.Bool.{Bool, true, false}
 use mathlib.Core.List.{List, [], ◌∷◌, ◌++◌, append_assoc, append-nil}
 use Prim.Native.Nat.{ℕ, zero, suc, ◌+◌, ◌/◌, ◌%◌, ◌^◌, ◌<◌, ◌≤◌}
@@ -9,45 +9,35 @@ use native.Mathlib.Numerals.{add-one}
 use native.Mathlib.Nat.{pow-succ'}
 use native.Mathlib.Omega.{arith}
 use native.Mathlib.Decide.{dec_lt}
-use lib.ListN.{length, take, set, get_or, length-append, length-set}
-use lib.Seq.{take-suc, take-suc-set, take-length}
+use lib.ListN.{length, take, get_or, length-append}
 use lib.Dec.{ltb}
 use borrow.Author.Tests.{lt-ltb, le-ltb}
+use Rattle.nll_spec.specs.Lists.{gather}
 use Rattle.nll_spec.specs.Listing.{ascii, digits_of, spaced, line}
-use Rattle.listing.specs.Writing.{Puts}
+use Rattle.listing.specs.Writing.{text_of, Puts}
+use Rattle.listing.specs.declared.writer.Text.{Text}
 
 -- ---- Texts one after the other
 
 pub join : (u v w x : List ℕ) → ((u ++ v) ++ w) ++ x ≡ u ++ (v ++ (w ++ x))
 join u v w x = append_assoc (u ++ v) w x ∙ append_assoc u v (w ++ x)
 
-pub puts_none : (at : ℕ) (old : List ℕ) → Puts [] at old at old
-puts_none at old = record { ends = omega arith; size = refl; same = sym (append-nil (take at old)) }
+pub puts_none : (t : Text) → Puts [] t t
+puts_none t = record { ends = omega arith; same = sym (append-nil (text_of t)) }
 
-pub puts-byte : (byte at : ℕ) (old : List ℕ) → at < length old → Puts (byte ∷ []) at old (at + 1) (set old at byte)
-puts-byte byte at old h =
-    record { ends = refl; size = length-set old at byte; same = ap (λ (k : ℕ). take k (set old at byte)) (add-one at) ∙ take-suc-set old at byte h }
-
-pub puts_then : {a b : List ℕ} {at mid next : ℕ} {old between new : List ℕ} → Puts a at old mid between → Puts b mid between next new → Puts (a ++ b) at old next new
-puts_then {a} {b} {at} {mid} {next} {old} {between} {new} p q =
+pub puts_then : {a b : List ℕ} {old between new : Text} → Puts a old between → Puts b between new → Puts (a ++ b) old new
+puts_then {a} {b} {old} p q =
     record {
       ends = q.ends ∙ ap (λ (k : ℕ). k + length b) p.ends ∙ omega (arith, length-append a b);
-      size = q.size ∙ p.size;
-      same = q.same ∙ ap (λ (l : List ℕ). l ++ b) p.same ∙ append_assoc (take at old) a b;
+      same = q.same ∙ ap (λ (l : List ℕ). l ++ b) p.same ∙ append_assoc (text_of old) a b;
     }
 
-pub puts_as : {a b : List ℕ} {at next : ℕ} {old new : List ℕ} → a ≡ b → Puts a at old next new → Puts b at old next new
+pub puts_as : {a b : List ℕ} {old new : Text} → a ≡ b → Puts a old new → Puts b old new
 puts_as e p = rw (sym e) p
 
--- a word, byte by byte
-pub puts_turn : (word : List ℕ) (at i : ℕ) {old out : List ℕ} → i < length word → at + i < length out → Puts (take i word) at old (at + i) out
-    → Puts (take (i + 1) word) at old (at + (i + 1)) (set out (at + i) (get_or word i 0))
-puts_turn word at i {old} {out} l k p =
-    let e : at + (i + 1) ≡ at + i + 1 = omega arith in
-    rw (e, add-one i, take-suc word i 0 l) (puts_then p (puts-byte (get_or word i 0) (at + i) out k))
-
-pub puts-all : (word : List ℕ) (at i : ℕ) {old out : List ℕ} → i ≡ length word → Puts (take i word) at old (at + i) out → Puts word at old (at + length word) out
-puts-all word at i e p = rw (e, take-length word) at p
+-- a text put into an empty one
+pub puts_first : {a : List ℕ} {old new : Text} → old.used ≡ 0 → Puts a old new → text_of new ≡ a
+puts_first {a} {old} e p = p.same ∙ ap (λ (k : ℕ). take k old.bytes ++ a) e
 
 -- ---- Decimal digits
 
@@ -100,14 +90,12 @@ decimal_short (suc k) n h = go (λ m. decimal_short k (n / 10) (omega (arith, rw
 pub decimal_room : (n : ℕ) → n ≤ 65535 → length (digits_of (suc n) n) ≤ 5
 decimal_room n h = decimal_short 4 n (omega arith)
 
-module _ (n : ℕ) {at : ℕ} {old : List ℕ} where
-  pub number-last : n < 10 → {d next : ℕ} {new : List ℕ} → d ≡ 48 + n → Puts (d ∷ []) at old next new → Puts (digits_of (suc n) n) at old next new
-  number-last h e p = puts_as (ap (λ (x : ℕ). x ∷ []) e ∙ sym (decimal_last n h)) p
+pub number_last : (n : ℕ) → n < 10 → {d : ℕ} {old new : Text} → d ≡ 48 + n % 10 → Puts (d ∷ []) old new → Puts (digits_of (suc n) n) old new
+number_last n h e p = puts_as (ap (λ (x : ℕ). x ∷ []) (e ∙ omega arith) ∙ sym (decimal_last n h)) p
 
-  pub number_more : 10 ≤ n → {d mid next : ℕ} {between new : List ℕ} → d ≡ 48 + n % 10 → Puts (digits_of (suc (n / 10)) (n / 10)) at old mid between
-      → Puts (d ∷ []) mid between next new → Puts (digits_of (suc n) n) at old next new
-  number_more h {d} e p q =
-      puts_as (ap (λ (x : ℕ). digits_of (suc (n / 10)) (n / 10) ++ (x ∷ [])) e ∙ sym (decimal_more n h)) (puts_then p q)
+pub number_more : (n : ℕ) → 10 ≤ n → {d : ℕ} {old between new : Text} → d ≡ 48 + n % 10 → Puts (digits_of (suc (n / 10)) (n / 10)) old between → Puts (d ∷ []) between new
+    → Puts (digits_of (suc n) n) old new
+number_more n h e p q = puts_as (ap (λ (x : ℕ). digits_of (suc (n / 10)) (n / 10) ++ (x ∷ [])) e ∙ sym (decimal_more n h)) (puts_then p q)
 
 -- ---- Lines
 
@@ -141,3 +129,15 @@ line-room_three word a b d h k l =
       pair_room (ascii word ++ spaced a) b k,
       pair_room (ascii word) a h,
     )
+
+-- so many numbers after a word
+pub gather_turn : (word ns : List ℕ) (i : ℕ) {old between new : Text} → i < length ns → Puts (word ++ gather spaced (take i ns)) old between
+    → Puts (spaced (get_or ns i 0)) between new → Puts (word ++ gather spaced (take (i + 1) ns)) old new
+gather_turn word ns i l p q =
+    rw (add-one i) (puts_as (append_assoc word (gather spaced (take i ns)) (spaced (get_or ns i 0)) ∙ ap (λ (x : List ℕ). word ++ x) (more ns i l)) (puts_then p q))
+  where
+    more : (ns : List ℕ) (i : ℕ) → i < length ns → gather spaced (take i ns) ++ spaced (get_or ns i 0) ≡ gather spaced (take (suc i) ns)
+    more [] i l = absurd (omega arith)
+    more (n ∷ ns) zero l = sym (append-nil (spaced n))
+    more (n ∷ ns) (suc i) l =
+        append_assoc (spaced n) (gather spaced (take i ns)) (spaced (get_or ns i 0)) ∙ ap (λ (x : List ℕ). spaced n ++ x) (more ns i (omega arith))

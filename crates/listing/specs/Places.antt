@@ -1,18 +1,18 @@
 -- The listing of an answer from each of its places on, by the words and bytes that the analysis wrote.
-use Rattle.std.specs.Prelude.{◌≡◌, Bool, true, false, cond, List, [], ◌∷◌, ◌++◌, ℕ, ◌+◌, ◌-◌, ◌*◌, ◌≤◌, length, take, get_or, eqb}
+use Rattle.std.specs.Prelude.{◌≡◌, Bool, true, false, cond, List, [], ◌∷◌, ◌++◌, ℕ, ◌+◌, ◌-◌, ◌*◌, ◌≤◌, length, get_or, eqb}
 use Rattle.nll_spec.specs.Lists.{gather, count_from}
 use Rattle.nll_spec.specs.Syntax.{Job}
 use Rattle.nll_spec.specs.Decode.{max_regions, max_declared, max_points, point_count}
 use Rattle.nll_spec.specs.Output.{word_bits, word_count, verdict_bytes}
 use Rattle.nll_spec.specs.Listing.{ascii, spaced, line}
 use Rattle.bit_set.specs.Bits.{has}
-use Rattle.listing.specs.Writing.{Puts}
+use Rattle.listing.specs.Writing.{text_of, Puts}
 use Rattle.listing.specs.declared.Counts.{Counts}
-use Rattle.listing.specs.declared.Chunk.{Chunk}
+use Rattle.listing.specs.declared.writer.Text.{Text}
 use Rattle.listing.specs.declared.Place.{Place}
 use Rattle.listing.specs.declared.Place.TheVariants.{Points, Region, Within, Access, Grown, Done}
 
--- The counts are those of the job, within document 01's limits.
+-- The counts are those of the job, within the limits of a record.
 pub record Counted (j : Job) (n : Counts) : Type 0 where
   pub points : n.points ≡ point_count j
   pub regions : n.regions ≡ j.regions
@@ -91,17 +91,15 @@ pub record Follows (n : Counts) (r : ℕ) (place : Place) : Type 0 where
   pub goes : (ws bs : List ℕ) → rest n ws bs place ≡ region_from n ws bs (r + 1)
   pub less : left n place ≤ (n.regions - (r + 1)) * 70000 + n.points + n.declared + 3
 
--- A step: a short text is put, which comes first at the place, and the place that follows is nearer to the end.
-pub record Steps (n : Counts) (ws bs : List ℕ) (from : Place) (at : ℕ) (old : List ℕ) (r : Chunk) (new : List ℕ) : Type 0 where
-  pub text : List ℕ
-  pub puts : Puts text at old r.used new
-  pub short : length text ≤ 32
-  pub goes : rest n ws bs from ≡ text ++ rest n ws bs r.next
-  pub less : left n r.next ≤ left n from - 1
+-- A step: a few bytes are put, which come first at the place, and the place that follows is nearer to the end.
+pub record Steps (n : Counts) (ws bs : List ℕ) (from : Place) (old : Text) (next : Place) (new : Text) : Type 0 where
+  pub bytes : List ℕ
+  pub puts : Puts bytes old new
+  pub short : length bytes ≤ 32
+  pub goes : rest n ws bs from ≡ bytes ++ rest n ws bs next
+  pub less : left n next ≤ left n from - 1
 
--- A chunk: what the buffer holds comes first at the place, and then all from the place that follows, which is nearer to the end.
-pub record Fills (n : Counts) (ws bs : List ℕ) (from : Place) (r : Chunk) (out : List ℕ) : Type 0 where
-  pub size : length out ≡ 4096
-  pub within : r.used ≤ 4096
-  pub goes : rest n ws bs from ≡ take r.used out ++ rest n ws bs r.next
-  pub less : left n r.next ≤ left n from - 1
+-- A chunk: the text comes first at the place, and then all from the place that follows, which is nearer to the end.
+pub record Fills (n : Counts) (ws bs : List ℕ) (from next : Place) (text : Text) : Type 0 where
+  pub goes : rest n ws bs from ≡ text_of text ++ rest n ws bs next
+  pub less : left n next ≤ left n from - 1

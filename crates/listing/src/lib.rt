@@ -1,24 +1,12 @@
 #![tactic(auto)]
 // What `nll-list` reads and prints, in pieces: the record in hexadecimal, and the lines of its answer.
-mod decimal;
-mod lines;
 mod places;
 mod reader;
+mod writer;
 
-pub use lines::refused;
-pub use places::{count, fill, is_done};
-pub use reader::{feed, finish, start};
-
-// How many bytes of a record are kept: one more than the longest record has.
-pub const ROOM: usize = 16388;
-
-// A text that was read so far: how many bytes of its record are kept, a first digit that waits for its second, or 16, and whether other text came.
-#[derive(Clone, Copy)]
-pub struct Hex {
-    pub count: usize,
-    pub high: u8,
-    pub bad: bool,
-}
+pub use places::{Answer, count};
+pub use reader::Hex;
+pub use writer::Text;
 
 // How many points, regions and declared regions an answer has.
 #[derive(Clone, Copy)]
@@ -37,11 +25,4 @@ pub enum Place {
     Access(u16),
     Grown(u8),
     Done,
-}
-
-// How many bytes of a buffer are used, and the place that follows what stands there.
-#[derive(Clone, Copy)]
-pub struct Chunk {
-    pub used: usize,
-    pub next: Place,
 }

@@ -1,185 +1,151 @@
-// The lines of an answer, from the words and bytes that the analysis wrote: each step puts what comes next at a place of the listing.
-ghost use Rattle.std.specs.Prelude.{◌≡◌, List, ℕ, ◌+◌, ◌≤◌, length, get_or};
+// The lines of an answer: each step puts what comes next at a place of the listing.
+ghost use Rattle.std.specs.Prelude.{◌≡◌, ◌+◌, ◌≤◌, get_or};
 ghost use Rattle.nll_spec.specs.Syntax.{Job};
 ghost use Rattle.nll_spec.specs.Decode.{decode, decoded};
 ghost use Rattle.listing.specs.Places.{in_set, is_done, Counted, Follows, Steps, Fills};
 
-use super::decimal::{put_byte, put_spaced};
-use super::lines::{put_access, put_grown, put_points, put_region};
-use super::{Chunk, Counts, Place};
+use super::writer::Text;
+use super::{Counts, Place};
 use record::Decoded;
 
-fn wide(x: u16) -> usize
-    ensures { (result ≡ x) × (result ≤ 65535) }
-{
-    x as usize
+// How many steps one text takes at most.
+const STEPS: usize = 4096;
+
+// The words and bytes that the analysis wrote, and how many points and regions they are of.
+#[derive(Clone, Copy)]
+pub struct Answer<'a> {
+    pub words: &'a [u32],
+    pub bytes: &'a [u8],
+    pub counts: Counts,
 }
 
-fn number(x: u8) -> u16
-    ensures { (result ≡ x) × (result ≤ 255) }
-{
-    x as u16
-}
+impl Answer<'_> {
+    // Whether point p is in region r's set.
+    fn in_set(&self, r: u8, p: u16) -> bool
+        ensures { result ≡ in_set self.now.words.now self.now.counts.points r p }
+    {
+        let each = usize::from(self.counts.points).div_ceil(32);
+        bit_set::test(self.words, usize::from(r) * each, usize::from(p))
+    }
 
-// The byte at i, or 0 past the end.
-fn byte_at(bytes: &[u8], i: usize) -> u8
-    ensures { result ≡ get_or bytes.now i 0 }
-{
-    if i < bytes.len() {
-        return bytes[i];
+    // The byte at i, or 0 past the end.
+    fn byte(&self, i: usize) -> u8
+        ensures { result ≡ get_or self.now.bytes.now i 0 }
+    {
+        self.bytes.get(i).copied().unwrap_or(0)
     }
-    0
-}
 
-// Whether point p is in region r's set.
-fn in_set(words: &[u32], points: u16, r: u8, p: u16) -> bool
-    ensures { result ≡ in_set words.now points r p }
-{
-    let each = (wide(points) + 31) / 32;
-    bit_set::test(words, wide(number(r)) * each, wide(p))
-}
+    // The place after region r's line.
+    fn after_region(&self, r: u8) -> Place
+        ensures { Follows self.now.counts r result }
+    {
+        if r < self.counts.regions {
+            Place::Region(r + 1)
+        } else {
+            Place::Access(0)
+        }
+    }
 
-// At the beginning of a region's line.
-fn at_region(n: Counts, r: u8, out: &mut [u8], at: usize) -> Chunk
-    requires { at + 32 ≤ length out.old }
-    ensures { (ws bs : List ℕ) → Steps n ws bs (Place.Region r) at out.old result out.new }
-{
-    if n.regions <= r {
-        return Chunk {
-            used: at,
-            next: Place::Access(0),
-        };
+    // At the beginning of a region's line.
+    fn at_region(&self, r: u8, text: &mut Text) -> Place
+        requires { text.old.used + 32 ≤ 4096 }
+        ensures { Steps self.now.counts self.now.words.now self.now.bytes.now (Place.Region r) text.old result text.new }
+    {
+        if r >= self.counts.regions {
+            return Place::Access(0);
+        }
+        text.word(b"region");
+        text.spaced(u16::from(r));
+        Place::Within(r, 0)
     }
-    Chunk {
-        used: put_region(out, at, number(r)),
-        next: Place::Within(r, 0),
-    }
-}
 
-// The place after region r's line.
-fn after_region(n: Counts, r: u8) -> Place
-    ensures { Follows n r result }
-{
-    if n.regions <= r {
-        return Place::Access(0);
+    // Within a region's line.
+    fn within(&self, r: u8, p: u16, text: &mut Text) -> Place
+        requires { text.old.used + 32 ≤ 4096 }
+        ensures { Steps self.now.counts self.now.words.now self.now.bytes.now (Place.Within r p) text.old result text.new }
+    {
+        if p >= self.counts.points {
+            text.byte(b'\n');
+            return self.after_region(r);
+        }
+        if self.in_set(r, p) {
+            text.spaced(p);
+        }
+        Place::Within(r, p + 1)
     }
-    Place::Region(r + 1)
-}
 
-// Within a region's line.
-fn within(words: &[u32], n: Counts, r: u8, p: u16, out: &mut [u8], at: usize) -> Chunk
-    requires { at + 32 ≤ length out.old }
-    ensures { (bs : List ℕ) → Steps n words.now bs (Place.Within r p) at out.old result out.new }
-{
-    if n.points <= p {
-        return Chunk {
-            used: put_byte(out, at, b'\n'),
-            next: after_region(n, r),
-        };
+    // At a point's line.
+    fn at_access(&self, p: u16, text: &mut Text) -> Place
+        requires { text.old.used + 32 ≤ 4096 }
+        ensures { Steps self.now.counts self.now.words.now self.now.bytes.now (Place.Access p) text.old result text.new }
+    {
+        if p >= self.counts.points {
+            return Place::Grown(0);
+        }
+        let at = 2 * usize::from(p);
+        let kind = self.byte(at);
+        if kind != 0 {
+            let operand = self.byte(at + 1);
+            text.line(b"access", &[p, u16::from(kind), u16::from(operand)]);
+        }
+        Place::Access(p + 1)
     }
-    let next = Place::Within(r, p + 1);
-    if in_set(words, n.points, r, p) {
-        return Chunk {
-            used: put_spaced(out, at, p),
-            next,
-        };
-    }
-    Chunk { used: at, next }
-}
 
-// At a point's line.
-fn at_access(bytes: &[u8], n: Counts, p: u16, out: &mut [u8], at: usize) -> Chunk
-    requires { at + 32 ≤ length out.old }
-    ensures { (ws : List ℕ) → Steps n ws bytes.now (Place.Access p) at out.old result out.new }
-{
-    if n.points <= p {
-        return Chunk {
-            used: at,
-            next: Place::Grown(0),
-        };
+    // At a declared region's line.
+    fn at_grown(&self, r: u8, text: &mut Text) -> Place
+        requires { text.old.used + 32 ≤ 4096 }
+        ensures { Steps self.now.counts self.now.words.now self.now.bytes.now (Place.Grown r) text.old result text.new }
+    {
+        if r >= self.counts.declared {
+            return Place::Done;
+        }
+        let at = 2 * usize::from(self.counts.points) + usize::from(r);
+        if self.byte(at) != 0 {
+            text.line(b"grown", &[u16::from(r)]);
+        }
+        Place::Grown(r + 1)
     }
-    let next = Place::Access(p + 1);
-    let kind = byte_at(bytes, 2 * wide(p));
-    if kind == 0 {
-        return Chunk { used: at, next };
-    }
-    let operand = byte_at(bytes, 2 * wide(p) + 1);
-    Chunk {
-        used: put_access(out, at, p, number(kind), number(operand)),
-        next,
-    }
-}
 
-// At a declared region's line.
-fn at_grown(bytes: &[u8], n: Counts, r: u8, out: &mut [u8], at: usize) -> Chunk
-    requires { at + 32 ≤ length out.old }
-    ensures { (ws : List ℕ) → Steps n ws bytes.now (Place.Grown r) at out.old result out.new }
-{
-    if n.declared <= r {
-        return Chunk {
-            used: at,
-            next: Place::Done,
-        };
+    // Puts what comes next at a place.
+    fn step(&self, from: Place, text: &mut Text) -> Place
+        requires { text.old.used + 32 ≤ 4096 }
+        ensures { Steps self.now.counts self.now.words.now self.now.bytes.now from text.old result text.new }
+    {
+        match from {
+            Place::Points => {
+                text.line(b"points", &[self.counts.points]);
+                Place::Region(0)
+            }
+            Place::Region(r) => self.at_region(r, text),
+            Place::Within(r, p) => self.within(r, p, text),
+            Place::Access(p) => self.at_access(p, text),
+            Place::Grown(r) => self.at_grown(r, text),
+            Place::Done => Place::Done,
+        }
     }
-    let next = Place::Grown(r + 1);
-    if byte_at(bytes, 2 * wide(n.points) + wide(number(r))) == 0 {
-        return Chunk { used: at, next };
-    }
-    Chunk {
-        used: put_grown(out, at, number(r)),
-        next,
-    }
-}
 
-// Puts what comes next at a place.
-fn step(words: &[u32], bytes: &[u8], n: Counts, from: Place, out: &mut [u8], at: usize) -> Chunk
-    requires { at + 32 ≤ length out.old }
-    ensures { Steps n words.now bytes.now from at out.old result out.new }
-{
-    match from {
-        Place::Points => Chunk {
-            used: put_points(out, at, n.points),
-            next: Place::Region(0),
-        },
-        Place::Region(r) => at_region(n, r, out, at),
-        Place::Within(r, p) => within(words, n, r, p, out, at),
-        Place::Access(p) => at_access(bytes, n, p, out, at),
-        Place::Grown(r) => at_grown(bytes, n, r, out, at),
-        Place::Done => Chunk {
-            used: at,
-            next: Place::Done,
-        },
+    // Makes a text of what comes next at a place, until it has room for fewer than 32 bytes or 4,096 steps were made, and answers the place that follows.
+    pub fn fill(&self, from: Place, text: &mut Text) -> Place
+        ensures { Fills self.now.counts self.now.words.now self.now.bytes.now from result text.new }
+    {
+        text.clear();
+        let mut place = from;
+        for _ in 0..STEPS {
+            if text.room() < 32 {
+                break;
+            }
+            place = self.step(place, text);
+        }
+        place
     }
 }
 
-// Puts what comes next at a place into a buffer, until fewer than 32 bytes are left or 4,096 steps were made.
-pub fn fill(words: &[u32], bytes: &[u8], n: Counts, from: Place, out: &mut [u8; 4096]) -> Chunk
-    requires { length out.old ≡ 4096 }
-    ensures { Fills n words.now bytes.now from result out.new }
-{
-    let mut used = 0;
-    let mut place = from;
-    let mut steps: usize = 0;
-    while used <= 4064 && steps < 4096 {
-        let made = step(words, bytes, n, place, out, used);
-        used = made.used;
-        place = made.next;
-        steps += 1;
-    }
-    Chunk { used, next: place }
-}
-
-// Whether nothing comes at a place any more.
-pub fn is_done(place: Place) -> bool
-    ensures { result ≡ is_done place }
-{
-    match place {
-        Place::Points => false,
-        Place::Region(_) => false,
-        Place::Within(_, _) => false,
-        Place::Access(_) => false,
-        Place::Grown(_) => false,
-        Place::Done => true,
+impl Place {
+    // Whether nothing comes at the place any more.
+    pub fn is_done(self) -> bool
+        ensures { result ≡ is_done self }
+    {
+        matches!(self, Place::Done)
     }
 }
 
@@ -195,7 +161,7 @@ pub fn count(s: &[u8]) -> Counts
             declared: 0,
         },
         Decoded::Job(h) => Counts {
-            points: h.code + number(h.declared),
+            points: h.code + u16::from(h.declared),
             regions: h.regions,
             declared: h.declared,
         },

@@ -1,115 +1,109 @@
 // Hexadecimal in, in pieces of any length.
-ghost use Rattle.std.specs.Prelude.{◌≡◌, List, [], ◌∷◌, ℕ, length};
+ghost use Rattle.std.specs.Prelude.{◌≡◌, ◌≤◌, ◌<◌, List, [], ◌∷◌, ℕ, length, IfSome};
 ghost use Rattle.nll_spec.specs.Listing.{is_skipped, digit};
-ghost use Rattle.listing.specs.Reading.{value_of, Kept, Reads, Feeds, Holds};
+ghost use Rattle.listing.specs.Digits.{value_of, waiting};
+ghost use Rattle.listing.specs.declared.reader.TheConstants.{ROOM};
 
-use super::{Hex, ROOM};
+// How many bytes of a record are kept: one more than the longest record has.
+pub const ROOM: usize = 16388;
+
+// The digits that were read so far: pairs, pairs and one digit more, or other text as well.
+#[derive(Clone, Copy)]
+pub enum Digits {
+    Paired,
+    Half(u8),
+    Other,
+}
+
+// A text that was read so far: its digits, and the first bytes of its record.
+#[derive(Drop)]
+pub struct Hex {
+    digits: Digits,
+    kept: [u8; ROOM],
+    count: usize,
+    ghost digit: { waiting digits < 16 },
+    ghost room: { count ≤ ROOM },
+}
+
+impl Hex {
+    ghost use Rattle.listing.specs.Reading.{hex_record, Kept, Reads, Feeds};
+
+    // No text.
+    pub fn new() -> Hex
+        ensures { Reads [] result }
+    {
+        Hex {
+            digits: Digits::Paired,
+            kept: [0; ROOM],
+            count: 0,
+        }
+    }
+
+    // Keeps a byte where there is room.
+    fn keep(&mut self, byte: u8)
+        ensures { Kept byte self.old self.new }
+    {
+        if self.count < ROOM {
+            self.kept[self.count] = byte;
+            self.count += 1;
+        }
+    }
+
+    fn feed_byte(&mut self, c: u8)
+        ensures { Feeds (c ∷ []) self.old self.new }
+    {
+        if is_skipped(c) {
+            return;
+        }
+        let Some(low) = digit(c) else {
+            self.digits = Digits::Other;
+            return;
+        };
+        match self.digits {
+            Digits::Paired => self.digits = Digits::Half(low),
+            Digits::Half(high) => {
+                self.keep(high * 16 + low);
+                self.digits = Digits::Paired;
+            }
+            Digits::Other => {}
+        }
+    }
+
+    // A piece more of the text.
+    pub fn feed(&mut self, piece: &[u8])
+        ensures { Feeds piece.now self.old self.new }
+    {
+        for c in piece {
+            self.feed_byte(*c);
+        }
+    }
+
+    // The record of the whole text, as far as it is kept.
+    pub fn finish(&self) -> &[u8]
+        ensures { (text : List ℕ) → Reads text self.now → result.now ≡ hex_record text }
+    {
+        match self.digits {
+            Digits::Paired => &self.kept[..self.count],
+            Digits::Half(_) | Digits::Other => &[],
+        }
+    }
+}
 
 fn is_skipped(c: u8) -> bool
     ensures { result ≡ is_skipped c }
 {
-    (c == b' ') | (c == b'\n') | (c == b'\r')
+    matches!(c, b' ' | b'\n' | b'\r')
 }
 
-// The value of a digit, or 16 for any other byte.
-fn digit(c: u8) -> u8
-    ensures { value_of result ≡ digit c }
+// The value of a digit.
+fn digit(c: u8) -> Option<u8>
+    ensures value { value_of result ≡ digit c }
+    ensures small { IfSome result (λ d. d < 16) }
 {
-    if c < b'0' {
-        return 16;
+    match c {
+        b'0'..=b'9' => Some(c - b'0'),
+        b'A'..=b'F' => Some(c - b'A' + 10),
+        b'a'..=b'f' => Some(c - b'a' + 10),
+        _ => None,
     }
-    if c <= b'9' {
-        return c - b'0';
-    }
-    if c < b'A' {
-        return 16;
-    }
-    if c <= b'F' {
-        return c - b'A' + 10;
-    }
-    if c < b'a' {
-        return 16;
-    }
-    if c <= b'f' {
-        return c - b'a' + 10;
-    }
-    16
-}
-
-// Keeps a byte where there is room, and answers how many are kept.
-fn keep(count: usize, byte: u8, kept: &mut [u8; 16388]) -> usize
-    requires { length kept.old ≡ 16388 }
-    ensures { Kept count byte kept.old result kept.new }
-{
-    if count < ROOM {
-        kept[count] = byte;
-        return count + 1;
-    }
-    count
-}
-
-fn feed_byte(text: Hex, c: u8, kept: &mut [u8; 16388]) -> Hex
-    requires { length kept.old ≡ 16388 }
-    ensures { Feeds (c ∷ []) text kept.old result kept.new }
-{
-    if is_skipped(c) {
-        return text;
-    }
-    let low = digit(c);
-    let high = text.high;
-    if 16 <= low {
-        return Hex {
-            count: text.count,
-            high,
-            bad: true,
-        };
-    }
-    if 16 <= high {
-        return Hex {
-            count: text.count,
-            high: low,
-            bad: text.bad,
-        };
-    }
-    Hex {
-        count: keep(text.count, high * 16 + low, kept),
-        high: 16,
-        bad: text.bad,
-    }
-}
-
-// No text.
-pub fn start() -> Hex
-    ensures { (bs : List ℕ) → Reads [] result bs }
-{
-    Hex {
-        count: 0,
-        high: 16,
-        bad: false,
-    }
-}
-
-// The text with a piece more.
-pub fn feed(text: Hex, piece: &[u8], kept: &mut [u8; 16388]) -> Hex
-    requires { length kept.old ≡ 16388 }
-    ensures { Feeds piece.now text kept.old result kept.new }
-{
-    let mut so_far = text;
-    for i in 0..piece.len() {
-        so_far = feed_byte(so_far, piece[i], kept);
-    }
-    so_far
-}
-
-// How many of the kept bytes are the record of the whole text.
-pub fn finish(text: Hex) -> usize
-    ensures { (read bs : List ℕ) → Reads read text bs → Holds read result bs }
-{
-    if text.bad {
-        return 0;
-    }
-    if text.high < 16 {
-        return 0;
-    }
-    text.count
 }

@@ -1,5 +1,5 @@
 -- Whether the call's outcome is an entry's. Assumes nothing.
-use mathlib.Core.Path.{◌≡◌, sym, ap, ap₂, ◌∙◌}
+use mathlib.Core.Path.{◌≡◌, refl, sym, ap, ap₂, ◌∙◌}
 use mathlib.Core.Bool.{Bool, false, ◌&&◌}
 use mathlib.Core.List.{List}
 use Prim.Native.Nat.{ℕ}
@@ -25,9 +25,9 @@ module _ (s : List ℕ) (e : Entry) {n m : ℕ} {ws bs : List ℕ} (a : AnalyseS
       (sym (ne_eqb o.number (get_or s e.number 0) (λ q. h (a.number ∙ q ∙ sym there))))
 
   -- the same number
-  pub agree-rest : {v w : Bool} → n ≡ m → v ≡ same_list ws (overwrite (words_at s e.words e.count) words_before) → w ≡ same_list bs (overwrite (part_of s e.bytes e.end) bytes_before) → (v && w) ≡ agrees s e
+  pub agree_rest : {v w : Bool} → n ≡ m → v ≡ same_list ws (overwrite (words_at s e.words e.count) words_before) → w ≡ same_list bs (overwrite (part_of s e.bytes e.end) bytes_before) → (v && w) ≡ agrees s e
   unfolding agrees
-  agree-rest q f g =
+  agree_rest q f g =
       let o = outcome_of (part_of s e.input e.number) in
       ap₂
       ◌&&◌
@@ -39,3 +39,7 @@ module _ (s : List ℕ) (e : Entry) {n m : ℕ} {ws bs : List ℕ} (a : AnalyseS
       && same_list o.words (overwrite (words_at s e.words e.count) words_before)
       && same_list o.bytes (overwrite (part_of s e.bytes e.end) bytes_before))
       (sym (eq-eqb o.number (get_or s e.number 0) (sym a.number ∙ q ∙ there)))
+
+  -- other words
+  pub agree_not : {v : Bool} → n ≡ m → v ≡ same_list ws (overwrite (words_at s e.words e.count) words_before) → v ≡ false → v ≡ agrees s e
+  agree_not {v} q f z = z ∙ ap (λ (b : Bool). b && same_list bs (overwrite (part_of s e.bytes e.end) bytes_before)) (sym z) ∙ agree_rest q f refl

@@ -1,15 +1,14 @@
 -- Entries of a file, and how many agree. Assumes nothing.
 use mathlib.Core.Path.{◌≡◌, refl, sym, ap, ap₂, subst, ◌∙◌}
 use Prim.Native.Nat.{ℕ, zero, suc, ◌+◌, ◌-◌, ◌*◌, ◌≤◌, ◌<◌}
-use mathlib.Core.Bool.{Bool, false}
+use mathlib.Core.Bool.{Bool, true, false}
 use mathlib.Core.List.{List}
 use native.Mathlib.Omega.{arith}
 use native.Mathlib.Numerals.{add-one}
 use native.Mathlib.Nat.{zero-add, suc-add}
 use lib.ListN.{length}
-use lib.Dec.{eqb}
-use borrow.Author.Tests.{ne_eqb}
 use Rattle.nll_spec.specs.Output.{bit}
+use Rattle.std.specs.Prelude.{Some, None}
 use Rattle.replay.specs.declared.file.Entry.{Entry}
 use Rattle.replay.specs.File.{two, entry_at, EntryIn, agrees, start_of, agreeing, Replayed}
 
@@ -59,6 +58,10 @@ module _ (s : List ℕ) where
 
 -- ---- The count
 
+at_most_one : (b : Bool) → bit b ≤ 1
+at_most_one true = omega arith
+at_most_one false = omega arith
+
 -- Of n entries the first i are counted: so many agree, and entry i stands at a position.
 pub record Counting (s : List ℕ) (n good at i : ℕ) : Type 0 where
   pub all : n ≡ two s 0
@@ -80,37 +83,34 @@ module _ {s : List ℕ} {n good at i : ℕ} (w : Counting s n good at i) where
     pub count_in_lem : length s ≤ 1048576 → e.end ≤ length s → EntryIn s e
     count_in_lem l k = subst (EntryIn s) (sym is) (entry_in_lem s at l (omega (arith, ap (λ (x : Entry). x.end) is)))
 
-    pub count-more : {b : Bool} {x : ℕ} → length s ≤ 1048576 → e.end ≤ length s → b ≡ agrees s e → x ≡ bit b → x ≤ 1 → Counting s n (good + x) e.end (i + 1)
-    count-more {b} {x} l k f g m =
+    pub count-more : {b : Bool} {x : ℕ} → length s ≤ 1048576 → e.end ≤ length s → b ≡ agrees s e → x ≡ bit b → Counting s n (good + x) e.end (i + 1)
+    count-more {b} {x} l k f g =
         let one : x ≡ bit (agrees s (entry_at s (start_of s i))) = g ∙ ap bit f ∙ ap (λ (y : Entry). bit (agrees s y)) is ∙ ap (λ (p : ℕ). bit (agrees s (entry_at s p))) w.start in
         record {
           all = w.all;
           most = w.most;
           low = omega arith;
-          few = omega (arith, w.few);
+          few = omega (arith, w.few, at_most_one b, g);
           near = omega arith;
           start = end_is;
           agree = ap₂ ◌+◌ w.agree one ∙ sym (agreeing-next s i);
         }
 
     -- an entry that does not end within the bytes
-    pub count_cut : length s < e.end → Replayed s (record { entries = n; agree = good; whole = false })
+    pub count_cut : length s < e.end → Replayed s None
     count_cut k =
         let later : start_of s (i + 1) ≤ start_of s n = le_of_eq_right (start-grows s (i + 1) (n - (i + 1))) (omega arith) in
-        record {
-          entries = w.all;
-          whole = sym (ne_eqb (start_of s (two s 0)) (length s) (λ q. omega (arith, later, end_is, ap (start_of s) w.all)));
-          agree = λ z. absurd (let y : ◌≡◌ {A = ℕ} 0 1 = cc in omega arith);
-        }
+        λ q. omega (arith, later, end_is, ap (start_of s) w.all)
       where
         le_of_eq_right : {m : ℕ} → start_of s (i + 1) ≤ start_of s m → m ≡ n → start_of s (i + 1) ≤ start_of s n
         le_of_eq_right q z = subst (λ (x : ℕ). start_of s (i + 1) ≤ start_of s x) z q
 
-  pub count-all : n ≤ i → Replayed s (record { entries = n; agree = good; whole = eqb at (length s) })
-  count-all h =
-      let last : i ≡ two s 0 = omega (arith, w.low, w.all) in
-      record {
-        entries = w.all;
-        whole = ap (λ (p : ℕ). eqb p (length s)) (w.start ∙ ap (start_of s) last);
-        agree = λ z. w.agree ∙ ap (agreeing s) last;
-      }
+  module _ (h : n ≤ i) where
+    last : at ≡ start_of s (two s 0)
+    last = let e : i ≡ two s 0 = omega (arith, w.low, w.all) in w.start ∙ ap (start_of s) e
+
+    pub count_over : (at ≡ length s → ⊥) → Replayed s None
+    count_over other = λ q. other (last ∙ q)
+
+    pub count_all : at ≡ length s → Replayed s (Some (record { entries = n; agree = good }))
+    count_all is = let e : i ≡ two s 0 = omega (arith, w.low, w.all) in (sym last ∙ is, w.all, w.agree ∙ ap (agreeing s) e)

@@ -1,86 +1,59 @@
--- Two lists that are compared element by element, and the buffers that the call is to leave. Assumes nothing.
-use mathlib.Core.Path.{◌≡◌, refl, sym, ap, ap₂, subst, ◌∙◌}
-use mathlib.Core.Bool.{Bool, true, false, ◌&&◌, and-eq-true_iff}
-use mathlib.Core.List.{List, [], ◌∷◌}
-use Prim.Native.Nat.{ℕ, ◌+◌, ◌-◌, ◌≤◌, ◌<◌}
+-- Buffers that are compared part by part with what the call is to leave. Assumes nothing.
+use mathlib.Core.Path.{◌≡◌, refl, sym, ap, ap₂, ◌∙◌}
+use mathlib.Core.Bool.{Bool, true, false}
+use mathlib.Core.List.{List, ◌++◌}
+use Prim.Native.Nat.{ℕ, ◌-◌, ◌≤◌, ◌<◌}
 use native.Mathlib.Omega.{arith}
-use lib.ListN.{length, get_or, drop, length-append, length-drop, length-replicate, get_or-replicate, length-map, get_or-append}
-use lib.Seq.{ext_get_or, get_or-append-add, get_or-drop, get_or-take, length-take-le}
-use lib.Dec.{eqb}
-use borrow.Author.Count.{below_none, below_more}
-use borrow.Author.Tests.{eqb-true, eq-eqb}
+use lib.ListN.{length, get_or, take, drop, length-append, length-drop, length-map}
+use lib.Seq.{ext_get_or, length-take-le, take-append_seam, drop-append_seam}
+use Rattle.std.specs.Bool.{Decides}
+use Rattle.std.proofs.Common.{rules}
+use Rattle.std.proofs.lemmas.List.{take-append-drop}
+use Rattle.std.proofs.lemmas.Slice.Eq.{compares_Decides}
 use Rattle.nll_spec.specs.Lists.{below}
 use Rattle.nll_spec.specs.Cases.{same_list}
 use Rattle.nll_spec.specs.Output.{overwrite}
 use Rattle.nll_spec.proofs.Tests.{length-count_from}
 use Rattle.nll_spec.proofs.Lookup.{get_or-map-below}
-use Rattle.replay.specs.File.{word_at, words_at, part_of, words_before, bytes_before}
+use Rattle.replay.specs.File.{word_at, words_at, part_of}
 
--- ---- Equal lists
+-- two tests of facts that follow from each other
+decided : {P Q : Type 0} (r q : Bool) → Decides r P → Decides q Q → (P → Q) → (Q → P) → r ≡ q
+decided true true d e f g = refl
+decided true false d e f g = sym (e.1 (f (d.0 refl)))
+decided false true d e f g = d.1 (g (e.0 refl))
+decided false false d e f g = refl
 
-same_self : (a : List ℕ) → same_list a a ≡ true
-same_self [] = refl
-same_self (x ∷ xs) = ap₂ ◌&&◌ (eq-eqb x x refl) (same_self xs)
+same_is : (a b : List ℕ) → Decides (same_list a b) (a ≡ b)
+same_is a b = compares_Decides same_list (search rules) a b
 
-same_equal : (a b : List ℕ) → same_list a b ≡ true → a ≡ b
-same_equal [] [] e = refl
-same_equal [] (y ∷ ys) e = absurd (let z : ◌≡◌ {A = ℕ} 0 1 = cc in omega arith)
-same_equal (x ∷ xs) [] e = absurd (let z : ◌≡◌ {A = ℕ} 0 1 = cc in omega arith)
-same_equal (x ∷ xs) (y ∷ ys) e =
-    let t = (and-eq-true_iff (eqb x y) (same_list xs ys)).0 e in
-    ap₂ (λ (z : ℕ) (zs : List ℕ). z ∷ zs) (eqb-true x y t.0) (same_equal xs ys t.1)
+-- A buffer a, and what it is to be: old with its first n elements overwritten by new.
+module _ (a new old : List ℕ) {n : ℕ} (size : length new ≡ n) where
+  pub longer : length a < n → false ≡ same_list a (overwrite new old)
+  longer h =
+      decided {P = ⊥} false (same_list a (overwrite new old)) (λ e. cc, λ e. absurd e) (same_is a (overwrite new old)) (λ e. absurd e)
+      (λ e. omega (arith, ap length e, length-append new (drop (length new) old)))
 
-same_no : (a b : List ℕ) → (a ≡ b → ⊥) → false ≡ same_list a b
-same_no a b h = go (same_list a b) refl
-  where
-    go : (r : Bool) → same_list a b ≡ r → false ≡ r
-    go true e = absurd (h (same_equal a b e))
-    go false e = refl
+  front : a ≡ overwrite new old → take n a ≡ new
+  front e = rw (sym size) (ap (take (length new)) e ∙ take-append_seam new (drop (length new) old))
 
-pub same_no_long : (a b : List ℕ) → length a < length b → false ≡ same_list a b
-same_no_long a b h = same_no a b (λ e. omega (arith, ap length e))
+  back : a ≡ overwrite new old → drop n a ≡ drop n old
+  back e = rw (sym size) (ap (drop (length new)) e ∙ drop-append_seam new (drop (length new) old))
 
--- The two lists are as long as each other, and equal at the first i places.
-pub record Comparing (a b : List ℕ) (i : ℕ) : Type 0 where
-  pub low : i ≤ length a
-  pub size : length a ≡ length b
-  pub same : (k : ℕ) → k < i → get_or a k 0 ≡ get_or b k 0
+  whole : take n a ≡ new → drop n a ≡ drop n old → a ≡ overwrite new old
+  whole e q = sym (take-append-drop n a) ∙ ap₂ (λ (x y : List ℕ). x ++ y) e (q ∙ ap (λ (k : ℕ). drop k old) (sym size))
 
-pub comparing_start : (a b : List ℕ) → length a ≡ length b → Comparing a b 0
-comparing_start a b n = record { low = omega arith; size = n; same = below_none (λ (k : ℕ). get_or a k 0 ≡ get_or b k 0) }
+  module _ {first : List ℕ} {v : Bool} (f : first ≡ take n a) (d : Decides v (first ≡ new)) where
+    pub other_front : v ≡ false → v ≡ same_list a (overwrite new old)
+    other_front e = decided v (same_list a (overwrite new old)) d (same_is a (overwrite new old)) (λ p. let t : v ≡ true = d.1 p in cc) (λ q. f ∙ front q)
 
-module _ {a b : List ℕ} {i : ℕ} (w : Comparing a b i) {x : ℕ} (e : x ≡ get_or b i 0) where
-  pub comparing_more : i < length a → get_or a i 0 ≡ x → Comparing a b (i + 1)
-  comparing_more h q = record { low = omega arith; size = w.size; same = below_more (λ (k : ℕ). get_or a k 0 ≡ get_or b k 0) i w.same (q ∙ e) }
+    pub same_front : v ≡ true → {rest left : List ℕ} {w : Bool} → rest ≡ drop n a → left ≡ drop n old → Decides w (rest ≡ left) → w ≡ same_list a (overwrite new old)
+    same_front t {rest} {left} {w} r l e =
+        decided w (same_list a (overwrite new old)) e (same_is a (overwrite new old)) (λ q. whole (sym f ∙ d.0 t) (sym r ∙ q ∙ l)) (λ q. r ∙ back q ∙ sym l)
 
-  pub comparing_no : (get_or a i 0 ≡ x → ⊥) → false ≡ same_list a b
-  comparing_no h = same_no a b (λ q. h (ap (λ (l : List ℕ). get_or l i 0) q ∙ sym e))
+-- ---- The file's words and bytes
 
-pub comparing_all : {a b : List ℕ} {i : ℕ} → Comparing a b i → length a ≤ i → true ≡ same_list a b
-comparing_all {a} {b} {i} w h = sym (subst (λ (x : List ℕ). same_list a x ≡ true) (ext_get_or 0 a b w.size (λ k l. w.same k (omega arith))) (same_self a))
-
--- ---- An overwritten buffer
-
-module _ (new old : List ℕ) where
-  over-new : (i : ℕ) → i < length new → get_or (overwrite new old) i 0 ≡ get_or new i 0
-  over-new i h = get_or-append new (drop (length new) old) 0 i h
-
-  over-old : (i : ℕ) → length new ≤ i → get_or (overwrite new old) i 0 ≡ get_or old i 0
-  over-old i h =
-      ap (λ (k : ℕ). get_or (overwrite new old) k 0) (omega arith)
-      ∙ get_or-append-add new (drop (length new) old) (i - length new) 0
-      ∙ get_or-drop (length new) old (i - length new) 0
-      ∙ ap (λ (k : ℕ). get_or old k 0) (omega arith)
-
-  over-length : length new ≤ length old → length (overwrite new old) ≡ length old
-  over-length h = length-append new (drop (length new) old) ∙ rw length-drop (omega arith)
-
-  over_longer : length old < length new → length old < length (overwrite new old)
-  over_longer h = omega (arith, length-append new (drop (length new) old))
-
--- ---- The file's words and bytes in a buffer
-
-length-words_at : (s : List ℕ) (at n : ℕ) → length (words_at s at n) ≡ n
+pub length-words_at : (s : List ℕ) (at n : ℕ) → length (words_at s at n) ≡ n
 unfolding words_at
 length-words_at s at n = length-map (below n) (word_at s at) ∙ length-count_from 0 n
 
@@ -88,42 +61,13 @@ get_or-words_at : (s : List ℕ) (at n i : ℕ) → i < n → get_or (words_at s
 unfolding words_at
 get_or-words_at s at n i h = get_or-map-below (word_at s at) 0 n i h
 
-length-words_before : length words_before ≡ 4112
-unfolding words_before
-length-words_before = length-replicate {A = ℕ} 4112 2779096485
+pub length-part_of : (s : List ℕ) (at end : ℕ) → at ≤ end → end ≤ length s → length (part_of s at end) ≡ end - at
+length-part_of s at end low high = length-take-le (end - at) (drop at s) (rw length-drop (omega arith))
 
-length-bytes_before : length bytes_before ≡ 2080
-unfolding bytes_before
-length-bytes_before = length-replicate {A = ℕ} 2080 165
-
-module _ (s : List ℕ) (at n : ℕ) where
-  pub word_new : (i : ℕ) → i < n → word_at s at i ≡ get_or (overwrite (words_at s at n) words_before) i 0
-  word_new i h = sym (over-new (words_at s at n) words_before i (omega (arith, length-words_at s at n)) ∙ get_or-words_at s at n i h)
-
-  pub word_old : (i : ℕ) → n ≤ i → i < 4112 → 2779096485 ≡ get_or (overwrite (words_at s at n) words_before) i 0
-  unfolding words_before
-  word_old i h k = sym (over-old (words_at s at n) words_before i (omega (arith, length-words_at s at n)) ∙ get_or-replicate 4112 i 2779096485 0 k)
-
-  pub words-length : n ≤ 4112 → length (overwrite (words_at s at n) words_before) ≡ 4112
-  words-length h = over-length (words_at s at n) words_before (omega (arith, length-words_at s at n, length-words_before)) ∙ length-words_before
-
-  pub words_longer : 4112 < n → 4112 < length (overwrite (words_at s at n) words_before)
-  words_longer h = omega (arith, over_longer (words_at s at n) words_before (omega (arith, length-words_at s at n, length-words_before)), length-words_before)
-
-module _ (s : List ℕ) (at end : ℕ) (low : at ≤ end) (high : end ≤ length s) where
-  length-part_of : length (part_of s at end) ≡ end - at
-  length-part_of = length-take-le (end - at) (drop at s) (rw length-drop (omega arith))
-
-  pub byte-new : (i : ℕ) → i < end - at → get_or s (at + i) 0 ≡ get_or (overwrite (part_of s at end) bytes_before) i 0
-  byte-new i h =
-      sym (over-new (part_of s at end) bytes_before i (omega (arith, length-part_of)) ∙ get_or-take (end - at) (drop at s) i 0 h ∙ get_or-drop at s i 0)
-
-  pub byte-old : (i : ℕ) → end - at ≤ i → i < 2080 → 165 ≡ get_or (overwrite (part_of s at end) bytes_before) i 0
-  unfolding bytes_before
-  byte-old i h k = sym (over-old (part_of s at end) bytes_before i (omega (arith, length-part_of)) ∙ get_or-replicate 2080 i 165 0 k)
-
-  pub bytes-length : end - at ≤ 2080 → length (overwrite (part_of s at end) bytes_before) ≡ 2080
-  bytes-length h = over-length (part_of s at end) bytes_before (omega (arith, length-part_of, length-bytes_before)) ∙ length-bytes_before
-
-  pub bytes_longer : 2080 < end - at → 2080 < length (overwrite (part_of s at end) bytes_before)
-  bytes_longer h = omega (arith, over_longer (part_of s at end) bytes_before (omega (arith, length-part_of, length-bytes_before)), length-bytes_before)
+-- words that are the file's one by one
+module _ (s : List ℕ) (at : ℕ) (ws : List ℕ) {n : ℕ} (size : length ws ≡ n) where
+  pub words_decide : {v : Bool} → Decides v ((k : ℕ) → k < length ws → get_or ws k 0 ≡ word_at s at k) → Decides v (ws ≡ words_at s at n)
+  words_decide d = (
+    λ t. ext_get_or 0 ws (words_at s at n) (size ∙ sym (length-words_at s at n)) (λ k l. d.0 t k l ∙ sym (get_or-words_at s at n k (omega arith))),
+    λ e. d.1 (λ k l. ap (λ (x : List ℕ). get_or x k 0) e ∙ get_or-words_at s at n k (omega arith)),
+  )

@@ -1,5 +1,5 @@
 -- The file of recorded answers, and when the call agrees with an entry.
-use Rattle.std.specs.Prelude.{◌≡◌, Bool, true, ◌&&◌, List, map, ℕ, zero, suc, ◌+◌, ◌-◌, ◌*◌, ◌≤◌, length, get_or, take, drop, replicate, eqb}
+use Rattle.std.specs.Prelude.{◌≡◌, Bool, ◌&&◌, List, map, ℕ, zero, suc, ◌+◌, ◌-◌, ◌*◌, ◌≤◌, length, get_or, take, drop, replicate, eqb, Option, Some, None}
 use Rattle.nll_spec.specs.Lists.{below}
 use Rattle.nll_spec.specs.Regions.{every_end}
 use Rattle.nll_spec.specs.Output.{Outcome, overwrite, bit, analyse}
@@ -67,10 +67,6 @@ agrees s e =
 
 -- ---- The whole file
 
--- `&s[..n]` is within the bytes s, and has n of them.
-abbrev pub IsPrefixLen : ℕ → List ℕ → Type 0
-IsPrefixLen n s = (n ≤ length s) × (n ≡ length (take n s))
-
 -- where entry n stands
 unfoldable pub start_of : List ℕ → ℕ → ℕ
 start_of s zero = 2
@@ -81,8 +77,11 @@ unfoldable pub agreeing : List ℕ → ℕ → ℕ
 agreeing s zero = 0
 agreeing s (suc n) = agreeing s n + bit (agrees s (entry_at s (start_of s n)))
 
--- The count of a file: it is whole if it ends where its last entry does.
-pub record Replayed (s : List ℕ) (c : Count) : Type 0 where
-  pub entries : c.entries ≡ two s 0
-  pub whole : c.whole ≡ eqb (start_of s (two s 0)) (length s)
-  pub agree : c.whole ≡ true → c.agree ≡ agreeing s (two s 0)
+-- the last entry ends where the file does
+abbrev pub IsWhole : List ℕ → Type 0
+IsWhole s = start_of s (two s 0) ≡ length s
+
+-- The count of a whole file; of any other file there is none.
+abbrev pub Replayed : List ℕ → Option Count → Type 0
+Replayed s None = IsWhole s → ⊥
+Replayed s (Some c) = IsWhole s × (c.entries ≡ two s 0) × (c.agree ≡ agreeing s (two s 0))

@@ -1,11 +1,15 @@
--- The cases that document 01 runs, as a file of recorded answers.
+-- Boundary cases, as a file of recorded answers.
 use Rattle.std.specs.Prelude.{◌≡◌, List, [], ◌∷◌, ◌++◌, ℕ, ◌+◌, ◌/◌, ◌%◌, length, take, replicate}
+use Rattle.replay.specs.declared.room.FileBytes.{FileBytes}
 
--- The run src is put at a position of out, which leaves out', and r is the position after it.
-pub record Appended (out : List ℕ) (at : ℕ) (src out' : List ℕ) (r : ℕ) : Type 0 where
-  pub next : r ≡ at + length src
-  pub size : length out' ≡ length out
-  pub put : take r out' ≡ take at out ++ src
+-- the bytes of a file
+abbrev pub content : FileBytes → List ℕ
+content f = take f.len f.bytes
+
+-- These bytes are put after those of the old file.
+pub record Appended (src : List ℕ) (old new : FileBytes) : Type 0 where
+  pub next : new.len ≡ old.len + length src
+  pub put : content new ≡ content old ++ src
 
 -- a number in two bytes
 abbrev pub in_two : ℕ → List ℕ

@@ -1,83 +1,50 @@
 // Whether the call gives an entry's answer.
-ghost use Rattle.std.specs.Prelude.{◌≡◌, ◌+◌, ◌<◌, ◌≤◌, length, get_or};
-ghost use Rattle.nll.specs.Analysis.{number_of};
+ghost use Rattle.std.specs.Prelude.{◌≡◌, ◌≤◌, ◌↔◌, length, slice_index, EachIndex, IsTrue};
 ghost use Rattle.nll_spec.specs.Cases.{same_list};
 ghost use Rattle.nll_spec.specs.Output.{overwrite};
-ghost use Rattle.replay.specs.File.{words_at, part_of, words_before, bytes_before, agrees, EntryIn};
+ghost use Rattle.replay.specs.File.{word_at, words_at, part_of, agrees, EntryIn};
 
 use super::file::{Entry, byte_at, four_at};
-use nll::Analysis;
 
 // What each word and each byte holds before the call.
-const WORD: u32 = 2779096485;
+const WORD: u32 = 0xa5a5_a5a5;
 
-const BYTE: u8 = 165;
+const BYTE: u8 = 0xa5;
 
-fn number_of(a: Analysis) -> u8
-    ensures { result ≡ number_of a }
+// Whether the words are those from a position of the file on.
+fn are_words_at(s: &[u8], at: usize, words: &[u32]) -> bool
+    requires { (at ≤ 1048576) × (length words.now ≤ 4112) }
+    ensures { IsTrue result ↔ EachIndex words.now (λ k. slice_index words.now k ≡ word_at s.now at k) }
 {
-    match a {
-        Analysis::Accepted => 0,
-        Analysis::Refused(k) => k,
-    }
+    words
+        .iter()
+        .enumerate()
+        .all(|(i, word)| *word == four_at(s, at + 4 * i))
 }
 
-// Word i of a buffer that had WORD everywhere, after the entry's words were written.
-fn word_due(s: &[u8], at: usize, count: usize, i: usize) -> u32
-    requires { (at ≤ 1048576) × (count ≤ 4112) × (i < 4112) }
-    ensures { result ≡ get_or (overwrite (words_at s.now at count) words_before) i 0 }
-{
-    if i < count {
-        return four_at(s, at + 4 * i);
-    }
-    WORD
-}
-
-// Byte i of a buffer that had BYTE everywhere, after the bytes of the file from a position to another were written.
-fn byte_due(s: &[u8], at: usize, end: usize, i: usize) -> u8
-    requires { (at ≤ end) × (end ≤ at + 2080) × (end ≤ length s.now) × (i < 2080) }
-    ensures { result ≡ get_or (overwrite (part_of s.now at end) bytes_before) i 0 }
-{
-    if i < end - at {
-        return byte_at(s, at + i);
-    }
-    BYTE
-}
-
-// Whether the words are those that the file has, and WORD after them.
-fn same_words(s: &[u8], at: usize, count: usize, words: &[u32]) -> bool
-    requires { (at ≤ 1048576) × (length words.now ≡ 4112) }
-    ensures { result ≡ same_list words.now (overwrite (words_at s.now at count) words_before) }
+// Whether the first words are those that the file has, and the others are as before.
+fn same_words(s: &[u8], at: usize, count: usize, words: &[u32; 4112], before: &[u32; 4112]) -> bool
+    requires { at ≤ 1048576 }
+    ensures { result ≡ same_list words.now (overwrite (words_at s.now at count) before.now) }
 {
     if count > words.len() {
         return false;
     }
-    let mut i = 0;
-    while i < words.len() {
-        if words[i] != word_due(s, at, count, i) {
-            return false;
-        }
-        i += 1;
-    }
-    true
+    let (written, rest) = words.split_at(count);
+    are_words_at(s, at, written) && rest == before.split_at(count).1
 }
 
-// Whether the bytes are those that the file has, and BYTE after them.
-fn same_bytes(s: &[u8], at: usize, end: usize, bytes: &[u8]) -> bool
-    requires { (at ≤ end) × (end ≤ length s.now) × (length bytes.now ≡ 2080) }
-    ensures { result ≡ same_list bytes.now (overwrite (part_of s.now at end) bytes_before) }
+// Whether the first bytes are those that the file has, and the others are as before.
+fn same_bytes(s: &[u8], at: usize, end: usize, bytes: &[u8; 2080], before: &[u8; 2080]) -> bool
+    requires { (at ≤ end) × (end ≤ length s.now) }
+    ensures { result ≡ same_list bytes.now (overwrite (part_of s.now at end) before.now) }
 {
-    if end - at > bytes.len() {
+    let count = end - at;
+    if count > bytes.len() {
         return false;
     }
-    let mut i = 0;
-    while i < bytes.len() {
-        if bytes[i] != byte_due(s, at, end, i) {
-            return false;
-        }
-        i += 1;
-    }
-    true
+    let (written, rest) = bytes.split_at(count);
+    written == &s[at..end] && rest == before.split_at(count).1
 }
 
 // Whether the call, on buffers of WORD and BYTE, returns the entry's number and leaves its words and bytes, and after them what was there.
@@ -85,13 +52,14 @@ pub fn agree(s: &[u8], e: Entry) -> bool
     requires { EntryIn s.now e }
     ensures { result ≡ agrees s.now e }
 {
-    let mut words = [WORD; 4112];
-    let mut bytes = [BYTE; 2080];
-    let from = e.input;
-    let to = e.number;
-    let number = number_of(nll::analyse(&s[from..to], &mut words, &mut bytes));
-    if number != byte_at(s, to) {
+    let words_before = [WORD; 4112];
+    let bytes_before = [BYTE; 2080];
+    let mut words = words_before;
+    let mut bytes = bytes_before;
+    let number = nll::nll_analyse(&s[e.input..e.number], &mut words, &mut bytes);
+    if number != byte_at(s, e.number) {
         return false;
     }
-    same_words(s, e.words, e.count, &words) & same_bytes(s, e.bytes, e.end, &bytes)
+    same_words(s, e.words, e.count, &words, &words_before)
+        && same_bytes(s, e.bytes, e.end, &bytes, &bytes_before)
 }

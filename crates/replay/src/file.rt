@@ -17,22 +17,7 @@ pub struct Entry {
 pub fn byte_at(s: &[u8], at: usize) -> u8
     ensures { result ≡ get_or s.now at 0 }
 {
-    if at < s.len() {
-        return s[at];
-    }
-    0
-}
-
-fn wide(x: u8) -> usize
-    ensures { (result ≡ x) × (result ≤ 255) }
-{
-    x as usize
-}
-
-fn wide32(x: u8) -> u32
-    ensures { (result ≡ x) × (result ≤ 255) }
-{
-    x as u32
+    s.get(at).copied().unwrap_or(0)
 }
 
 // The two-byte number at a position.
@@ -40,7 +25,7 @@ pub fn two_at(s: &[u8], at: usize) -> usize
     requires { at ≤ 4194304 }
     ensures { (result ≡ two s.now at) × (result ≤ 65535) }
 {
-    wide(byte_at(s, at)) * 256 + wide(byte_at(s, at + 1))
+    usize::from(u16::from_be_bytes([byte_at(s, at), byte_at(s, at + 1)]))
 }
 
 // The four-byte number at a position.
@@ -48,11 +33,12 @@ pub fn four_at(s: &[u8], at: usize) -> u32
     requires { at ≤ 4194304 }
     ensures { result ≡ four s.now at }
 {
-    let a = wide32(byte_at(s, at));
-    let b = wide32(byte_at(s, at + 1));
-    let c = wide32(byte_at(s, at + 2));
-    let d = wide32(byte_at(s, at + 3));
-    a * 16777216 + b * 65536 + c * 256 + d
+    u32::from_be_bytes([
+        byte_at(s, at),
+        byte_at(s, at + 1),
+        byte_at(s, at + 2),
+        byte_at(s, at + 3),
+    ])
 }
 
 // The entry at a position.

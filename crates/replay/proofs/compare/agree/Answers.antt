@@ -1,13 +1,20 @@
 -- `replay::compare::agree`. Assumes nothing.
+use mathlib.Core.Path.{sym, ap, ◌∙◌}
+use mathlib.Core.Bool.{Bool, ◌&&◌}
 use Rattle.replay.specs.File.{words_before, bytes_before}
-use Rattle.replay.proofs.AgreeLaws.{agree_no, agree-rest}
-use mathlib.Core.Path.{sym, ◌∙◌}
+use Rattle.replay.proofs.AgreeLaws.{agree_no, agree_rest, agree_not}
 use Rattle.replay.proofs.compare.agree.Goals as goal
 
 pub returns-then-number-byte_at : goal.returns-then-number-byte_at
 unfolding words_before bytes_before
-returns-then-number-byte_at c = agree_no c.args.s.now c.args.e c.analyse.ensures.0 c.byte_at.ensures (λ q. c.if-number-byte_at.true (c.number_of-number.ensures ∙ q))
+returns-then-number-byte_at c = agree_no c.args.s.now c.args.e c.nll_analyse-number.ensures c.byte_at.ensures c.if-number-byte_at.true
 
-pub returns : goal.returns
+pub returns-then-same_words : goal.returns-then-same_words
 unfolding words_before bytes_before
-returns c = agree-rest c.args.s.now c.args.e c.analyse.ensures.0 c.byte_at.ensures (sym c.number_of-number.ensures ∙ c.if-number-byte_at.false) c.same_words.ensures c.same_bytes.ensures
+returns-then-same_words c =
+    ap (λ (b : Bool). b && c.same_bytes.result) (sym c.if-same_words.true)
+    ∙ agree_rest c.args.s.now c.args.e c.nll_analyse-number.ensures c.byte_at.ensures c.if-number-byte_at.false c.same_words.ensures c.same_bytes.ensures
+
+pub returns-else-same_words : goal.returns-else-same_words
+unfolding words_before bytes_before
+returns-else-same_words c = agree_not c.args.s.now c.args.e c.nll_analyse-number.ensures c.byte_at.ensures c.if-number-byte_at.false c.same_words.ensures c.if-same_words.false

@@ -1,22 +1,27 @@
--- `replay::compare::same_bytes`. The loop's invariant: the first i bytes are equal. Assumes nothing.
-use Rattle.replay.proofs.SameLaws.{same_no_long, comparing_start, comparing_more, comparing_no, comparing_all, bytes-length, bytes_longer}
+-- `replay::compare::same_bytes`. Assumes nothing.
 use native.Mathlib.Omega.{arith}
-use Prim.Native.Nat.{◌-◌}
-use Rattle.nll_spec.specs.Output.{overwrite}
-use Rattle.replay.specs.File.{part_of, bytes_before}
+use Rattle.std.proofs.lemmas.Bool.Decides.{Decides-eqb}
+use Rattle.std.proofs.lemmas.Slice.Eq.{slice_eq-Decides}
+use Rattle.replay.specs.File.{part_of}
+use Rattle.replay.proofs.SameLaws.{longer, other_front, same_front, length-part_of}
 use Rattle.replay.proofs.compare.same_bytes.Goals as goal
 
-pub returns-then-end-at : goal.returns-then-end-at
-returns-then-end-at c = same_no_long c.args.bytes.now (overwrite (part_of c.args.s.now c.args.at c.args.end) bytes_before) (omega (arith, bytes_longer c.args.s.now c.args.at c.args.end (omega arith) (omega arith) (omega arith)))
+pub returns-then-count-gt2080 : goal.returns-then-count-gt2080
+returns-then-count-gt2080 c =
+    let a = c.args in
+    longer a.bytes.now (part_of a.s.now a.at a.end) a.before.now (length-part_of a.s.now a.at a.end (omega arith) (omega arith)) (omega arith)
 
-pub loop-i-init : goal.loop-i-init
-loop-i-init c = comparing_start c.args.bytes.now (overwrite (part_of c.args.s.now c.args.at c.args.end) bytes_before) (omega (arith, bytes-length c.args.s.now c.args.at c.args.end (omega arith) (omega arith) (omega arith)))
+pub returns-then-eq : goal.returns-then-eq
+returns-then-eq c =
+    let a = c.args in
+    let first = slice_eq-Decides Decides-eqb _ _ _ c.eq.ensures in
+    let rest = slice_eq-Decides Decides-eqb _ _ _ c.eq-then-eq.ensures in
+    same_front a.bytes.now (part_of a.s.now a.at a.end) a.before.now (length-part_of a.s.now a.at a.end (omega arith) (omega arith)) c.split_at.ensures.front
+    first c.if-eq.true c.split_at.ensures.back c.split_at-then-eq.ensures.back rest
 
-pub returns-then-bytes-i : goal.returns-then-bytes-i
-returns-then-bytes-i c = comparing_no c.loop-i.invariant c.byte_due.ensures c.if-bytes-i.true
-
-pub loop-i-preserved : goal.loop-i-preserved
-loop-i-preserved c = comparing_more c.loop-i.invariant c.byte_due.ensures (omega arith) c.if-bytes-i.false
-
-pub returns : goal.returns
-returns c = comparing_all c.loop-i.invariant (omega arith)
+pub returns-else-eq : goal.returns-else-eq
+returns-else-eq c =
+    let a = c.args in
+    let first = slice_eq-Decides Decides-eqb _ _ _ c.eq.ensures in
+    other_front a.bytes.now (part_of a.s.now a.at a.end) a.before.now (length-part_of a.s.now a.at a.end (omega arith) (omega arith)) c.split_at.ensures.front
+    first c.if-eq.false

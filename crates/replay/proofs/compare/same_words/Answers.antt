@@ -1,22 +1,27 @@
--- `replay::compare::same_words`. The loop's invariant: the first i words are equal. Assumes nothing.
-use Rattle.replay.proofs.SameLaws.{same_no_long, comparing_start, comparing_more, comparing_no, comparing_all, words-length, words_longer}
+-- `replay::compare::same_words`. Assumes nothing.
 use native.Mathlib.Omega.{arith}
-use Prim.Native.Nat.{◌-◌}
-use Rattle.nll_spec.specs.Output.{overwrite}
-use Rattle.replay.specs.File.{words_at, words_before}
+use Rattle.std.proofs.lemmas.Bool.Decides.{Decides-eqb}
+use Rattle.std.proofs.lemmas.Slice.Eq.{slice_eq-Decides}
+use Rattle.replay.specs.File.{words_at}
+use Rattle.replay.proofs.SameLaws.{longer, other_front, same_front, length-words_at, words_decide}
 use Rattle.replay.proofs.compare.same_words.Goals as goal
 
-pub returns-then-count-words : goal.returns-then-count-words
-returns-then-count-words c = same_no_long c.args.words.now (overwrite (words_at c.args.s.now c.args.at c.args.count) words_before) (omega (arith, words_longer c.args.s.now c.args.at c.args.count (omega arith)))
+pub returns-then-count-gt4112 : goal.returns-then-count-gt4112
+returns-then-count-gt4112 c =
+    let a = c.args in
+    longer a.words.now (words_at a.s.now a.at a.count) a.before.now (length-words_at a.s.now a.at a.count) (omega arith)
 
-pub loop-i-init : goal.loop-i-init
-loop-i-init c = comparing_start c.args.words.now (overwrite (words_at c.args.s.now c.args.at c.args.count) words_before) (omega (arith, words-length c.args.s.now c.args.at c.args.count (omega arith)))
+pub returns-then-are_words_at : goal.returns-then-are_words_at
+returns-then-are_words_at c =
+    let a = c.args in
+    let rest = slice_eq-Decides Decides-eqb _ _ _ c.eq.ensures in
+    same_front a.words.now (words_at a.s.now a.at a.count) a.before.now (length-words_at a.s.now a.at a.count) c.split_at.ensures.front
+    (words_decide a.s.now a.at c.split_at.result.0.now c.split_at.ensures.front_len c.are_words_at.ensures)
+    c.if-are_words_at.true c.split_at.ensures.back c.split_at-then-are_words_at.ensures.back rest
 
-pub returns-then-words-i : goal.returns-then-words-i
-returns-then-words-i c = comparing_no c.loop-i.invariant c.word_due.ensures c.if-words-i.true
-
-pub loop-i-preserved : goal.loop-i-preserved
-loop-i-preserved c = comparing_more c.loop-i.invariant c.word_due.ensures (omega arith) c.if-words-i.false
-
-pub returns : goal.returns
-returns c = comparing_all c.loop-i.invariant (omega arith)
+pub returns-else-are_words_at : goal.returns-else-are_words_at
+returns-else-are_words_at c =
+    let a = c.args in
+    other_front a.words.now (words_at a.s.now a.at a.count) a.before.now (length-words_at a.s.now a.at a.count) c.split_at.ensures.front
+    (words_decide a.s.now a.at c.split_at.result.0.now c.split_at.ensures.front_len c.are_words_at.ensures)
+    c.if-are_words_at.false
