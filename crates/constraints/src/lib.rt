@@ -8,7 +8,7 @@ ghost use Rattle.constraints.specs.Constraining.{after, step_constraints, source
 
 use env::paths::{PathType, path_type};
 use env::prefixes::{shortest, steps_of};
-use record::Head;
+use record::Record;
 use record::access::{action_at, variable_at};
 use relate::Site;
 use repr::{Action, ActionStep, Cursor, Path, Region, RegionName, Variance};
@@ -125,9 +125,7 @@ fn source_of(s: &[u8], p: Path, how: Related, kinds: &[u8; 8]) -> Source
 
 // The types of two paths, in the record, in a or in b, and what the steps of the second leave.
 fn path_types(
-    s: &[u8],
-    layout: &[u16; 1280],
-    head: Head,
+    input: &Record<'_>,
     p: Path,
     q: Path,
     a: &mut [u8; 512],
@@ -135,20 +133,19 @@ fn path_types(
     kinds: &mut [u8; 8],
     names: &mut [u8; 8],
 ) -> PathTypes
-    requires { (length layout.now ≡ 1280) × (length kinds.old ≡ 8) × (length names.old ≡ 8) }
-    ensures { PathTypesSay s.now layout.now head p q a.new b.new kinds.new names.new result }
+    requires { (length kinds.old ≡ 8) × (length names.old ≡ 8) }
+    ensures { PathTypesSay input.now.bytes.now input.now.layout.now input.now.head p q a.new b.new kinds.new names.new result }
 {
     let mut spare = [0; 512];
-    let x = path_type(s, layout, head, p, a, &mut spare, kinds, names);
-    let y = path_type(s, layout, head, q, b, &mut spare, kinds, names);
+    let x = path_type(input, p, a, &mut spare, kinds, names);
+    let y = path_type(input, q, b, &mut spare, kinds, names);
     PathTypes { p: x, q: y }
 }
 
 // Relates the types at x of a and at y of b.
 fn relate_types(
     how: Related,
-    s: &[u8],
-    layout: &[u16; 1280],
+    input: &Record<'_>,
     a: &[u8],
     x: Cursor,
     b: &[u8],
@@ -156,16 +153,13 @@ fn relate_types(
     site: Site,
     list: &mut [u32],
 )
-    requires { length layout.now ≡ 1280 }
-    ensures { TypesAdd s.now layout.now site how a.now x.at b.now y.at
+    ensures { TypesAdd input.now.bytes.now input.now.layout.now site how a.now x.at b.now y.at
         list.old list.new }
 {
     match how {
-        Related::Assigned => relate::relate(s, layout, a, x, b, y, Variance::Co, site, list),
+        Related::Assigned => relate::relate(input, a, x, b, y, Variance::Co, site, list),
         Related::Borrowed(region) => relate::relate_ref(
-            s,
-            layout,
-            a,
+            input, a,
             x,
             region,
             b,
@@ -180,8 +174,7 @@ fn relate_types(
 // The type at x of a, and a path's, which stands in the record or in b.
 fn relate_second(
     how: Related,
-    s: &[u8],
-    layout: &[u16; 1280],
+    input: &Record<'_>,
     a: &[u8],
     x: Cursor,
     b: &[u8; 512],
@@ -189,47 +182,43 @@ fn relate_second(
     site: Site,
     list: &mut [u32],
 )
-    requires { length layout.now ≡ 1280 }
-    ensures { (q : Path) (kinds names : List ℕ) → PathSays s.now layout.now site.head q b.now kinds names found
-        → SecondAdds s.now layout.now site how a.now x.at q
+    ensures { (q : Path) (kinds names : List ℕ) → PathSays input.now.bytes.now input.now.layout.now site.head q b.now kinds names found
+        → SecondAdds input.now.bytes.now input.now.layout.now site how a.now x.at q
         list.old list.new }
 {
     match found {
         PathType::Refused => {}
-        PathType::Inside(y) => relate_types(how, s, layout, a, x, s, y, site, list),
-        PathType::Written(y) => relate_types(how, s, layout, a, x, b, y, site, list),
+        PathType::Inside(y) => relate_types(how, input, a, x, s, y, site, list),
+        PathType::Written(y) => relate_types(how, input, a, x, b, y, site, list),
     }
 }
 
 // The types of two paths, which stand in the record, in a or in b.
 fn relate_found(
     how: Related,
-    s: &[u8],
-    layout: &[u16; 1280],
+    input: &Record<'_>,
     a: &[u8; 512],
     b: &[u8; 512],
     found: PathTypes,
     site: Site,
     list: &mut [u32],
 )
-    requires { length layout.now ≡ 1280 }
-    ensures { (p q : Path) (kinds names : List ℕ) → PathTypesSay s.now layout.now site.head p q a.now b.now kinds names found
-        → PathsAdd s.now layout.now site how p q
+    ensures { (p q : Path) (kinds names : List ℕ) → PathTypesSay input.now.bytes.now input.now.layout.now site.head p q a.now b.now kinds names found
+        → PathsAdd input.now.bytes.now input.now.layout.now site how p q
         list.old list.new }
 {
     let first_type = found.p;
     let second_type = found.q;
     match first_type {
         PathType::Refused => {}
-        PathType::Inside(x) => relate_second(how, s, layout, s, x, b, second_type, site, list),
-        PathType::Written(x) => relate_second(how, s, layout, a, x, b, second_type, site, list),
+        PathType::Inside(x) => relate_second(how, input, s, x, b, second_type, site, list),
+        PathType::Written(x) => relate_second(how, input, a, x, b, second_type, site, list),
     }
 }
 
 // Two paths, of which one has steps, and the steps of a borrow's source.
-fn relate_stepped(pair: Pair, s: &[u8], layout: &[u16; 1280], site: Site, list: &mut [u32])
-    requires { length layout.now ≡ 1280 }
-    ensures { PairAdds s.now layout.now site pair
+fn relate_stepped(pair: Pair, input: &Record<'_>, site: Site, list: &mut [u32])
+    ensures { PairAdds input.now.bytes.now input.now.layout.now site pair
         list.old list.new }
 {
     let how = pair.how;
@@ -240,41 +229,39 @@ fn relate_stepped(pair: Pair, s: &[u8], layout: &[u16; 1280], site: Site, list: 
     let mut b = [0; 512];
     let mut kind = [0; 8];
     let mut name = [0; 8];
-    let found = path_types(s, layout, head, p, q, &mut a, &mut b, &mut kind, &mut name);
-    relate_found(how, s, layout, &a, &b, found, site, list);
+    let found = path_types(input, p, q, &mut a, &mut b, &mut kind, &mut name);
+    relate_found(how, input, &a, &b, found, site, list);
     let of = source_of(s, q, how, &kind);
     relate_source(of, &kind, &name, site, list);
 }
 
 // The constraints of an assignment or a borrow, at the site's point.
-fn relate_paths(pair: Pair, s: &[u8], layout: &[u16; 1280], site: Site, list: &mut [u32])
-    requires { length layout.now ≡ 1280 }
-    ensures { PairAdds s.now layout.now site pair
+fn relate_paths(pair: Pair, input: &Record<'_>, site: Site, list: &mut [u32])
+    ensures { PairAdds input.now.bytes.now input.now.layout.now site pair
         list.old list.new }
 {
     let how = pair.how;
     let p = pair.p;
     let q = pair.q;
     if (p.steps != 0) | (q.steps != 0) {
-        relate_stepped(pair, s, layout, site, list);
+        relate_stepped(pair, input, site, list);
         return;
     }
     let x = variable_at(layout, p.base);
     let y = variable_at(layout, q.base);
-    relate_types(how, s, layout, s, x, s, y, site, list);
+    relate_types(how, input, s, x, s, y, site, list);
 }
 
 // Adds the constraints of the action at a point of the blocks. A Constraint's is at that point, all others at the next one.
-pub fn constrain(s: &[u8], layout: &[u16; 1280], site: Site, list: &mut [u32])
-    requires { length layout.now ≡ 1280 }
-    ensures { Constrains s.now layout.now site
+pub fn constrain(input: &Record<'_>, site: Site, list: &mut [u32])
+    ensures { Constrains input.now.bytes.now input.now.layout.now site
         list.old list.new }
 {
     let p = site.at;
     if 1024 < p {
         return;
     }
-    let ActionStep::Action(a, _) = action_at(s, layout, wide16(p)) else {
+    let ActionStep::Action(a, _) = action_at(input, wide16(p)) else {
         return;
     };
     let next = after(site);
@@ -290,7 +277,7 @@ pub fn constrain(s: &[u8], layout: &[u16; 1280], site: Site, list: &mut [u32])
                 p: dest,
                 q: source,
             };
-            relate_paths(pair, s, layout, next, list)
+            relate_paths(pair, input, next, list)
         }
         Action::Assign { dest, source } => {
             let pair = Pair {
@@ -298,7 +285,7 @@ pub fn constrain(s: &[u8], layout: &[u16; 1280], site: Site, list: &mut [u32])
                 p: source,
                 q: dest,
             };
-            relate_paths(pair, s, layout, next, list)
+            relate_paths(pair, input, next, list)
         }
         Action::Constraint { sup, sub } => {
             let left = Region::Free(sup);

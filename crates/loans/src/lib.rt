@@ -5,14 +5,14 @@ ghost use Rattle.nll_spec.specs.Syntax.{Job};
 ghost use Rattle.nll_spec.specs.WellFormed.{named, paths_fit};
 ghost use Rattle.nll_spec.specs.Graph.{graph_of};
 ghost use Rattle.nll_spec.specs.Loans.{loans_of};
-ghost use Rattle.record.specs.Layout.{Layout};
+ghost use Rattle.record.specs.Layout.{Holds};
 ghost use Rattle.graph.specs.Search.{WalkedIn};
 ghost use Rattle.loans.specs.Table.{place_of, kind_from, number_of, entry_of, Put};
 ghost use Rattle.loans.specs.Loans.{LoansAt, Lends};
 
 use env::Shortest;
 use env::prefixes::shortest_of;
-use record::Head;
+use record::Record;
 use record::access::{BORROW, action_at, tag_at};
 use repr::{Action, ActionStep, BorrowKind, Cursor, Path, RegionName, Variable};
 
@@ -141,24 +141,22 @@ fn up_to(code: u16) -> usize
 
 // Puts the loan of point p, if it is a borrow that is walked, after the n that are there. Returns how many there are then.
 fn lend(
-    s: &[u8],
-    layout: &[u16; 1280],
-    head: Head,
+    input: &Record<'_>,
     walked: &[u32; 32],
     p: usize,
     n: usize,
     table: &mut [u16; 1024],
 ) -> usize
-    requires { (length layout.now ≡ 1280) × (length table.old ≡ 1024) × (p < 1024) × (n ≤ 128) }
-    ensures { Lends s.now layout.now head walked.now p n table.old table.new result }
+    requires { (length table.old ≡ 1024) × (p < 1024) × (n ≤ 128) }
+    ensures { Lends input.now.bytes.now input.now.layout.now input.now.head walked.now p n table.old table.new result }
 {
     if !bit_set::test(walked, 0, p) {
         return n;
     }
-    if tag_at(s, layout, p) != BORROW {
+    if tag_at(input, p) != BORROW {
         return n;
     }
-    let ActionStep::Action(a, _) = action_at(s, layout, p) else {
+    let ActionStep::Action(a, _) = action_at(input, p) else {
         return n;
     };
     let Action::Borrow {
@@ -173,7 +171,7 @@ fn lend(
     if n == 128 {
         return n;
     }
-    let shortest = shortest_of(s, layout, head, source);
+    let shortest = shortest_of(input, source);
     let loan = Loan {
         point: p,
         region,
@@ -187,20 +185,18 @@ fn lend(
 
 // Puts the loans of a job into the table, and returns how many there are.
 pub fn loans(
-    s: &[u8],
-    layout: &[u16; 1280],
-    head: Head,
+    input: &Record<'_>,
     walked: &[u32; 32],
     table: &mut [u16; 1024],
 ) -> usize
-    requires { (length layout.now ≡ 1280) × (length table.old ≡ 1024) }
-    ensures { (length table.new ≡ 1024) × ((j : Job) → Layout s.now layout.now head j → T (named j) → T (paths_fit j) → WalkedIn j walked.now → length (loans_of (graph_of j)) ≤ 128 → LoansAt s.now j table.new result) }
+    requires { (length table.old ≡ 1024) }
+    ensures { (length table.new ≡ 1024) × ((j : Job) → Holds input.now j → T (named j) → T (paths_fit j) → WalkedIn j walked.now → length (loans_of (graph_of j)) ≤ 128 → LoansAt s.now j table.new result) }
 {
     let code = up_to(head.code);
     let mut n = 0;
     let mut p = 0;
     while p < code {
-        n = lend(s, layout, head, walked, p, n, table);
+        n = lend(input, walked, p, n, table);
         p += 1;
     }
     n
