@@ -142,15 +142,6 @@ module _ (ws : List ℕ) (d : ℕ) (fs : List ℕ) (s n : ℕ) where
 
 -- in one list
 module _ (ws : List ℕ) (d s n : ℕ) where
-  pub within_no : (both_fit ws d ws s n && read_first d s n) ≡ false → (ws ≡ joined_within ws d s n) × (false ≡ grows_within ws d s n)
-  within_no e = go (both_fit ws d ws s n) (read_first d s n) refl refl e
-    where
-      go : (a b : Bool) → both_fit ws d ws s n ≡ a → read_first d s n ≡ b → (a && b) ≡ false → (ws ≡ joined_within ws d s n) × (false ≡ grows_within ws d s n)
-      go true true ea eb q = absurd (true≢false q)
-      go true false ea eb q = (rw eb, rw eb)
-      go false true ea eb q = (rw (eb, ea), rw (eb, ea))
-      go false false ea eb q = (rw eb, rw eb)
-
   pub within_yes : read_first d s n ≡ true → (joined_within ws d s n ≡ joined ws d ws s n) × (grows_within ws d s n ≡ grows ws d ws s n)
   within_yes e = (rw e, rw e)
 
@@ -184,11 +175,6 @@ module _ (ws : List ℕ) (d : ℕ) (fs : List ℕ) (s n : ℕ) where
         size = simp length-set j.size;
         flag = rw (t.1, add-one, at, e, j.flag);
       }
-
-  pub join_end : (u : List ℕ) (c : Bool) (i : ℕ) → Joining ws d fs s n u c i → n ≤ i → (u ≡ joined ws d fs s n) × (c ≡ grows ws d fs s n)
-  join_end u c i j l =
-      let e : i ≡ n = omega arith in
-      (j.words ∙ ap (or_run ws d fs s) e ∙ sym (joined_yes ws d fs s n j.both).0, j.flag ∙ ap (or_grows ws d fs s) e ∙ sym (joined_yes ws d fs s n j.both).1)
 
 -- in one list
 pub within-start : (ws : List ℕ) (d s n : ℕ) → (both_fit ws d ws s n && read_first d s n) ≡ true → (read_first d s n ≡ true) × Joining ws d ws s n ws false 0
