@@ -6,7 +6,7 @@ use mathlib.Core.List.{List, [], ◌∷◌, ◌++◌, append_assoc}
 use Prim.Native.Nat.{ℕ, suc, ◌+◌, ◌-◌, ◌*◌, ◌<◌, ◌≤◌}
 use native.Mathlib.Omega.{arith}
 use native.Mathlib.Numerals.{add-one}
-use lib.ListN.{length, take, get_or}
+use lib.ListN.{length, get_or}
 use lib.Dec.{eqb}
 use borrow.Author.Tests.{eq-eqb, ne_eqb}
 use Rattle.nll_spec.specs.Lists.{gather, count_from}
@@ -19,7 +19,7 @@ use Rattle.record.specs.declared.Head.{Head}
 use Rattle.repr.specs.declared.refusal.Refusal.{Refusal}
 use Rattle.std.specs.Prelude.{Result, Ok}
 use Rattle.listing.specs.Writing.{text_of, Puts}
-use Rattle.listing.specs.Places.{Counted, in_set, point_text, access_text, grown_text, text_from, region_text, grown_from, access_from, region_from, rest, left, Follows, Steps, Fills}
+use Rattle.listing.specs.Places.{Counted, in_set, point_text, access_text, grown_text, text_from, region_text, grown_from, access_from, region_from, rest, left, Follows, Steps}
 use Rattle.listing.specs.declared.Counts.{Counts}
 use Rattle.listing.specs.declared.writer.Text.{Text}
 use Rattle.listing.specs.declared.Place.{Place}
@@ -156,23 +156,6 @@ pub record Filling (n : Counts) (ws bs : List ℕ) (from place : Place) (steps :
   pub short : text.used ≤ 32 * steps
   pub goes : rest n ws bs from ≡ text_of text ++ rest n ws bs place
   pub less : left n place ≤ left n from - steps
-
-module _ (n : Counts) (ws bs : List ℕ) (from : Place) where
-  pub filling_none : {text : Text} → text.used ≡ 0 → Filling n ws bs from from 0 text
-  filling_none {text} e = record { short = omega arith; goes = sym (ap (λ (k : ℕ). take k text.bytes ++ rest n ws bs from) e); less = omega arith }
-
-  pub filling_turn : {place next : Place} {steps : ℕ} {text new : Text} → Filling n ws bs from place steps text → Steps n ws bs place text next new
-      → Filling n ws bs from next (steps + 1) new
-  filling_turn {place} {next} {steps} {text} {new} f s =
-      record {
-        short = omega (arith, s.puts.ends, s.short, f.short);
-        goes = f.goes ∙ ap (λ (l : List ℕ). text_of text ++ l) s.goes ∙ sym (append_assoc (text_of text) s.bytes (rest n ws bs next))
-            ∙ ap (λ (l : List ℕ). l ++ rest n ws bs next) (sym s.puts.same);
-        less = omega (arith, s.less, f.less);
-      }
-
-  pub filling_all : {place : Place} {steps : ℕ} {text : Text} → Filling n ws bs from place steps text → 4064 < text.used + steps → Fills n ws bs from place text
-  filling_all f h = record { goes = f.goes; less = omega (arith, f.less, f.short) }
 
 -- ---- The counts of a record's job
 

@@ -9,14 +9,14 @@ use Prim.Native.Nat.{ℕ, ◌+◌, ◌-◌, ◌*◌, ◌<◌, ◌≤◌}
 use native.Mathlib.Numerals.{add-one}
 use native.Mathlib.Omega.{arith}
 use native.Mathlib.Decide.{dec_lt}
-use lib.ListN.{length, take, get_or, set, length-append}
-use lib.Seq.{take_all, take-suc, take-append-le, take-suc-set, length-take-le}
+use lib.ListN.{length, take, set, length-append}
+use lib.Seq.{take_all, take-append-le, take-suc-set, length-take-le}
 use lib.Dec.{ltb, leb, eqb}
 use borrow.Author.Tests.{lt-ltb, le-ltb, le-leb, lt-leb, ne_eqb}
 use Rattle.nll_spec.specs.Decode.{Decoded, rejected, decoded, decode_body, decode}
 use Rattle.nll_spec.specs.Output.{judge_job, judge}
 use Rattle.nll_spec.specs.Listing.{is_skipped, between, digit, bytes_from, hex_bytes}
-use Rattle.listing.specs.Reading.{room, hex_record, after, bytes_after, Reads, Kept, Feeds}
+use Rattle.listing.specs.Reading.{room, hex_record, after, bytes_after, Reads, Kept}
 use Rattle.listing.specs.declared.reader.Hex.{Hex}
 use Rattle.listing.specs.declared.reader.Digits.{Digits}
 use Rattle.listing.specs.declared.reader.Digits.TheVariants.{Paired, Half, Other}
@@ -180,14 +180,7 @@ module _ {text : List ℕ} {h : Hex} (m : Reads text h) (c : ℕ) where
       more : More m.bytes h.kept h.count (d * 16 + low) size m.count m.same (cond (ltb h.count room) (h.count + 1) h.count) (cond (ltb h.count room) (set h.kept h.count (d * 16 + low)) h.kept)
       more = kept_more m.bytes h.kept h.count (d * 16 + low) size m.count m.same
 
--- ---- The start and the end
-
-pub read_none : {h : Hex} → h.digits ≡ Paired → h.count ≡ 0 → Reads [] h
-read_none e n = record { bytes = []; means = λ rest. rw e (whole_of (bytes_from none rest)); count = n; same = rw n refl }
-  where
-    whole_of : (o : Option (List ℕ)) → o ≡ after [] o
-    whole_of none = refl
-    whole_of (some bs) = refl
+-- ---- The end
 
 -- the record of a text, by the bytes of its digits
 unfoldable or_empty : Option (List ℕ) → List ℕ
@@ -208,17 +201,6 @@ module _ {text : List ℕ} {h : Hex} (m : Reads text h) where
   unfolding bytes_from or_empty
   end_none (inl (d, e)) = record_by (Half d) e
   end_none (inr e) = record_by Other e
-
--- ---- Pieces
-
-pub feeds_none : (h : Hex) → Feeds [] h h
-feeds_none h text m = rw append-nil m
-
-pub feeds_turn : (piece : List ℕ) (i : ℕ) {h₀ h h' : Hex} → i < length piece → Feeds (take i piece) h₀ h → Feeds (get_or piece i 0 ∷ []) h h' → Feeds (take (i + 1) piece) h₀ h'
-feeds_turn piece i l f g text m = rw (add-one, take-suc piece i 0 l, ← append_assoc) (g (text ++ take i piece) (f text m))
-
-pub feeds_all : (piece : List ℕ) (i : ℕ) {h₀ h : Hex} → length piece ≤ i → Feeds (take i piece) h₀ h → Feeds piece h₀ h
-feeds_all piece i l f = rw (take_all i piece l) at f
 
 -- ---- A record that is cut is refused as the whole of it is
 

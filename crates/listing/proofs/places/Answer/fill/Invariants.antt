@@ -1,4 +1,4 @@
--- `listing::places::Answer::fill` meets its contract. Assumes nothing.
+-- `listing::places::Answer::fill`: the steps so far made the text. Assumes nothing.
 use Rattle.listing.proofs.PlaceLaws.{Filling}
 use Rattle.listing.proofs.places.Answer.fill.Given as goal
 

@@ -1,4 +1,4 @@
--- `listing::reader::Hex::feed` meets its contract. Assumes nothing.
+-- `listing::reader::Hex::feed`: what was fed so far. Assumes nothing.
 use lib.ListN.{take}
 use Rattle.listing.specs.Reading.{Feeds}
 use Rattle.listing.proofs.reader.Hex.feed.Given as goal
