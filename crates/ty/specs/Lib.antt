@@ -1,3 +1,2 @@
 -- Types as they lie in bytes, in prefix order.
-pub mod Shape
 pub mod Written
