@@ -10,7 +10,8 @@ use native.Mathlib.Numerals.{add-one}
 use lib.ListN.{length, get_or}
 use lib.Dec.{eqb}
 use lib.Bits.{bit_and}
-use borrow.Author.Tests.{eqb-true, eqb-false, eq-eqb, not-true, lt-ltb, le-ltb}
+use borrow.Author.Tests.{eqb-true, eqb-false, eq-eqb, not-true, lt-ltb}
+use Rattle.std.specs.List.{list_all, range_with_len}
 use Rattle.nll_spec.specs.Syntax.{Point, RegionName}
 use Rattle.nll_spec.specs.Output.{word_bits}
 use Rattle.nll_spec.specs.Meaning.{bit_of}
@@ -65,25 +66,26 @@ module _ (ls : List ℕ) (p : Point) (t : List ℕ) where
   unfolding with_absent
   with_more x m l e s = s ∙ rw (add-one, m.is x l, e)
 
-  pub with_length : {u : List ℕ} (n : ℕ) → u ≡ with_absent ls p t n → n ≤ 128 → length u ≡ length t
-  with_length n e l = ap length e ∙ (comes n l).as_long
-
   pub puts : {u : List ℕ} → u ≡ with_absent ls p t 128 → p < length t / 4 → Puts ls p t u
   puts e l = rw e record { as_long = (comes 128 (omega arith)).as_long; only = (comes 128 (omega arith)).only; is = rw (lt-ltb p (length t / 4) l) }
-
-  pub puts_none : length t / 4 ≤ p → Puts ls p t t
-  puts_none l = record { as_long = refl; only = λ q x m h. inl h; is = rw (le-ltb p (length t / 4) l) }
 
 -- ---- A set whose regions are all in a row
 
 module _ (t : List ℕ) (p : Point) (set : List ℕ) where
-  pub words-none : true ≡ words_in t p set 0
-  unfolding words_in
-  words-none = refl
+  -- word k of the set has no region that the row lacks
+  abbrev pub word_in : ℕ → Bool
+  word_in k = eqb (bit_and (get_or set k 0) (get_or t (4 * p + k) 0)) (get_or set k 0)
 
-  pub words_more : (k : ℕ) → (words_in t p set k && eqb (bit_and (get_or set k 0) (get_or t (4 * p + k) 0)) (get_or set k 0)) ≡ words_in t p set (k + 1)
+  pub all_words : list_all word_in (range_with_len 0 4) ≡ words_in t p set 4
   unfolding words_in
-  words_more k = rw add-one
+  all_words = go (word_in 0) (word_in 1) (word_in 2) (word_in 3)
+    where
+      go : (a b c d : Bool) → (a && (b && (c && (d && true)))) ≡ ((((true && a) && b) && c) && d)
+      go false b c d = refl
+      go true false c d = refl
+      go true true false d = refl
+      go true true true false = refl
+      go true true true true = refl
 
   word : (n : ℕ) → words_in t p set n ≡ true → (k : ℕ) → k < n → bit_and (get_or set k 0) (get_or t (4 * p + k) 0) ≡ get_or set k 0
   unfolding words_in
@@ -106,6 +108,3 @@ module _ (t : List ℕ) (p : Point) (set : List ℕ) where
 
   pub all_in_lem : {r : Bool} → r ≡ words_in t p set 4 → p < length t / 4 → AllIn t p set r
   all_in_lem e l = is_all (e ∙ sym (ap (λ (b : Bool). b && words_in t p set 4) (lt-ltb p (length t / 4) l)))
-
-  pub not-all : length t / 4 ≤ p → AllIn t p set false
-  not-all l = is_all (sym (ap (λ (b : Bool). b && words_in t p set 4) (le-ltb p (length t / 4) l)))

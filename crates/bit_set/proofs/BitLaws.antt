@@ -283,11 +283,15 @@ module _ (ws : List ℕ) (s p : ℕ) where
     sym (ap (λ (a : Bool). a && not (has ws (word_bits * s + p))) (le-ltb ((word_bits * s + p) / word_bits) (length ws) (bit_out h))),
   )
 
-  pub add_held : Words ws → digit (get_or ws (s + p / word_bits) 0) (p % word_bits) ≡ 1
-      → (ws ≡ with_bit ws (word_bits * s + p)) × (false ≡ is_new ws (word_bits * s + p))
-  add_held wf e =
-      let h : has ws (word_bits * s + p) ≡ true = sym test_in ∙ eq-eqb _ 1 e in
-      (sym (with_held ws (word_bits * s + p) wf h), sym (rw h (and-false (ltb ((word_bits * s + p) / word_bits) (length ws)))))
+  -- what the test of its word's bit shows of number p
+  pub tested : {k : ℕ} {r b : Bool} → k ≡ s + p / word_bits → r ≡ eqb (digit (get_or ws k 0) (p % word_bits)) 1 → r ≡ b → has ws (word_bits * s + p) ≡ b
+  tested e t q = sym test_in ∙ sym (rw e at t) ∙ q
+
+  held_bit : has ws (word_bits * s + p) ≡ true → digit (get_or ws (s + p / word_bits) 0) (p % word_bits) ≡ 1
+  held_bit h = eqb-true _ 1 (test_in ∙ h)
+
+  pub add_held : Words ws → has ws (word_bits * s + p) ≡ true → (ws ≡ with_bit ws (word_bits * s + p)) × (false ≡ is_new ws (word_bits * s + p))
+  add_held wf h = (sym (with_held ws (word_bits * s + p) wf h), sym (rw h (and-false (ltb ((word_bits * s + p) / word_bits) (length ws)))))
 
   -- the mask as the code computes it
   abbrev mask : ℕ
@@ -298,27 +302,24 @@ module _ (ws : List ℕ) (s p : ℕ) where
       let low : 2 ^ (p % word_bits) < 2 ^ word_bits = pow-lt {j = word_bits} (omega arith) in
       rw one-mul (mod-eq_of_lt low)
 
-  pub add_new : s + p / word_bits < length ws → (digit (get_or ws (s + p / word_bits) 0) (p % word_bits) ≡ 1 → ⊥)
-      → (set ws (s + p / word_bits) (bit_or (get_or ws (s + p / word_bits) 0) mask) ≡ with_bit ws (word_bits * s + p)) × (true ≡ is_new ws (word_bits * s + p))
-  add_new l n = (
-    rw (place_word, place_bit, mask_is),
-    sym (ap₂ (λ (a b : Bool). a && not b) (lt-ltb _ (length ws) (rw place_word l)) (sym test_in ∙ ne_eqb _ 1 n)),
+  pub add_new : {k : ℕ} → k ≡ s + p / word_bits → k < length ws → has ws (word_bits * s + p) ≡ false
+      → (set ws k (bit_or (get_or ws k 0) mask) ≡ with_bit ws (word_bits * s + p)) × (true ≡ is_new ws (word_bits * s + p))
+  add_new e l h = (
+    rw (e, place_word, place_bit, mask_is),
+    sym (ap₂ (λ (a b : Bool). a && not b) (lt-ltb _ (length ws) (rw (place_word, ← e) l)) h),
   )
 
-  kill_none : has ws (word_bits * s + p) ≡ false → (ws ≡ without_bit ws (word_bits * s + p)) × (false ≡ has ws (word_bits * s + p))
-  kill_none e = (sym (without_missing ws (word_bits * s + p) e), sym e)
+  pub kill_none : has ws (word_bits * s + p) ≡ false → (ws ≡ without_bit ws (word_bits * s + p)) × (false ≡ has ws (word_bits * s + p))
+  kill_none h = (sym (without_missing ws (word_bits * s + p) h), sym h)
 
   pub kill_out : length ws ≤ s + p / word_bits → (ws ≡ without_bit ws (word_bits * s + p)) × (false ≡ has ws (word_bits * s + p))
   kill_out h = kill_none (sym (test_out h))
 
-  pub kill_missing : (digit (get_or ws (s + p / word_bits) 0) (p % word_bits) ≡ 1 → ⊥) → (ws ≡ without_bit ws (word_bits * s + p)) × (false ≡ has ws (word_bits * s + p))
-  kill_missing n = kill_none (sym test_in ∙ ne_eqb _ 1 n)
+  pub kill_room : {k : ℕ} → k ≡ s + p / word_bits → has ws (word_bits * s + p) ≡ true → mask ≤ get_or ws k 0
+  kill_room e h =
+      let l : 1 * 2 ^ (p % word_bits) ≤ get_or ws (s + p / word_bits) 0 = rw (held_bit h) at (digit_le (get_or ws (s + p / word_bits) 0) (p % word_bits)) in
+      rw (e, mask_is, ← one-mul (2 ^ (p % word_bits))) l
 
-  pub kill_room : digit (get_or ws (s + p / word_bits) 0) (p % word_bits) ≡ 1 → mask ≤ get_or ws (s + p / word_bits) 0
-  kill_room e =
-      let h : 1 * 2 ^ (p % word_bits) ≤ get_or ws (s + p / word_bits) 0 = rw e at (digit_le (get_or ws (s + p / word_bits) 0) (p % word_bits)) in
-      rw (mask_is, ← one-mul (2 ^ (p % word_bits))) h
-
-  pub kill_held : digit (get_or ws (s + p / word_bits) 0) (p % word_bits) ≡ 1
-      → (set ws (s + p / word_bits) (get_or ws (s + p / word_bits) 0 - mask) ≡ without_bit ws (word_bits * s + p)) × (true ≡ has ws (word_bits * s + p))
-  kill_held e = (rw (place_word, place_bit, e, mask_is, one-mul), sym (sym test_in ∙ eq-eqb _ 1 e))
+  pub kill_held : {k : ℕ} → k ≡ s + p / word_bits → has ws (word_bits * s + p) ≡ true
+      → (set ws k (get_or ws k 0 - mask) ≡ without_bit ws (word_bits * s + p)) × (true ≡ has ws (word_bits * s + p))
+  kill_held e h = (rw (e, place_word, place_bit, held_bit h, mask_is, one-mul), sym h)

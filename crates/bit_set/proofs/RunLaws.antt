@@ -2,15 +2,18 @@
 use mathlib.Core.Path.{◌≡◌, refl, sym, ap, ap₂, ◌∙◌}
 use mathlib.Core.Logic.{◌⊎◌, inl, inr, ⊎_elim}
 use mathlib.Core.Bool.{Bool, true, false, not, ◌&&◌, ◌||◌, true≢false}
-use mathlib.Core.List.{List}
+use mathlib.Core.List.{List, []}
 use Prim.Native.Nat.{ℕ, zero, suc, ◌+◌, ◌-◌, ◌≤◌, ◌<◌}
 use native.Mathlib.Numerals.{add-one}
 use native.Mathlib.Omega.{arith}
 use native.Mathlib.Decide.{ℕ_discrete, dec_lt}
-use lib.ListN.{length, get_or, set, length-set}
-use lib.Seq.{get_or-set_same, get_or-set_other, set-get_or}
+use lib.ListN.{length, get_or, set, drop, replicate, length-set, length-take, length-drop, length-replicate}
+use lib.Seq.{get_or-set_same, get_or-set_other, set-get_or, paste}
 use lib.Dec.{eqb, leb}
 use lib.Bits.{bit_or, or_lt}
+use borrow.Rule.Slice.PartMut.{put_mid, mid_of}
+use Rattle.std.proofs.lemmas.List.Edits.{paste_none, fill_from_more}
+use Rattle.std.proofs.lemmas.Slice.{put_mid-paste}
 use borrow.Author.Tests.{eqb-true, eqb-false, leb-true, le-leb, lt-leb, not-true, not-false}
 use Rattle.nll_spec.specs.Output.{word_bits}
 use Rattle.bit_set.specs.Bits.{fits, or_word, or_run, or_grows, both_fit, joined, grows, read_first, joined_within, grows_within, zero_run, cleared}
@@ -45,15 +48,6 @@ fits_sub count s n h = go (dec_lt count (s + n))
     go : Dec (count < s + n) → leb s (count - n) ≡ fits count s n
     go (yes l) = lt-leb s (count - n) (omega arith) ∙ sym (lt-leb (s + n) count l)
     go (no m) = le-leb s (count - n) (omega (arith, m)) ∙ sym (le-leb (s + n) count (omega (arith, m)))
-
-pub fits_not : (count s n : ℕ) → count < n → false ≡ fits count s n
-fits_not count s n h = sym (lt-leb (s + n) count (omega arith))
-
-pub first_yes : (d s n : ℕ) → d ≤ s → true ≡ read_first d s n
-first_yes d s n h = sym (ap (λ (b : Bool). b || fits d s n) (le-leb d s h))
-
-pub first_fits : (d s n : ℕ) → s < d → fits d s n ≡ read_first d s n
-first_fits d s n h = sym (ap (λ (b : Bool). b || fits d s n) (lt-leb d s h))
 
 -- ---- Words that are or-ed
 
@@ -176,10 +170,10 @@ module _ (ws : List ℕ) (d : ℕ) (fs : List ℕ) (s n : ℕ) where
   pub join_start : both_fit ws d fs s n ≡ true → Joining ws d fs s n ws false 0
   join_start e = record { both = e; turns = omega arith; into = both_into ws d fs s n e; from = both_from ws d fs s n e; words = refl; size = refl; flag = refl }
 
-  -- v and g are what joining the word x gives
-  pub join_turn : (u v : List ℕ) (c g : Bool) (i x : ℕ) → Joining ws d fs s n u c i → i < n → x ≡ get_or fs (s + i) 0
-      → (v ≡ set u (d + i) (bit_or (get_or u (d + i) 0) x)) × (g ≡ not (eqb (get_or u (d + i) 0) (bit_or (get_or u (d + i) 0) x))) → Joining ws d fs s n v (c || g) (i + 1)
-  join_turn u v c g i x j l e t =
+  -- y and g are what joining the word x gives
+  pub join_turn : (u : List ℕ) (y : ℕ) (c g : Bool) (i x : ℕ) → Joining ws d fs s n u c i → i < n → x ≡ get_or fs (s + i) 0
+      → (y ≡ bit_or (get_or u (d + i) 0) x) × (g ≡ not (eqb (get_or u (d + i) 0) (bit_or (get_or u (d + i) 0) x))) → Joining ws d fs s n (set u (d + i) y) (c || g) (i + 1)
+  join_turn u y c g i x j l e t =
       let at : get_or u (d + i) 0 ≡ get_or ws (d + i) 0 = ap (λ (k : List ℕ). get_or k (d + i) 0) j.words ∙ or_outside ws d fs s i (d + i) (inr (omega arith)) in
       record {
         both = j.both;
@@ -187,7 +181,7 @@ module _ (ws : List ℕ) (d : ℕ) (fs : List ℕ) (s n : ℕ) where
         into = j.into;
         from = j.from;
         words = rw (t.0, add-one, at, e, j.words);
-        size = ap length t.0 ∙ simp length-set j.size;
+        size = simp length-set j.size;
         flag = rw (t.1, add-one, at, e, j.flag);
       }
 
@@ -208,24 +202,20 @@ join_read ws d s n u c i e j l =
     ∙ or_outside ws d ws s i (s + i)
     (⊎_elim (λ q. inr (omega (arith, leb-true d s q))) (λ q. inl (omega (arith, leb-true (s + n) d q))) (or_true_cases (leb d s) (fits d s n) e))
 
-pub record Clearing (ws : List ℕ) (s n : ℕ) (u : List ℕ) (i : ℕ) : Type 0 where
-  pub fit : fits (length ws) s n ≡ true
-  pub turns : i ≤ n
-  pub into : s + n ≤ length ws
-  pub words : u ≡ zero_run ws s i
-  pub size : length u ≡ length ws
+-- ---- The empty run
 
-module _ (ws : List ℕ) (s n : ℕ) where
-  pub clear_no : fits (length ws) s n ≡ false → ws ≡ cleared ws s n
-  clear_no e = rw e
+-- the first n words from s, filled with zeros
+zero_filled : (ws : List ℕ) (s n : ℕ) → s + n ≤ length ws → paste ws s (replicate n 0) n ≡ zero_run ws s n
+zero_filled ws s zero l = sym (paste_none ws s [])
+zero_filled ws s (suc n) l =
+    ap (λ (k : ℕ). paste ws s (replicate k 0) k) (sym (add-one n)) ∙ sym (fill_from_more ws s n 0 (omega arith))
+    ∙ ap (λ (u : List ℕ). set u (s + n) 0) (zero_filled ws s n (omega arith))
 
-  pub clear_start : fits (length ws) s n ≡ true → Clearing ws s n ws 0
-  clear_start e = record { fit = e; turns = omega arith; into = leb-true (s + n) (length ws) e; words = refl; size = refl }
-
-  pub clear_turn : (u : List ℕ) (i : ℕ) → Clearing ws s n u i → i < n → Clearing ws s n (set u (s + i) 0) (i + 1)
-  clear_turn u i j l = record { fit = j.fit; turns = omega arith; into = j.into; words = rw (add-one, j.words); size = simp length-set j.size }
-
-  pub clear_end : (u : List ℕ) (i : ℕ) → Clearing ws s n u i → n ≤ i → u ≡ cleared ws s n
-  clear_end u i j l =
-      let e : i ≡ n = omega arith in
-      j.words ∙ ap (zero_run ws s) e ∙ rw j.fit
+-- what `fill` leaves of the run
+pub clear_filled : (ws : List ℕ) (s n : ℕ) (ys : List ℕ) → fits (length ws) s n ≡ true → ys ≡ replicate (length (mid_of s (s + n - s) ws)) 0
+    → put_mid s (s + n - s) ws ys ≡ cleared ws s n
+clear_filled ws s n ys f e =
+    let l = leb-true (s + n) (length ws) f in
+    let m : length (mid_of s (s + n - s) ws) ≡ n = omega (arith, length-take (s + n - s) (drop s ws), length-drop s ws) in
+    put_mid-paste s (s + n - s) ws ys (replicate n 0) n (e ∙ ap (λ (k : ℕ). replicate k 0) m) (omega arith) (sym (length-replicate n 0))
+    ∙ zero_filled ws s n l ∙ rw f

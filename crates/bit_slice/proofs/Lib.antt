@@ -1,3 +1,2 @@
-pub mod LentLaws
 pub mod SomeLaws
 pub mod ShiftLaws

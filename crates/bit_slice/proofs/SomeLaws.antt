@@ -1,42 +1,42 @@
--- A run of words without a number. Assumes nothing.
-use mathlib.Core.Path.{◌≡◌, sym}
-use mathlib.Core.Logic.{inl, inr}
-use mathlib.Core.Bool.{true, false, true≢false}
+-- A run of words with or without a number. Assumes nothing.
+use mathlib.Core.Path.{◌≡◌, sym, ◌∙◌}
+use mathlib.Core.Logic.{inr}
+use mathlib.Core.Bool.{Bool, true, false, true≢false}
 use mathlib.Core.List.{List}
-use Prim.Native.Nat.{ℕ, ◌+◌, ◌*◌, ◌/◌, ◌%◌, ◌^◌, ◌≤◌, ◌<◌}
+use Prim.Native.Nat.{ℕ, ◌+◌, ◌-◌, ◌*◌, ◌/◌, ◌%◌, ◌^◌, ◌≤◌, ◌<◌}
 use native.Mathlib.Omega.{arith}
-use native.Mathlib.Decide.{dec_lt}
 use native.Mathlib.Nat.{zero-div}
-use lib.ListN.{length, get_or}
+use lib.ListN.{length, get_or, take, drop, length-take, length-drop}
+use lib.Seq.{get_or-take, get_or-drop}
+use Rattle.std.proofs.Common.{MatchBool}
+use Rattle.std.specs.List.{HoldsAt, AllWithin}
 use Rattle.nll_spec.specs.Output.{word_bits}
 use Rattle.bit_set.specs.Bits.{has}
 use Rattle.bit_slice.specs.Some.{SomeSet}
 
--- The first k words from start on are 0.
-pub record Blank (words : List ℕ) (start k : ℕ) : Type 0 where
-  pub before : (m : ℕ) → m < k → get_or words (start + m) 0 ≡ 0
-
 -- a word that is 0 has no number
-pub blank_bit : (words : List ℕ) (i : ℕ) → get_or words (i / word_bits) 0 ≡ 0 → has words i ≡ false
+blank_bit : (words : List ℕ) (i : ℕ) → get_or words (i / word_bits) 0 ≡ 0 → has words i ≡ false
 blank_bit words i e = rw (e, zero-div (2 ^ (i % word_bits)))
 
-module _ {words : List ℕ} {start : ℕ} where
-  pub blank_none : Blank words start 0
-  blank_none = record { before = λ m l. absurd (omega arith) }
+-- what `&words[start..end]` lends
+abbrev pub run : List ℕ → ℕ → ℕ → List ℕ
+run words start end = take (end - start) (drop start words)
 
-  pub blank_more : {k : ℕ} → Blank words start k → get_or words (start + k) 0 ≡ 0 → Blank words start (k + 1)
-  blank_more {k} w e = record { before = λ m l. go m l (dec_lt m k) }
-    where
-      go : (m : ℕ) → m < k + 1 → Dec (m < k) → get_or words (start + m) 0 ≡ 0
-      go m l (yes o) = w.before m o
-      go m l (no o) = let z : m ≡ k = omega arith in rw z e
+run_word : (words : List ℕ) (start end k : ℕ) → k < end - start → get_or (run words start end) k 0 ≡ get_or words (start + k) 0
+run_word words start end k l = get_or-take (end - start) (drop start words) k 0 l ∙ get_or-drop start words k 0
 
-  pub some_past : {n : ℕ} → length words < start + n → SomeSet words start n true
-  some_past l = record { none = λ e. absurd (true≢false e); some = λ e. inl l }
-
-  pub some-set : {n : ℕ} (k : ℕ) → k < n → (get_or words (start + k) 0 ≡ 0 → ⊥) → SomeSet words start n true
-  some-set k l z = record { none = λ e. absurd (true≢false e); some = λ e. inr (k, l, z) }
-
-  pub none-set : {k n : ℕ} → Blank words start k → n ≤ k → SomeSet words start n false
-  none-set w l =
-      record { none = λ e i o. blank_bit words (word_bits * start + i) (let k : (word_bits * start + i) / word_bits ≡ start + i / word_bits = omega arith in rw k (w.before (i / word_bits) (omega arith))); some = λ e. absurd (true≢false (sym e)) }
+-- what `any` shows of the run
+pub some_any : (words : List ℕ) (start n end : ℕ) (r : Bool) → end ≡ start + n → end ≤ length words
+    → MatchBool r ((k : ℕ) × (k < length (run words start end)) × HoldsAt (λ w. w ≡ 0 → ⊥) (run words start end) k) (AllWithin (λ w. w ≡ 0) (run words start end) 0 (length (run words start end)))
+    → SomeSet words start n r
+some_any words start n end true e l h =
+    let k : h.0 < end - start = omega (arith, h.1, length-take (end - start) (drop start words)) in
+    record { none = λ f. absurd (true≢false f); some = λ f. inr (h.0, omega (arith, k, e), λ z. h.2 0 (run_word words start end h.0 k ∙ z)) }
+some_any words start n end false e l h = record {
+  none = λ f i o.
+      let k : i / word_bits < end - start = omega (arith, e, o) in
+      let w : (word_bits * start + i) / word_bits ≡ start + i / word_bits = omega arith in
+      let m : i / word_bits < length (run words start end) = omega (arith, l, k, length-take (end - start) (drop start words), length-drop start words) in
+      blank_bit words (word_bits * start + i) (rw w (sym (run_word words start end (i / word_bits) k) ∙ h (i / word_bits) 0 (omega arith) m));
+  some = λ f. absurd (true≢false (sym f));
+}

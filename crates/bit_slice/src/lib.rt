@@ -1,6 +1,6 @@
 #![tactic(auto)]
-// A view of a set that holds the lent words, and thin functions over it, whose work is bit_set's. `some_set` and `word_at` read the words themselves.
-// `is_set`, `some_set`, `word_at` and `insert_bits_from_slice` take plain slices.
+// A view of a set that holds the lent words, and thin functions over runs of words, whose work is bit_set's. `some_set` and `word_at` read the words
+// themselves. `is_set`, `some_set`, `word_at` and `insert_bits_from_slice` take plain slices.
 // No function requires anything: a number past the words is in no set, a run past the words changes nothing, and of such a run `some_set` says yes.
 ghost use Rattle.std.specs.Prelude.{◌≡◌, ◌+◌, ◌*◌, get_or};
 ghost use Rattle.nll_spec.specs.Output.{word_bits};
@@ -29,70 +29,35 @@ impl<'a> BitSlice<'a> {
     }
 }
 
-// Puts the numbers of all of the words of from into the run that starts at word start, and says whether that changed it.
-fn join_from(words: &mut [u32], start: usize, from: &[u32]) -> bool
-    ensures { JoinsAll words.old start from.now words.new result }
-{
-    bit_set::union_from(words, start, from, 0, from.len())
-}
-
-// The same for the words of a view.
+// Puts the numbers of a view into the run that starts at word start, and says whether that changed it.
 pub fn set_from<'w, 'a>(words: &'w mut [u32], start: usize, bits: BitSlice<'a>) -> bool
     ensures { JoinsAll words.old start bits.entry.words.now words.new result }
 {
-    join_from(words, start, bits.words)
-}
-
-// Whether a number is in the set of all of the words, by a view of them.
-fn member(words: &[u32], index: usize) -> bool
-    ensures { result ≡ has words.now index }
-{
-    as_slice(words).get(index)
-}
-
-// `join_from` by a view of the words of from.
-fn absorb(words: &mut [u32], start: usize, from: &[u32]) -> bool
-    ensures { JoinsAll words.old start from.now words.new result }
-{
-    set_from(words, start, as_slice(from))
+    bit_set::union_from(words, start, bits.words, 0, bits.words.len())
 }
 
 // Whether bit is in the set that starts at word start.
 pub fn is_set(words: &[u32], start: usize, bit: usize) -> bool
     ensures { result ≡ has words.now (word_bits * start + bit) }
 {
-    if words.len() < start {
-        return false;
-    }
-    member(&words[start..], bit)
+    bit_set::test(words, start, bit)
 }
 
 // Whether one of the n words from start on has a number, or lies past the words.
 pub fn some_set(words: &[u32], start: usize, n: usize) -> bool
     ensures { SomeSet words.now start n result }
 {
-    if words.len() < n {
-        return true;
+    match start.checked_add(n) {
+        Some(end) if end <= words.len() => words[start..end].iter().any(|w| *w != 0),
+        _ => true,
     }
-    if words.len() - n < start {
-        return true;
-    }
-    for k in 0..n {
-        if words[start + k] != 0 {
-            return true;
-        }
-    }
-    false
 }
 
 // Word k; 0 past the words.
 pub fn word_at(words: &[u32], k: usize) -> u32
     ensures { result ≡ get_or words.now k 0 }
 {
-    if words.len() <= k {
-        return 0;
-    }
-    words[k]
+    words.get(k).copied().unwrap_or(0)
 }
 
 // Puts the numbers of the run of n words from src in another slice into the run from dst, and says whether that changed it.
@@ -105,11 +70,5 @@ pub fn insert_bits_from_slice(
 ) -> bool
     ensures { (words.new ≡ joined words.old dst from.now src n) × (result ≡ grows words.old dst from.now src n) }
 {
-    if from.len() < n {
-        return false;
-    }
-    if from.len() - n < src {
-        return false;
-    }
-    absorb(words, dst, &from[src..src + n])
+    bit_set::union_from(words, dst, from, src, n)
 }

@@ -3,27 +3,15 @@ use mathlib.Core.Path.{◌≡◌, refl, sym, ap, ap₂, ◌∙◌, subst}
 use mathlib.Core.Logic.{inl, inr, ⊎_elim}
 use mathlib.Core.Bool.{false}
 use mathlib.Core.List.{List, [], ◌∷◌, ◌++◌, append-nil, append_assoc}
-use Prim.Native.Nat.{ℕ, zero, suc, ◌+◌, ◌/◌, ◌*◌, ◌%◌, ◌≤◌, ◌<◌}
+use Prim.Native.Nat.{ℕ, zero, suc, ◌+◌, ◌<◌}
 use native.Mathlib.Omega.{arith}
 use native.Mathlib.Numerals.{add-one}
-use lib.ListN.{length, get_or, set, length-set, length-append, get_or-eq_default}
+use lib.ListN.{length, get_or, set, length-set, length-append}
 use lib.Seq.{get_or-set_same, get_or-set_other}
 use Rattle.nll_spec.specs.Lists.{Member, here, there}
 use Rattle.nll_spec.specs.Constraints.{Outlives}
 use Rattle.nll_spec.proofs.Members.{every_member, member_left, member_right, member_append}
 use Rattle.constraint_list.specs.Listed.{outlives_from, count_in, room_in, first_in, constraints_in, Adds, Draws}
-
--- ---- A constraint and its number
-
-pub number-says : {a b p n : ℕ} → a < 256 → b < 256 → p < 65536 → n ≡ (a * 256 + b) * 65536 + p → outlives_from n ≡ record { sup = a; sub = b; point = p }
-number-says {a} {b} {p} {n} ha hb hp e =
-    let x : n / 16777216 % 256 ≡ a = omega arith in
-    let y : n / 65536 % 256 ≡ b = omega arith in
-    let z : n % 65536 ≡ p = omega arith in
-    rw (x, y, z)
-
-pub beyond : (t : List ℕ) (i : ℕ) → length t ≤ i + 1 → record { sup = 0; sub = 0; point = 0 } ≡ outlives_from (get_or t (i + 1) 0)
-beyond t i h = sym (ap outlives_from (get_or-eq_default t 0 {n = i + 1} h))
 
 -- ---- The first constraints
 
@@ -63,9 +51,6 @@ first_place t (suc n) {c} m = ⊎_elim
 
 -- ---- Constraints that come after those of the table
 
-pub adds_full : {cs : List Outlives} {t : List ℕ} → room_in t < length cs → Adds cs t t
-adds_full h = record { as_long = refl; adds = λ l. absurd (omega (arith, h, l)) }
-
 module _ (t : List ℕ) (n w : ℕ) (e : n ≡ count_in t) (l : n + 1 < length t) where
   abbrev with : List ℕ
   with = set (set t (n + 1) w) 0 (n + 1)
@@ -84,8 +69,12 @@ module _ (t : List ℕ) (n w : ℕ) (e : n ≡ count_in t) (l : n + 1 < length t
   adds-there : {c : Outlives} → outlives_from w ≡ c → Adds (c ∷ []) t with
   adds-there f = record { as_long = length-set (set t (n + 1) w) 0 (n + 1) ∙ length-set t (n + 1) w; adds = λ h. one_more f }
 
-pub adds_one : (t : List ℕ) (m n w : ℕ) {c : Outlives} → m ≡ n → n ≡ count_in t → n + 1 < length t → outlives_from w ≡ c → Adds (c ∷ []) t (set (set t (m + 1) w) 0 (n + 1))
-adds_one t m n w i e l f = rw i (adds-there t n w e l f)
+-- the number after the last one, and then one more
+pub adds_one : (t : List ℕ) (n w : ℕ) {c : Outlives} → n ≡ count_in t → n + 1 < length t → outlives_from w ≡ c
+    → Adds (c ∷ []) t (set (set t (n + 1) w) 0 (get_or (set t (n + 1) w) 0 0 + 1))
+adds_one t n w e l f =
+    let z : get_or (set t (n + 1) w) 0 0 ≡ n = get_or-set_other t (n + 1) 0 w 0 (λ q. omega arith) ∙ sym e in
+    rw z (adds-there t n w e l f)
 
 pub adds_none : {cs : List Outlives} {t : List ℕ} → cs ≡ [] → Adds cs t t
 adds_none {t = t} e = record { as_long = refl; adds = λ h. sym (ap (λ (xs : List Outlives). constraints_in t ++ xs) e ∙ append-nil (constraints_in t)) }

@@ -1,7 +1,10 @@
 #![tactic(auto)]
 // A list of constraints in a lent table. Number 0 says how many there are; each takes one number, from number 1 on.
-ghost use Rattle.std.specs.Prelude.{◌≡◌, [], ◌∷◌, ◌+◌, min, length, get_or};
+ghost use Rattle.std.specs.Prelude.{◌≡◌, [], ◌∷◌, ◌+◌, length, get_or};
 ghost use Rattle.constraint_list.specs.Listed.{outlives_from, outlives_of, count_in, room_in, Adds, Draws};
+
+// No table is used beyond this size.
+const MOST: usize = 65536;
 
 // "Region sup outlives region sub at the point."
 #[derive(Clone, Copy)]
@@ -11,90 +14,64 @@ pub struct Constraint {
     pub point: u16,
 }
 
-fn wide(x: u32) -> usize
-    ensures { result ≡ x }
-{
-    x as usize
+impl From<u32> for Constraint {
+    ghost from_gives = { λ n c. outlives_of c ≡ outlives_from n };
+
+    fn from(n: u32) -> Constraint {
+        Constraint {
+            sup: (n >> 24) as u8,
+            sub: ((n >> 16) % 256) as u8,
+            point: (n % 65536) as u16,
+        }
+    }
 }
 
-// A constraint as one number.
-fn number(sup: u8, sub: u8, point: u16) -> u32
-    ensures { outlives_from result ≡ outlives_of (record { sup = sup; sub = sub; point = point }) }
-{
-    ((sup as u32) * 256 + (sub as u32)) * 65536 + (point as u32)
+impl From<Constraint> for u32 {
+    ghost from_gives = { λ c n. outlives_from n ≡ outlives_of c };
+
+    fn from(c: Constraint) -> u32 {
+        (u32::from(c.sup) * 256 + u32::from(c.sub)) * 65536 + u32::from(c.point)
+    }
 }
 
 // How many constraints there are.
 pub fn count(list: &[u32]) -> usize
     ensures { result ≡ count_in list.now }
 {
-    if list.len() == 0 {
-        return 0;
-    }
-    wide(list[0])
-}
-
-// The size, or 65,536, beyond which no table is used.
-fn at_most(size: usize) -> usize
-    ensures { result ≡ min size 65536 }
-{
-    if size < 65536 { size } else { 65536 }
+    list.first().copied().unwrap_or(0) as usize
 }
 
 // How many more there is room for.
 pub fn room(list: &[u32]) -> usize
     ensures { result ≡ room_in list.now }
 {
-    let most = at_most(list.len());
-    let used = count(list);
-    if used < most { most - used - 1 } else { 0 }
+    list.len().min(MOST).saturating_sub(count(list) + 1)
 }
 
 // Constraint i, counted from 0. One beyond the table is that of the number 0.
 pub fn get(list: &[u32], i: usize) -> Constraint
     ensures { outlives_of result ≡ outlives_from (get_or list.now (i + 1) 0) }
 {
-    if list.len() <= i {
-        return Constraint {
-            sup: 0,
-            sub: 0,
-            point: 0,
-        };
-    }
-    if list.len() - i <= 1 {
-        return Constraint {
-            sup: 0,
-            sub: 0,
-            point: 0,
-        };
-    }
-    let n = list[i + 1];
-    Constraint {
-        sup: (n / 16777216 % 256) as u8,
-        sub: (n / 65536 % 256) as u8,
-        point: (n % 65536) as u16,
-    }
+    let n = list.get(i.saturating_add(1)).copied().unwrap_or(0);
+    Constraint::from(n)
 }
 
 // Takes all constraints away.
 pub fn clear(list: &mut [u32])
     ensures { (length list.new ≡ length list.old) × (count_in list.new ≡ 0) }
 {
-    if list.len() == 0 {
-        return;
+    if !list.is_empty() {
+        list[0] = 0;
     }
-    list[0] = 0;
 }
 
 // Puts a constraint after those that are there, where there is room.
 pub fn add(list: &mut [u32], c: Constraint)
     ensures { Adds (outlives_of c ∷ []) list.old list.new × Draws (outlives_of c ∷ []) list.old list.new }
 {
-    if room(list) == 0 {
-        return;
+    if room(list) > 0 {
+        let at = count(list) + 1;
+        list[at] = u32::from(c);
+        list[0] += 1;
     }
-    let n = list[0];
-    let at = wide(n) + 1;
-    list[at] = number(c.sup, c.sub, c.point);
-    list[0] = n + 1;
 }

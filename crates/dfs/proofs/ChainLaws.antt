@@ -1,20 +1,19 @@
 -- The laws of `Along`, `Stopped` and `Chained`. Assumes nothing.
 use mathlib.Core.Path.{◌≡◌, refl, sym, ap, ◌∙◌, subst}
 use mathlib.Core.Logic.{inl, inr, ⊎_elim}
-use mathlib.Core.Bool.{Bool, true, false, ◌&&◌, and-eq-true_iff, true≢false}
+use mathlib.Core.Bool.{Bool, true, false, true≢false}
 use mathlib.Core.List.{List}
-use Prim.Native.Nat.{ℕ, ◌+◌, ◌-◌, ◌*◌, ◌/◌, ◌%◌, ◌≤◌, ◌<◌}
+use Prim.Native.Nat.{ℕ, ◌+◌, ◌*◌, ◌/◌, ◌%◌, ◌≤◌, ◌<◌}
 use native.Mathlib.Decide.{ℕ_discrete, dec_lt}
 use native.Mathlib.Omega.{arith}
-use lib.ListN.{length, get_or, replicate}
+use lib.ListN.{length, replicate}
 use lib.Dec.{eqb, ltb}
-use borrow.Author.Tests.{eqb-true, lt-ltb, le-ltb, ltb-false}
+use borrow.Author.Tests.{lt-ltb, le-ltb, ltb-false}
 use Rattle.nll_spec.specs.Output.{word_bits}
 use Rattle.bit_set.specs.Bits.{has, with_bit}
 use Rattle.bit_set.proofs.BitLaws.{digit, has_out, length_with, has_with, has_with_other, with_out}
-use Rattle.graph.specs.Tables.{row_start, row_end, up_to}
+use Rattle.graph.specs.Tables.{up_to}
 use Rattle.graph.proofs.SearchLaws.{no_mark}
-use Rattle.graph.proofs.EntryLaws.{up_to_is}
 use Rattle.dfs.specs.Walk.{in_code, Follows, Chained, Along, Stopped}
 
 -- ---- Bits
@@ -101,8 +100,8 @@ module _ (chain ws : List ℕ) (from code : ℕ) (a : List ℕ) (q : ℕ) (sized
   pub past_code : code ≤ q + 1 → Advanced a q
   past_code l = stay chain (in_code ws from code) a q sized lq (λ c k. absurd (true≢false (sym k ∙ rw (le-ltb (q + 1) code l))))
 
-  pub no_link : (t : Bool) → t ≡ has chain (word_bits * 0 + q) → t ≡ false → Advanced a q
-  no_link t e f = stay chain (in_code ws from code) a q sized lq (λ c k. absurd (true≢false (sym c ∙ sym (at_zero chain q) ∙ sym e ∙ f)))
+  pub no_link : (t : Bool) → t ≡ has chain q → t ≡ false → Advanced a q
+  no_link t e f = stay chain (in_code ws from code) a q sized lq (λ c k. absurd (true≢false (sym c ∙ sym e ∙ f)))
 
   pub not-held : (t : Bool) → q + 1 < code → t ≡ has ws (word_bits * from + (q + 1)) → t ≡ false → Advanced a q
   not-held t l e f = stay chain (in_code ws from code) a q sized lq (λ c k. absurd (true≢false (sym k ∙ rw (lt-ltb (q + 1) code l) (sym e ∙ f))))
@@ -118,22 +117,6 @@ up_to_le e = go (ltb e 1536) refl
     go : (b : Bool) → ltb e 1536 ≡ b → up_to e ≤ e
     go true q = rw q (omega arith)
     go false q = let l : 1536 ≤ e = ltb-false e 1536 q in rw q l
-
-pub follows_row : (first succ : List ℕ) (q : ℕ) → row_end first q ≡ row_start first q + 1 → row_end first q ≤ 1536 → get_or succ (row_start first q) 0 ≡ q + 1 → Follows first succ q
-follows_row first succ q e l n =
-    let u : up_to (row_end first q) ≡ row_start first q + 1 = up_to_is (row_end first q) l ∙ e in
-    record {
-      next = (row_start first q, omega arith, rw u (omega arith), n);
-      alone = λ s w. let i : w.0 ≡ row_start first q = omega (arith, w.1, w.2, u) in sym w.3 ∙ ap (λ (k : ℕ). get_or succ k 0) i ∙ n;
-    }
-
--- as the code of `follows` goes
-pub follows_tests : (first succ : List ℕ) (q start end next : ℕ) → start ≡ row_start first q → end ≡ row_end first q → next ≡ get_or succ start 0 → end ≤ 1536 → start < end
-    → (eqb (end - start) 1 && eqb next (q + 1)) ≡ true → Follows first succ q
-follows_tests first succ q start end next es ee en l r e =
-    let w = (and-eq-true_iff (eqb (end - start) 1) (eqb next (q + 1))).0 e in
-    let one : end - start ≡ 1 = eqb-true _ _ w.0 in
-    follows_row first succ q (omega (arith, es, ee, one, r)) (omega (arith, ee, l)) (ap (λ (k : ℕ). get_or succ k 0) (sym es) ∙ sym en ∙ eqb-true _ _ w.1)
 
 pub chained_none : (first succ : List ℕ) → Chained (replicate 32 0) first succ
 chained_none first succ = record { links = λ q e. absurd (true≢false (sym e ∙ has-none 32 q)) }

@@ -18,7 +18,6 @@ use Rattle.nll_spec.specs.Output.{word_bits}
 use Rattle.bit_set.specs.Bits.{has}
 use Rattle.bit_set.proofs.BitLaws.{digit, digit_lt, digit_or, digit-suc, place, both_digits}
 use Rattle.dfs.specs.Walk.{in_code, Along, Stopped, Run, Mask}
-use Rattle.dfs.proofs.ChainLaws.{at_zero}
 
 -- ---- Digits
 
@@ -119,7 +118,7 @@ mask_bits b n l = rw exact record { inside = inside'; only = only' }
 
 module _ (chain ws : List ℕ) (from code : ℕ) (a : List ℕ) (q : ℕ) (sized : length a ≡ 32) (small : code ≤ 1024) (lc : q + 1 < code) where
   -- t and u: q is of the chain, and the set has the next point
-  module _ (t u : Bool) (et : t ≡ has chain (word_bits * 0 + q)) (yt : t ≡ true) (eu : u ≡ has ws (word_bits * from + (q + 1))) (yu : u ≡ true) where
+  module _ (t u : Bool) (et : t ≡ has chain q) (yt : t ≡ true) (eu : u ≡ has ws (word_bits * from + (q + 1))) (yu : u ≡ true) where
     abbrev k : ℕ
     k = (q + 1) / 32
 
@@ -137,7 +136,7 @@ module _ (chain ws : List ℕ) (from code : ℕ) (a : List ℕ) (q : ℕ) (sized
         sized = length-set a k v ∙ sized;
         up = omega arith;
         below = omega (arith, nc, lc, small);
-        linked = λ x i j. elim (ℕ_discrete x q) [ yes e ↦ rw e (sym (at_zero chain q) ∙ sym et ∙ yt) | no e ↦ linked' x (omega (arith, i, e)) j ];
+        linked = λ x i j. elim (ℕ_discrete x q) [ yes e ↦ rw e (sym et ∙ yt) | no e ↦ linked' x (omega (arith, i, e)) j ];
         held = λ x i j. elim (ℕ_discrete x (q + 1)) [ yes e ↦ rw (e, lt-ltb (q + 1) code lc) (sym eu ∙ yu) | no e ↦ held' x (omega (arith, i, e)) j ];
         kept = λ x e. elim (ℕ_discrete (x / 32) k) [ yes i ↦ in_word_lem x i ∙ eq-eqb _ 1 (or_left (digit (get_or a k 0) (x % 32)) (digit m (x % 32)) (digit_lt m (x % 32)) (eqb-true _ 1 (sym (old_word x i) ∙ e))) | no i ↦ other x i ∙ e ];
         put = λ x i j. in_word_lem x (omega (arith, i, j, nb)) ∙ eq-eqb _ 1 (or_right (digit (get_or a k 0) (x % 32)) (digit m (x % 32)) (digit_lt (get_or a k 0) (x % 32)) (mask.inside (x % 32) (omega (arith, i, j, nb)) (omega (arith, i, j, nb))));

@@ -12,14 +12,16 @@ use lib.ListN.{length, get_or, set, replicate, length-set, length-replicate}
 use lib.Seq.{get_or-set_same, get_or-set_other}
 use lib.Dec.{eqb, leb, ltb}
 use borrow.Author.Tests.{eqb-true, eqb-false, eq-eqb, ne_eqb, ltb-true, ltb-false, lt-ltb, le-ltb, leb-true, leb-false, le-leb, not-true, not-false}
+use Rattle.std.proofs.Common.{Some}
 use Rattle.nll_spec.specs.Output.{word_bits}
 use Rattle.bit_set.specs.Bits.{has, with_bit}
 use Rattle.bit_set.proofs.BitLaws.{has_with, has_with_other}
-use Rattle.graph.specs.Tables.{row_start, row_end, Edge, up_to}
+use Rattle.graph.specs.Tables.{row_start, row_end, Edge, up_to, successors}
+use Rattle.graph.proofs.RowLaws.{successor_at}
 use Rattle.graph.specs.Search.{Marked, State, state, zeros}
 use Rattle.graph.proofs.SearchLaws.{mark-kept, mark-new, mark-old, no_mark, work, zeros-mark, zeros-replicate}
-use Rattle.dfs.specs.Walk.{in_code, Chained, Along, Stopped, Reach, here, step, pushed, visited, nexts, row, left, Roomy, Leaf, is_leaf, Reaches}
-use Rattle.dfs.proofs.ChainLaws.{at_zero, with_kept, has-none, up_to_le}
+use Rattle.dfs.specs.Walk.{in_code, Chained, Along, Stopped, Reach, here, step, pushed, Popped, visited, nexts, row, left, Roomy, Leaf, is_leaf, Reaches}
+use Rattle.dfs.proofs.ChainLaws.{with_kept, has-none, up_to_le}
 
 -- ---- The invariant
 
@@ -208,17 +210,32 @@ visited_roomy h s st hs w = go (eqb (get_or st.seen s 0) 0) (h s) refl refl
     go true false e eb = w
     go false b e eb = w
 
-pub nexts-none : (h : ℕ → Bool) (succ : List ℕ) (lo : ℕ) (st : State) → st ≡ nexts h succ lo (lo - lo) st
-unfolding nexts
-nexts-none h succ lo st = let e : lo - lo ≡ 0 = omega arith in rw e
+-- The first i of the points that follow q are visited.
+pub record Nexted (h : ℕ → Bool) (first succ : List ℕ) (q : ℕ) (ss : List ℕ) (i : ℕ) (st u : State) : Type 0 where
+  pub list : ss ≡ successors first succ q
+  pub count : length ss ≡ up_to (row_end first q) - row_start first q
+  pub roomy : Roomy u.seen u.depth
+  pub is : u ≡ nexts h succ (row_start first q) i st
 
-pub nexts-more : (h : ℕ → Bool) (succ : List ℕ) (lo k : ℕ) (st : State) → lo ≤ k
-    → visited h (get_or succ k 0) (nexts h succ lo (k - lo) st) ≡ nexts h succ lo (k + 1 - lo) st
-unfolding nexts
-nexts-more h succ lo k st l =
-    let e : k + 1 - lo ≡ suc (k - lo) = omega arith in
-    let q : lo + (k - lo) ≡ k = omega arith in
-    rw (e, q)
+module _ {h : ℕ → Bool} {first succ : List ℕ} {q : ℕ} {ss : List ℕ} where
+  pub nexted_none : {st : State} → ss ≡ successors first succ q → length ss ≡ up_to (row_end first q) - row_start first q → Roomy st.seen st.depth → Nexted h first succ q ss 0 st st
+  unfolding nexts
+  nexted_none l n w = record { list = l; count = n; roomy = w; is = refl }
+
+  pub nexted_more : {i : ℕ} {st u v : State} → Nexted h first succ q ss i st u → ((s : ℕ) → h s ≡ true → s < 1024) → i < length ss → v ≡ visited h (get_or ss i 0) u → Nexted h first succ q ss (i + 1) st v
+  unfolding nexts
+  nexted_more {i} {st} {u} {v} w small l e =
+      let at : get_or ss i 0 ≡ get_or succ (row_start first q + i) 0 = rw w.list (successor_at first succ q i (rw w.list at l)) in
+      let k : i + 1 ≡ suc i = omega arith in
+      record {
+        list = w.list;
+        count = w.count;
+        roomy = subst (λ (t : State). Roomy t.seen t.depth) (sym e) (visited_roomy h (get_or ss i 0) u (small (get_or ss i 0)) w.roomy);
+        is = e ∙ rw (k, w.is, at);
+      }
+
+  pub nexted_all : {i : ℕ} {st u : State} → Nexted h first succ q ss i st u → i ≡ length ss → u ≡ row h first succ q st
+  nexted_all {i} {st} {u} w e = let n : i ≡ up_to (row_end first q) - row_start first q = omega (arith, w.count) in w.is ∙ rw n
 
 -- ---- Points of blocks
 
@@ -247,8 +264,8 @@ module _ (ws : List ℕ) (from code s at : ℕ) (e : at ≡ s) (st : State) wher
   visit_out b l q f = visited_out (in_code ws from code) s st (rw (lt-ltb s code (rw e at l), ← e, ← q) f)
 
   pub visit_new : (b : Bool) → at < code → get_or st.seen at 0 ≡ 0 → b ≡ has ws (word_bits * from + at) → b ≡ true
-      → state (set st.seen at 1) (set st.stack st.depth s) (st.depth + 1) ≡ visited (in_code ws from code) s st
-  visit_new b l m q f = rw e (visited-new (in_code ws from code) s st (rw e at m) (rw (lt-ltb s code (rw e at l), ← e, ← q) f))
+      → pushed s st ≡ visited (in_code ws from code) s st
+  visit_new b l m q f = visited-new (in_code ws from code) s st (rw e at m) (rw (lt-ltb s code (rw e at l), ← e, ← q) f)
 
 -- a point that is reached is one that h holds
 pub reach_held : {E : ℕ → ℕ → Type 0} {h : ℕ → Bool} {p x : ℕ} → Reach E h p x → h x ≡ true
@@ -256,12 +273,12 @@ reach_held (here e) = e
 reach_held (step r e k) = k
 
 -- the points after q are visited, where q is not of the chain
-pub left-linked : (chain : List ℕ) (h : ℕ → Bool) (first succ : List ℕ) (q : ℕ) (st : State) (t : Bool) → t ≡ has chain (word_bits * 0 + q) → t ≡ true → st ≡ left chain h first succ q st
-left-linked chain h first succ q st t e y = rw (sym (at_zero chain q) ∙ sym e ∙ y)
+pub left-linked : (chain : List ℕ) (h : ℕ → Bool) (first succ : List ℕ) (q : ℕ) (st : State) (t : Bool) → t ≡ has chain q → t ≡ true → st ≡ left chain h first succ q st
+left-linked chain h first succ q st t e y = rw (sym e ∙ y)
 
-pub left-row : (chain : List ℕ) (h : ℕ → Bool) (first succ : List ℕ) (q : ℕ) (st st' : State) (t : Bool) → t ≡ has chain (word_bits * 0 + q) → t ≡ false → st' ≡ row h first succ q st
+pub left-row : (chain : List ℕ) (h : ℕ → Bool) (first succ : List ℕ) (q : ℕ) (st st' : State) (t : Bool) → t ≡ has chain q → t ≡ false → st' ≡ row h first succ q st
     → st' ≡ left chain h first succ q st
-left-row chain h first succ q st st' t e n r = rw (sym (at_zero chain q) ∙ sym e ∙ n) r
+left-row chain h first succ q st st' t e n r = rw (sym e ∙ n) r
 
 -- ---- The whole search
 
@@ -442,6 +459,17 @@ module _ (chain first succ : List ℕ) (h : ℕ → Bool) (p : ℕ) (small : (s 
   turn_code ps ps' b st st' q e x g hd eq w ex es =
       rw (ex, es) (turn ps ps' b st e g hd (subst (λ (y : ℕ). Along chain h (with_bit ps y) ps' y e) eq w.0) w.1)
 
+  -- the same of a stack whose last point q was taken off
+  pub turn_popped : {ps ps' : List ℕ} {b x : Bool} {st st₁ st' : State} {q e : ℕ} → Going chain first succ h p ps b st → Popped st (Some q) st₁
+      → Along chain h (with_bit ps q) ps' q e × Stopped chain h ps' e → x ≡ is_leaf chain first e → st' ≡ left chain h first succ e st₁ → Turn ps' (b || x) st st'
+  turn_popped {ps} {ps'} {b} {x} {st} {st₁} {st'} {q} {e} g k w ex es = turn_code ps ps' b st st' q e x g k.0 k.1 w ex (es ∙ ap (left chain h first succ e) k.2)
+
+  pub popped_small : {ps : List ℕ} {b : Bool} {st st₁ : State} {q : ℕ} → Going chain first succ h p ps b st → Popped st (Some q) st₁ → q < 1024
+  popped_small {ps} {b} {st} {q = q} g k = top_small ps b st q g k.0 k.1
+
+  pub popped_roomy : {ps : List ℕ} {b : Bool} {st st₁ : State} {q : ℕ} → Going chain first succ h p ps b st → Popped st (Some q) st₁ → Roomy st₁.seen st₁.depth
+  popped_roomy g k = let w = g.search.roomy in rw (k.2) record { room = omega (arith, w.room); sized = w.sized }
+
   -- the stack is empty: the points that are put are those that p reaches
   pub finish : (ps : List ℕ) (b : Bool) (st : State) → Going chain first succ h p ps b st → st.depth ≡ 0 → Chained chain first succ → Reaches (Reach (Edge first succ) h p) first ps b
   finish ps b st g d0 ch =
@@ -477,10 +505,10 @@ module _ (chain first succ : List ℕ) (h : ℕ → Bool) (p : ℕ) (small : (s 
       leaf_ends x l false e = rw (e, le-leb (row_end first x) (row_start first x) l)
 
   -- a walk that goes along the chain to its end reaches the points along it
-  pub straight : (ps : List ℕ) (e : ℕ) (t : Bool) → h p ≡ true → Along chain h (with_bit (replicate 32 0) p) ps p e × Stopped chain h ps e → t ≡ has chain (word_bits * 0 + e) → t ≡ true
+  pub straight : (ps : List ℕ) (e : ℕ) (t : Bool) → h p ≡ true → Along chain h (with_bit (replicate 32 0) p) ps p e × Stopped chain h ps e → t ≡ has chain e → t ≡ true
       → Chained chain first succ → Reaches (Reach (Edge first succ) h p) first ps false
   straight ps e t hp w et y ch =
-      let c : has chain e ≡ true = sym (at_zero chain e) ∙ sym et ∙ y in
+      let c : has chain e ≡ true = sym et ∙ y in
       let zeros : List ℕ = replicate 1024 0 in
       let st : State = pushed p (state zeros zeros 0) in
       let eq : p ≡ get_or st.stack 0 0 = sym (get_or-set_same zeros 0 p 0 (rw length-replicate (omega arith))) in

@@ -1,13 +1,22 @@
 #![tactic(auto)]
 // The walk of one constraint, "S outlives T at p": the points that are reached from p through T.
-// The points that follow point p are succ[first[p]..first[p + 1]].
 ghost use Rattle.std.specs.Prelude.{◌≡◌, true, ◌+◌, ◌<◌, ◌≤◌, min, length};
-ghost use Rattle.graph.specs.Search.{state};
-ghost use Rattle.bit_set.specs.Bits.{with_bit};
+ghost use Rattle.bit_set.specs.Bits.{has, with_bit};
 ghost use Rattle.graph.specs.Tables.{Edge};
-ghost use Rattle.dfs.specs.Walk.{in_code, Follows, Chained, Along, Stopped, Run, Mask, Reach, visited, row, left, is_leaf, Roomy, Reaches};
+ghost use Rattle.dfs.specs.Walk.{in_code, Follows, Chained, Along, Stopped, Run, Mask, Reach, state_of, pushed, Popped, visited, left, is_leaf, Roomy, Reaches};
 
-use graph::tables::up_to;
+use graph::tables::FuncGraph;
+
+// A walk along the edges of a graph through the points of a set: the points below `code` of the set that starts at word `from`. Each point of the chain is followed by the
+// next one alone.
+#[derive(Clone, Copy)]
+pub struct Walk<'a> {
+    pub graph: &'a FuncGraph,
+    pub chain: &'a [u32; 32],
+    pub words: &'a [u32],
+    pub from: usize,
+    pub code: usize,
+}
 
 // The points that a walk reached, and whether one of them has no point after it.
 #[derive(Clone, Copy)]
@@ -16,112 +25,60 @@ pub struct Reached {
     pub exit: bool,
 }
 
-fn wide(x: u16) -> usize
-    ensures { result ≡ x }
-{
-    x as usize
-}
-
-fn wide32(x: u32) -> usize
-    ensures { result ≡ x }
-{
-    x as usize
-}
-
 // Whether the one point that follows q is q + 1.
-fn follows(first: &[u16; 1025], succ: &[u16; 1536], q: usize) -> bool
+fn follows(graph: &FuncGraph, q: usize) -> bool
     requires { q < 1024 }
-    ensures { result ≡ true → Follows first.now succ.now q }
+    ensures { result ≡ true → Follows graph.now.first graph.now.succ q }
 {
-    let start = wide(first[q]);
-    let end = wide(first[q + 1]);
-    if 1536 < end {
-        return false;
-    }
-    if end <= start {
-        return false;
-    }
-    (end - start == 1) & (wide(succ[start]) == q + 1)
+    matches!(graph.successors(q), [s] if usize::from(*s) == q + 1)
 }
 
 // Points below code, each followed by the next one alone. Not all of them need be there: a smaller chain is as right, and slower.
-pub fn chains(first: &[u16; 1025], succ: &[u16; 1536], code: usize) -> [u32; 32]
-    ensures { Chained result first.now succ.now }
+pub fn chains(graph: &FuncGraph, code: usize) -> [u32; 32]
+    ensures { Chained result graph.now.first graph.now.succ }
 {
     let mut chain = [0; 32];
     if 1024 < code {
         return chain;
     }
     for q in 0..code {
-        if follows(first, succ, q) {
+        if follows(graph, q) {
             bit_set::add(&mut chain, 0, q);
         }
     }
     chain
 }
 
-// Marks and pushes s, where it is a point of a block, has no mark and is in the set from word from. Returns the stack's new depth.
-fn visit(
-    words: &[u32],
-    from: usize,
-    code: usize,
-    s: u16,
-    seen: &mut [u8; 1024],
-    stack: &mut [u16; 1024],
+// The marks of the points that were seen, and a stack of those that are still to be left.
+#[derive(Drop)]
+struct Search {
+    seen: [u8; 1024],
+    stack: [u16; 1024],
     depth: usize,
-) -> usize
-    requires { (code ≤ 1024) × Roomy seen.old depth }
-    ensures { state seen.new stack.new result ≡ visited (in_code words.now from code) s (state seen.old stack.old depth) }
-{
-    let at = wide(s);
-    if code <= at {
-        return depth;
-    }
-    if seen[at] != 0 {
-        return depth;
-    }
-    if !bit_set::test(words, from, at) {
-        return depth;
-    }
-    seen[at] = 1;
-    stack[depth] = s;
-    depth + 1
 }
 
-// Visits each point that follows q. Returns the stack's new depth.
-fn visit_next(
-    first: &[u16; 1025],
-    succ: &[u16; 1536],
-    words: &[u32],
-    from: usize,
-    code: usize,
-    q: usize,
-    seen: &mut [u8; 1024],
-    stack: &mut [u16; 1024],
-    depth: usize,
-) -> usize
-    requires { (code ≤ 1024) × (q < 1024) × Roomy seen.old depth }
-    ensures { state seen.new stack.new result
-        ≡ row (in_code words.now from code) first.now succ.now q (state seen.old stack.old depth) }
-{
-    let start = wide(first[q]);
-    let end = up_to(first[q + 1]);
-    let mut k = start;
-    let mut d = depth;
-    while k < end {
-        d = visit(words, from, code, succ[k], seen, stack, d);
-        k += 1;
+impl Search {
+    // Marks and pushes point s.
+    fn push(&mut self, s: u16)
+        requires { (s < 1024) × (self.old.depth < 1024) }
+        ensures { state_of self.new ≡ pushed s (state_of self.old) }
+    {
+        self.seen[usize::from(s)] = 1;
+        self.stack[self.depth] = s;
+        self.depth += 1;
     }
-    d
-}
 
-fn lesser(x: usize, y: usize) -> usize
-    ensures { result ≡ min x y }
-{
-    if x < y {
-        return x;
+    // Takes the last point off the stack.
+    fn pop(&mut self) -> Option<usize>
+        requires { self.old.depth ≤ 1024 }
+        ensures { Popped (state_of self.old) result (state_of self.new) }
+    {
+        if self.depth == 0 {
+            return None;
+        }
+        self.depth -= 1;
+        Some(usize::from(self.stack[self.depth]))
     }
-    y
 }
 
 // How many steps a walk may take from bit b on within a word: from a bit of links to the next bit, if that is of inner.
@@ -141,156 +98,144 @@ fn mask(b: usize, n: usize) -> u32
     (4294967295 >> (31 - n)) << b
 }
 
-// Puts the next points of a walk along the chain into the points, as far as they are in one word, and returns the last of them. Returns q where q is
-// not of the chain, the inner set lacks q + 1, or q + 1 is among the points.
-fn advance(
-    chain: &[u32; 32],
-    words: &[u32],
-    from: usize,
-    code: usize,
-    points: &mut [u32; 32],
-    q: usize,
-) -> usize
-    requires { (code ≤ 1024) × (q < 1024) × (length points.old ≡ 32) }
-    ensures { Along chain.now (in_code words.now from code) points.old points.new q result
-        × (result ≡ q → Stopped chain.now (in_code words.now from code) points.new q) }
-{
-    let next = q + 1;
-    if code <= next {
-        return q;
+impl Walk<'_> {
+    // Whether point q is of the chain.
+    fn is_linked(&self, q: usize) -> bool
+        ensures { result ≡ has self.now.chain.now q }
+    {
+        let chain = self.chain;
+        bit_set::test(chain, 0, q)
     }
-    if !bit_set::test(chain, 0, q) {
-        return q;
-    }
-    if !bit_set::test(words, from, next) {
-        return q;
-    }
-    if bit_set::test(points, 0, next) {
-        return q;
-    }
-    let k = next / 32;
-    let b = next % 32;
-    let limit = lesser(31 - b, code - 1 - next);
-    let n = lesser(wide32(run_length(chain[k], words[from + k], b)), limit);
-    points[k] = points[k] | mask(b, n);
-    next + n
-}
 
-// Puts q and the points that a walk takes after it along the chain into the points, and returns the last of them.
-fn follow(
-    chain: &[u32; 32],
-    words: &[u32],
-    from: usize,
-    code: usize,
-    points: &mut [u32; 32],
-    q: usize,
-) -> usize
-    requires { (code ≤ 1024) × (q < 1024) × (length points.old ≡ 32) }
-    ensures { Along chain.now (in_code words.now from code) (with_bit points.old q) points.new q result
-        × Stopped chain.now (in_code words.now from code) points.new result }
-{
-    bit_set::add(points, 0, q);
-    let mut at = q;
-    loop {
-        let next = advance(chain, words, from, code, points, at);
-        if next == at {
-            return at;
+    // Puts the next points of the walk along the chain into the points, as far as they are in one word, and returns the last of them. Returns q where q is not of the
+    // chain, the set lacks q + 1, or q + 1 is among the points.
+    fn advance(&self, points: &mut [u32; 32], q: usize) -> usize
+        requires { (self.now.code ≤ 1024) × (q < 1024) × (length points.old ≡ 32) }
+        ensures { Along self.now.chain.now (in_code self.now.words.now self.now.from self.now.code) points.old points.new q result
+            × (result ≡ q → Stopped self.now.chain.now (in_code self.now.words.now self.now.from self.now.code) points.new q) }
+    {
+        let next = q + 1;
+        if self.code <= next {
+            return q;
         }
-        at = next;
+        if !self.is_linked(q) {
+            return q;
+        }
+        if !bit_set::test(self.words, self.from, next) {
+            return q;
+        }
+        if bit_set::test(points, 0, next) {
+            return q;
+        }
+        let k = next / 32;
+        let b = next % 32;
+        let limit = (31 - b).min(self.code - 1 - next);
+        let n = (run_length(self.chain[k], self.words[self.from + k], b) as usize).min(limit);
+        points[k] = points[k] | mask(b, n);
+        next + n
     }
-}
 
-// Visits each point that follows q, where q is not of the chain. Returns the stack's new depth.
-fn leave(
-    chain: &[u32; 32],
-    first: &[u16; 1025],
-    succ: &[u16; 1536],
-    words: &[u32],
-    from: usize,
-    code: usize,
-    q: usize,
-    seen: &mut [u8; 1024],
-    stack: &mut [u16; 1024],
-    depth: usize,
-) -> usize
-    requires { (code ≤ 1024) × (q < 1024) × Roomy seen.old depth }
-    ensures { state seen.new stack.new result
-        ≡ left chain.now (in_code words.now from code) first.now succ.now q (state seen.old stack.old depth) }
-{
-    if bit_set::test(chain, 0, q) {
-        return depth;
+    // Puts q and the points that the walk takes after it along the chain into the points, and returns the last of them.
+    fn follow(&self, points: &mut [u32; 32], q: usize) -> usize
+        requires { (self.now.code ≤ 1024) × (q < 1024) × (length points.old ≡ 32) }
+        ensures { Along self.now.chain.now (in_code self.now.words.now self.now.from self.now.code) (with_bit points.old q) points.new q result
+            × Stopped self.now.chain.now (in_code self.now.words.now self.now.from self.now.code) points.new result }
+    {
+        bit_set::add(points, 0, q);
+        let mut at = q;
+        loop {
+            let next = self.advance(points, at);
+            if next == at {
+                return at;
+            }
+            at = next;
+        }
     }
-    visit_next(first, succ, words, from, code, q, seen, stack, depth)
-}
 
-// Whether q is not of the chain and has no point after it.
-fn is_leaf(chain: &[u32; 32], first: &[u16; 1025], q: usize) -> bool
-    requires { q < 1024 }
-    ensures { result ≡ is_leaf chain.now first.now q }
-{
-    !bit_set::test(chain, 0, q) & (first[q + 1] <= first[q])
-}
-
-// The points that a walk from p through the set from word from reaches, by a search with marks and a stack.
-fn search(
-    chain: &[u32; 32],
-    first: &[u16; 1025],
-    succ: &[u16; 1536],
-    words: &[u32],
-    from: usize,
-    code: usize,
-    p: usize,
-) -> Reached
-    requires { (code ≤ 1024) × (in_code words.now from code p ≡ true) }
-    ensures { Chained chain.now first.now succ.now
-        → Reaches (Reach (Edge first.now succ.now) (in_code words.now from code) p) first.now result.points result.exit }
-{
-    let mut points = [0; 32];
-    let mut exit = false;
-    let mut seen = [0; 1024];
-    let mut stack = [0; 1024];
-    seen[p] = 1;
-    stack[0] = p as u16;
-    let mut depth = 1;
-    while depth > 0 {
-        depth -= 1;
-        let q = wide(stack[depth]);
-        let e = follow(chain, words, from, code, &mut points, q);
-        exit = exit | is_leaf(chain, first, e);
-        depth = leave(
-            chain, first, succ, words, from, code, e, &mut seen, &mut stack, depth,
-        );
+    // Marks and pushes s, where it is one of the walk's points and has no mark.
+    fn visit(&self, s: u16, search: &mut Search)
+        requires { (self.now.code ≤ 1024) × Roomy search.old.seen search.old.depth }
+        ensures { state_of search.new ≡ visited (in_code self.now.words.now self.now.from self.now.code) s (state_of search.old) }
+    {
+        let at = usize::from(s);
+        if self.code <= at {
+            return;
+        }
+        if search.seen[at] != 0 {
+            return;
+        }
+        if !bit_set::test(self.words, self.from, at) {
+            return;
+        }
+        search.push(s);
     }
-    Reached { points, exit }
-}
 
-// The same. A walk that ends at a point of the chain needs no search. A walk from a point that is not of a block, or not in the set, reaches nothing;
-// nothing is promised where there are more than 1,024 points.
-pub fn reach(
-    chain: &[u32; 32],
-    first: &[u16; 1025],
-    succ: &[u16; 1536],
-    words: &[u32],
-    from: usize,
-    code: usize,
-    p: usize,
-) -> Reached
-    ensures { code ≤ 1024 → Chained chain.now first.now succ.now
-        → Reaches (Reach (Edge first.now succ.now) (in_code words.now from code) p) first.now result.points result.exit }
-{
-    let mut points = [0; 32];
-    if (1024 < code) | (code <= p) | !bit_set::test(words, from, p) {
-        return Reached {
-            points,
-            exit: false,
+    // Visits each point that follows q, where q is not of the chain.
+    fn leave(&self, q: usize, search: &mut Search)
+        requires { (self.now.code ≤ 1024) × (q < 1024) × Roomy search.old.seen search.old.depth }
+        ensures { state_of search.new
+            ≡ left self.now.chain.now (in_code self.now.words.now self.now.from self.now.code) self.now.graph.now.first self.now.graph.now.succ q (state_of search.old) }
+    {
+        if self.is_linked(q) {
+            return;
+        }
+        for &s in self.graph.successors(q) {
+            self.visit(s, search);
+        }
+    }
+
+    // Whether q is not of the chain and has no point after it.
+    fn is_leaf(&self, q: usize) -> bool
+        requires { q < 1024 }
+        ensures { result ≡ is_leaf self.now.chain.now self.now.graph.now.first q }
+    {
+        !self.is_linked(q) & (self.graph.first[q + 1] <= self.graph.first[q])
+    }
+
+    // The points that the walk from p reaches, by a search with marks and a stack.
+    fn search(&self, p: usize) -> Reached
+        requires { (self.now.code ≤ 1024) × (in_code self.now.words.now self.now.from self.now.code p ≡ true) }
+        ensures { Chained self.now.chain.now self.now.graph.now.first self.now.graph.now.succ
+            → Reaches (Reach (Edge self.now.graph.now.first self.now.graph.now.succ) (in_code self.now.words.now self.now.from self.now.code) p)
+            self.now.graph.now.first result.points result.exit }
+    {
+        let mut points = [0; 32];
+        let mut exit = false;
+        let mut search = Search {
+            seen: [0; 1024],
+            stack: [0; 1024],
+            depth: 0,
         };
+        search.push(p as u16);
+        while let Some(q) = search.pop() {
+            let end = self.follow(&mut points, q);
+            exit = exit | self.is_leaf(end);
+            self.leave(end, &mut search);
+        }
+        Reached { points, exit }
     }
-    let end = follow(chain, words, from, code, &mut points, p);
-    if bit_set::test(chain, 0, end) {
-        return Reached {
-            points,
-            exit: false,
-        };
+
+    // The same. A walk that ends at a point of the chain needs no search. A walk from a point that is not of a block, or not in the set, reaches nothing; nothing is
+    // promised where there are more than 1,024 points.
+    pub fn reach(&self, p: usize) -> Reached
+        ensures { self.now.code ≤ 1024 → Chained self.now.chain.now self.now.graph.now.first self.now.graph.now.succ
+            → Reaches (Reach (Edge self.now.graph.now.first self.now.graph.now.succ) (in_code self.now.words.now self.now.from self.now.code) p)
+            self.now.graph.now.first result.points result.exit }
+    {
+        let mut points = [0; 32];
+        if (1024 < self.code) | (self.code <= p) | !bit_set::test(self.words, self.from, p) {
+            return Reached {
+                points,
+                exit: false,
+            };
+        }
+        let end = self.follow(&mut points, p);
+        if self.is_linked(end) {
+            return Reached {
+                points,
+                exit: false,
+            };
+        }
+        self.search(p)
     }
-    search(chain, first, succ, words, from, code, p)
 }

@@ -15,7 +15,8 @@ use Rattle.bit_set.specs.Bits.{has, joined, grows}
 use Rattle.bit_set.proofs.BitLaws.{digit, digit_lt, Words}
 use Rattle.bit_set.proofs.RunLaws.{both_fit_lem, joined_yes}
 use Rattle.bit_set.proofs.SetLaws.{length-joined, has-joined, has-joined_other, grows-not, grows-new}
-use Rattle.graph.specs.Tables.{row_start, row_end, up_to}
+use Rattle.graph.specs.Tables.{row_start, row_end, up_to, successors}
+use Rattle.graph.proofs.RowLaws.{successor_at}
 use Rattle.flow.specs.declared.Direction.{Direction}
 use Rattle.flow.specs.declared.Direction.TheVariants.{Forward, Backward}
 use Rattle.flow.specs.Running.{Comes, here, over, Since, Mixed, Ran, One, Lanes, Turned, Leaving, Row, nth, Rows}
@@ -258,21 +259,30 @@ turned_backward code p s q e h a = rw (← e) (ran_as a (λ v w k. (h, k)) (λ v
 
 module _ (d : Direction) (code : ℕ) (first succ pass ws : List ℕ) where
   module _ (p : ℕ) where
-    pub leaving_none : (lo : ℕ) → lo ≡ row_start first p → Ran (Leaving d code first succ p lo) pass ws ws false
-    leaving_none lo e = ran-none pass ws (λ v w k. omega (arith, k.1, k.2))
+    pub leaving_none : Ran (Leaving d code first succ p (row_start first p + 0)) pass ws ws false
+    leaving_none = ran-none pass ws (λ v w k. omega (arith, k.1, k.2))
 
-    pub leaving_more : {u x : List ℕ} (k : ℕ) (r s : Bool) → row_start first p ≤ k → Ran (Leaving d code first succ p k) pass ws u r → Ran (Turned d code p (get_or succ k 0)) pass u x s
-        → Ran (Leaving d code first succ p (k + 1)) pass ws x (s || r)
-    leaving_more k r s l a c =
-        ran_then r s a c (λ v w e. (e.0, e.1, omega (arith, e.2), e.3)) (λ v w e. (k, l, omega arith, e)) (λ v w e. go v w e (ℕ_discrete e.0 k))
+    -- the edges to the point that is number i of the list
+    pub leaving_more : {u x ss : List ℕ} {r s : Bool} (i : ℕ) → ss ≡ successors first succ p → i < length ss → Ran (Leaving d code first succ p (row_start first p + i)) pass ws u r
+        → Ran (Turned d code p (get_or ss i 0)) pass u x s → Ran (Leaving d code first succ p (row_start first p + (i + 1))) pass ws x (s || r)
+    leaving_more {u} {x} {ss} {r} {s} i e l a c =
+        ran_then r s a c' (λ v w e. (e.0, e.1, omega (arith, e.2), e.3)) (λ v w e. (k, omega arith, omega arith, e)) (λ v w e. go v w e (ℕ_discrete e.0 k))
       where
-        go : (v w : ℕ) (e : Leaving d code first succ p (k + 1) v w) → Dec (e.0 ≡ k) → Leaving d code first succ p k v w ⊎ Turned d code p (get_or succ k 0) v w
+        k : ℕ
+        k = row_start first p + i
+
+        same : get_or ss i 0 ≡ get_or succ k 0
+        same = rw e (successor_at first succ p i (rw e at l))
+
+        c' : Ran (Turned d code p (get_or succ k 0)) pass u x s
+        c' = rw same at c
+
+        go : (v w : ℕ) (e : Leaving d code first succ p (row_start first p + (i + 1)) v w) → Dec (e.0 ≡ k) → Leaving d code first succ p k v w ⊎ Turned d code p (get_or succ k 0) v w
         go v w e (yes i) = inr (subst (λ (m : ℕ). Turned d code p (get_or succ m 0) v w) i e.3)
         go v w e (no n) = inl (e.0, e.1, omega (arith, n, e.2), e.3)
 
-    pub leaving_all : {u : List ℕ} {r : Bool} (lo hi k : ℕ) → lo ≡ row_start first p → hi ≡ up_to (row_end first p) → lo ≤ k → k - lo ≤ hi - lo → hi ≤ k → Ran (Leaving d code first succ p k) pass ws u r → Ran (Row d code first succ p) pass ws u r
-    leaving_all lo hi k el eh l m h a =
-        ran_as a (λ v w e. (e.0, e.1, rw (← eh) (omega (arith, e.1, e.2)), e.3)) (λ v w e. (e.0, e.1, (let z : e.0 < hi = rw eh e.2 in omega arith), e.3))
+    pub leaving_all : {u : List ℕ} {r : Bool} (n : ℕ) → n ≡ up_to (row_end first p) - row_start first p → Ran (Leaving d code first succ p (row_start first p + n)) pass ws u r → Ran (Row d code first succ p) pass ws u r
+    leaving_all n e a = ran_as a (λ v w x. (x.0, x.1, omega (arith, e, x.1, x.2), x.3)) (λ v w x. (x.0, x.1, omega (arith, e, x.1, x.2), x.3))
 
   pub rows_none : Ran (Rows d code first succ 0) pass ws ws false
   rows_none = ran-none pass ws (λ v w k. absurd (omega (arith, k.1)))

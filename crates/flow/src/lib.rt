@@ -1,25 +1,18 @@
 #![tactic(auto)]
 // Least sets of numbers along the edges of a graph, in four words a point: number b of point p is bit b of the words from 4 * p on.
-// The points that follow point p are succ[first[p]..first[p + 1]].
 ghost use Rattle.std.specs.Prelude.{◌≡◌, ◌+◌, ◌*◌, ◌<◌, ◌≤◌, length};
 ghost use Rattle.nll_spec.specs.Graph.{Graph};
 ghost use Rattle.graph.specs.Tables.{Edges};
 ghost use Rattle.flow.specs.Flows.{FlowSays};
 ghost use Rattle.flow.specs.Running.{Mixed, Ran, Lanes, Turned, Row, nth, Rows};
 
-use graph::tables::up_to;
+use graph::tables::FuncGraph;
 
 // Whether numbers go from a point to those that follow it, or to those that it follows.
 #[derive(Clone, Copy)]
 pub enum Direction {
     Forward,
     Backward,
-}
-
-fn wide(x: u16) -> usize
-    ensures { result ≡ x }
-{
-    x as usize
 }
 
 // A word with the bits of another one that may pass.
@@ -67,7 +60,7 @@ fn turned(
     requires { (code ≤ 1024) × (p < code) × (4 * code ≤ length sets.old) × (4 * code ≤ length pass.now) }
     ensures { Ran (Turned direction code p s) pass.now sets.old sets.new result }
 {
-    let q = wide(s);
+    let q = usize::from(s);
     if code <= q {
         return false;
     }
@@ -81,22 +74,17 @@ fn turned(
 fn row(
     sets: &mut [u32],
     pass: &[u32],
-    first: &[u16; 1025],
-    succ: &[u16; 1536],
+    graph: &FuncGraph,
     code: usize,
     p: usize,
     direction: Direction,
 ) -> bool
     requires { (code ≤ 1024) × (p < code) × (4 * code ≤ length sets.old) × (4 * code ≤ length pass.now) }
-    ensures { Ran (Row direction code first.now succ.now p) pass.now sets.old sets.new result }
+    ensures { Ran (Row direction code graph.now.first graph.now.succ p) pass.now sets.old sets.new result }
 {
-    let start = wide(first[p]);
-    let end = up_to(first[p + 1]);
     let mut changed = false;
-    let mut k = start;
-    while k < end {
-        changed = turned(sets, pass, code, p, succ[k], direction) | changed;
-        k += 1;
+    for &s in graph.successors(p) {
+        changed = turned(sets, pass, code, p, s, direction) | changed;
     }
     changed
 }
@@ -116,35 +104,25 @@ fn point(code: usize, i: usize, direction: Direction) -> usize
 fn round(
     sets: &mut [u32],
     pass: &[u32],
-    first: &[u16; 1025],
-    succ: &[u16; 1536],
+    graph: &FuncGraph,
     code: usize,
     direction: Direction,
 ) -> bool
     requires { (code ≤ 1024) × (4 * code ≤ length sets.old) × (4 * code ≤ length pass.now) }
-    ensures { Ran (Rows direction code first.now succ.now code) pass.now sets.old sets.new result }
+    ensures { Ran (Rows direction code graph.now.first graph.now.succ code) pass.now sets.old sets.new result }
 {
     let mut changed = false;
-    let mut i = 0;
-    while i < code {
+    for i in 0..code {
         let p = point(code, i, direction);
-        changed = row(sets, pass, first, succ, code, p, direction) | changed;
-        i += 1;
+        changed = row(sets, pass, graph, code, p, direction) | changed;
     }
     changed
 }
 
 // Puts into each point's set the numbers that come to it along edges, through points that let them pass, if both tables have four words a point.
-pub fn flow(
-    sets: &mut [u32],
-    pass: &[u32],
-    first: &[u16; 1025],
-    succ: &[u16; 1536],
-    code: usize,
-    direction: Direction,
-)
+pub fn flow(sets: &mut [u32], pass: &[u32], graph: &FuncGraph, code: usize, direction: Direction)
     ensures { (length sets.new ≡ length sets.old) × (4 * code ≤ length sets.old → 4 * code ≤ length pass.now
-        → (g : Graph) → Edges g first.now succ.now → code ≡ g.code
+        → (g : Graph) → Edges g graph.now.first graph.now.succ → code ≡ g.code
         → FlowSays g direction pass.now sets.old sets.new) }
 {
     if 1024 < code {
@@ -159,12 +137,12 @@ pub fn flow(
     // A loop for each direction, so that no edge has to test it.
     match direction {
         Direction::Forward => loop {
-            if !round(sets, pass, first, succ, code, Direction::Forward) {
+            if !round(sets, pass, graph, code, Direction::Forward) {
                 return;
             }
         },
         Direction::Backward => loop {
-            if !round(sets, pass, first, succ, code, Direction::Backward) {
+            if !round(sets, pass, graph, code, Direction::Backward) {
                 return;
             }
         },

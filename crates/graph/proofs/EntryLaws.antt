@@ -41,13 +41,6 @@ up_to_is e l = go (dec_lt e 1536)
     go (yes k) = rw (lt-ltb e 1536 k)
     go (no k) = let q : 1536 ≡ e = omega (arith, k) in rw (le-ltb e 1536 (omega arith)) q
 
--- the end of a row, as code goes
-pub up_to_less : (e k : ℕ) → k ≡ e → k < 1536 → k ≡ up_to e
-up_to_less e k q l = q ∙ sym (rw (lt-ltb e 1536 (rw q at l)))
-
-pub up_to_size : (e k : ℕ) → k ≡ e → 1536 ≤ k → 1536 ≡ up_to e
-up_to_size e k q l = sym (rw (le-ltb e 1536 (rw q at l)))
-
 module _ (g : Graph) (first succ : List ℕ) (t : Edges g first succ) where
   pub length-after : (p : Point) → p < g.code → length (next_of g p) ≡ row_end first p - row_start first p
   length-after p l = ap length (sym (t.next p l)) ∙ length-slice (row_start first p) (row_end first p) succ (omega (arith, t.ends p l, t.sized))

@@ -7,8 +7,8 @@ use native.Mathlib.Omega.{arith}
 use native.Mathlib.Nat.{not-suc-le-zero, le_of_suc-le-suc}
 use native.Mathlib.Numerals.{add-one}
 use native.Mathlib.Decide.{ℕ_discrete, dec_lt}
-use lib.ListN.{length, get_or, set, take, drop, replicate, length-set, length-drop, length-replicate, get_or-replicate, get_or-eq_default}
-use lib.Seq.{get_or-set_same, get_or-set_other, take-suc, get_or-drop}
+use lib.ListN.{length, get_or, set, take, replicate, length-set, length-replicate, get_or-replicate, get_or-eq_default}
+use lib.Seq.{get_or-set_same, get_or-set_other, take-suc, take_all}
 use lib.Dec.{T, eqb, eqb→eq}
 use borrow.Author.Tests.{eq-eqb, ne_eqb, lt-ltb, le-ltb}
 use Rattle.nll_spec.specs.Lists.{contains}
@@ -137,25 +137,24 @@ visits-kept [] w = kept_self w
 visits-kept (b ∷ bs) w = let v = visited-kept b w in kept_then v (visits-kept bs v.roomy)
 
 -- The first i of a row of bytes are visited.
-pub record Visiting (s : List ℕ) (from i : ℕ) (st u : State) : Type 0 where
-  pub is : u ≡ visits (take i (drop from s)) st
+pub record Visiting (row : List ℕ) (i : ℕ) (st u : State) : Type 0 where
+  pub is : u ≡ visits (take i row) st
   pub roomy : Roomy u
 
-pub visiting_none : (s : List ℕ) (from : ℕ) {st : State} → Roomy st → Visiting s from 0 st st
+pub visiting_none : (row : List ℕ) {st : State} → Roomy st → Visiting row 0 st st
 unfolding visits
-visiting_none s from w = record { is = refl; roomy = w }
+visiting_none row w = record { is = refl; roomy = w }
 
-pub visiting_more : {s : List ℕ} {from i : ℕ} {st u v : State} → Visiting s from i st u → from + i < length s → v ≡ visited (get_or s (from + i) 0) u → Visiting s from (i + 1) st v
+pub visiting_more : {row : List ℕ} {i : ℕ} {st u v : State} → Visiting row i st u → i < length row → v ≡ visited (get_or row i 0) u → Visiting row (i + 1) st v
 unfolding visits
-visiting_more {s} {from} {i} {st} {u} {v} w l e =
-    let c : i < length (drop from s) = simp length-drop (omega arith) in
+visiting_more {row} {i} {st} {u} {v} w l e =
     record {
-      is = rw (add-one i, take-suc (drop from s) i 0 c, visits-append, get_or-drop, ← w.is) e;
-      roomy = subst Roomy (sym e) (visited-kept (get_or s (from + i) 0) w.roomy).roomy;
+      is = rw (add-one i, take-suc row i 0 l, visits-append, ← w.is) e;
+      roomy = subst Roomy (sym e) (visited-kept (get_or row i 0) w.roomy).roomy;
     }
 
-pub visiting_all : {s : List ℕ} {from i n : ℕ} {st u : State} → Visiting s from i st u → i ≤ n → n ≤ i → u ≡ visits (take n (drop from s)) st
-visiting_all {s} {from} {i} {n} {st} {u} w a b = let e : n ≡ i = omega arith in rw e w.is
+pub visiting_all : {row : List ℕ} {i : ℕ} {st u : State} → Visiting row i st u → length row ≤ i → u ≡ visits row st
+visiting_all {row} {i} w l = rw (take_all i row l) at w.is
 
 -- ---- The invariant
 

@@ -16,6 +16,10 @@ row_end first p = get_or first (p + 1) 0
 abbrev pub up_to : ℕ → ℕ
 up_to e = cond (ltb e 1536) e 1536
 
+-- the points that follow p
+abbrev pub successors : List ℕ → List ℕ → Point → List ℕ
+successors first succ p = slice (row_start first p) (up_to (row_end first p)) succ
+
 -- the tables say that q follows p
 abbrev pub Edge : List ℕ → List ℕ → Point → Point → Type 0
 Edge first succ p q = (k : ℕ) × (row_start first p ≤ k) × (k < up_to (row_end first p)) × (get_or succ k 0 ≡ q)

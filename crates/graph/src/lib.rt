@@ -5,8 +5,6 @@ mod shapes;
 pub mod tables;
 pub mod walked;
 
-ghost use Rattle.std.specs.Prelude.{◌≡◌, ◌≤◌};
-
 // So many actions, and the row of so many successors, which begins at a place of the record.
 #[derive(Clone, Copy)]
 pub struct Shape {
@@ -20,10 +18,4 @@ pub struct Shape {
 pub struct Place {
     pub point: usize,
     pub entry: usize,
-}
-
-fn wide(x: u8) -> usize
-    ensures { (result ≡ x) × (result ≤ 255) }
-{
-    x as usize
 }

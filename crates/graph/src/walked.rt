@@ -3,13 +3,13 @@ ghost use Rattle.std.specs.Prelude.{◌≡◌, ◌+◌, ◌<◌, ◌≤◌, leng
 ghost use Rattle.nll_spec.specs.Syntax.{Job};
 ghost use Rattle.nll_spec.specs.Decode.{point_count};
 ghost use Rattle.nll_spec.specs.WellFormed.{successors_named};
-ghost use Rattle.record.specs.Layout.{Layout};
+ghost use Rattle.record.specs.Layout.{Holds};
 ghost use Rattle.graph.specs.Shape.{InRecord, row_of};
 ghost use Rattle.graph.specs.Search.{state, Roomy, visited, visits, WalkedBlocks, with_run, BlockPoints, WalkedIn};
 
+use super::Shape;
 use super::shapes::shape;
-use super::{Shape, wide};
-use record::Head;
+use record::Record;
 use repr::BasicBlockIndex;
 
 // Marks and pushes block b, where it has no mark. Returns the stack's new depth.
@@ -17,7 +17,7 @@ fn visit(b: u8, seen: &mut [u8; 64], stack: &mut [u8; 64], depth: usize) -> usiz
     requires { Roomy (state seen.old stack.old depth) }
     ensures { state seen.new stack.new result ≡ visited b (state seen.old stack.old depth) }
 {
-    let at = wide(b);
+    let at = usize::from(b);
     if 64 <= at {
         return depth;
     }
@@ -34,21 +34,16 @@ fn visit_next(s: &[u8], d: Shape, seen: &mut [u8; 64], stack: &mut [u8; 64], dep
     requires { InRecord s.now d × Roomy (state seen.old stack.old depth) }
     ensures { state seen.new stack.new result ≡ visits (row_of s.now d) (state seen.old stack.old depth) }
 {
-    let from = d.from;
-    let many = d.count;
     let mut top = depth;
-    let mut i = 0;
-    while i < many {
-        top = visit(s[from + i], seen, stack, top);
-        i += 1;
+    for &b in &s[d.from..d.from + d.count] {
+        top = visit(b, seen, stack, top);
     }
     top
 }
 
 // The walked blocks, as marks, of a job that starts at this block.
-pub fn blocks(s: &[u8], layout: &[u16; 1280], start: BasicBlockIndex) -> [u8; 64]
-    requires { length layout.now ≡ 1280 }
-    ensures { WalkedBlocks s.now layout.now start.0 result }
+pub fn blocks(input: &Record<'_>, start: BasicBlockIndex) -> [u8; 64]
+    ensures { WalkedBlocks input.now.bytes.now input.now.layout.now start.0 result }
 {
     let mut seen = [0; 64];
     let mut stack = [0; 64];
@@ -57,8 +52,8 @@ pub fn blocks(s: &[u8], layout: &[u16; 1280], start: BasicBlockIndex) -> [u8; 64
     while depth > 0 {
         depth -= 1;
         let b = stack[depth];
-        let d = shape(s, layout, BasicBlockIndex(b));
-        depth = visit_next(s, d, &mut seen, &mut stack, depth);
+        let d = shape(input, BasicBlockIndex(b));
+        depth = visit_next(input.bytes, d, &mut seen, &mut stack, depth);
     }
     seen
 }
@@ -68,35 +63,32 @@ fn run(words: &mut [u32; 32], p: usize, n: usize)
     requires { p + n ≤ 1024 }
     ensures { words.new ≡ with_run words.old p n }
 {
-    let mut i = 0;
-    while i < n {
+    for i in 0..n {
         bit_set::add(words, 0, p + i);
-        i += 1;
     }
 }
 
 // Puts the points of block b, the first of which is p, into the set if the block is marked. Returns the next block's first point.
 fn block_points(
-    s: &[u8],
-    layout: &[u16; 1280],
+    input: &Record<'_>,
     seen: &[u8; 64],
     b: u8,
     p: usize,
     words: &mut [u32; 32],
 ) -> usize
-    requires { (length layout.now ≡ 1280) × (length seen.now ≡ 64) × (p ≤ 1024) × (length words.old ≡ 32) }
-    ensures { BlockPoints s.now layout.now seen.now b p result words.old words.new }
+    requires { p ≤ 1024 }
+    ensures { BlockPoints input.now.bytes.now input.now.layout.now seen.now b p result words.old words.new }
 {
     if 64 <= b {
         return p;
     }
-    let d = shape(s, layout, BasicBlockIndex(b));
+    let d = shape(input, BasicBlockIndex(b));
     let n = d.actions + 1;
     let next = p + n;
     if 1024 < next {
         return p;
     }
-    let at = wide(b);
+    let at = usize::from(b);
     if seen[at] == 0 {
         return next;
     }
@@ -105,22 +97,13 @@ fn block_points(
 }
 
 // The points of the walked blocks of a job that starts at this block.
-pub fn walked(
-    s: &[u8],
-    layout: &[u16; 1280],
-    head: Head,
-    start: BasicBlockIndex,
-    words: &mut [u32; 32],
-)
-    requires { (length layout.now ≡ 1280) × (length words.old ≡ 32) }
-    ensures { (length words.new ≡ 32) × ((j : Job) → Layout s.now layout.now head j → T (successors_named j) → point_count j ≤ 1024 → j.start ≡ start.0 → T (ltb j.start (length j.blocks)) → WalkedIn j words.new) }
+pub fn walked(input: &Record<'_>, start: BasicBlockIndex, words: &mut [u32; 32])
+    ensures { (j : Job) → Holds input.now j → T (successors_named j) → point_count j ≤ 1024 → j.start ≡ start.0 → T (ltb j.start (length j.blocks)) → WalkedIn j words.new }
 {
-    let seen = blocks(s, layout, start);
+    let seen = blocks(input, start);
     bit_set::clear(words, 0, 32);
     let mut p = 0;
-    let mut b = 0;
-    while b < head.blocks {
-        p = block_points(s, layout, &seen, b, p, words);
-        b += 1;
+    for b in 0..input.head.blocks {
+        p = block_points(input, &seen, b, p, words);
     }
 }

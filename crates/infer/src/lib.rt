@@ -1,7 +1,7 @@
 #![tactic(auto)]
 // "S outlives T at p": the points that a walk from p through T reaches are put into S, and, where it comes to a point without successors, so are the
 // declared ends that the end rule passes on.
-// The points that follow point p are succ[first[p]..first[p + 1]]. Region r's set starts at word r * width.
+// Region r's set starts at word r * width.
 ghost use Rattle.std.specs.Prelude.{◌≡◌, true, cond, [], ◌∷◌, ◌+◌, ◌-◌, ◌/◌, ◌<◌, ◌≤◌, length, get_or, ltb};
 ghost use Rattle.nll_spec.specs.Regions.{passes_end};
 ghost use Rattle.nll_spec.specs.Output.{word_bits};
@@ -12,7 +12,8 @@ ghost use Rattle.constraint_list.specs.Listed.{outlives_of, constraints_in, Draw
 ghost use Rattle.infer.specs.Ran.{Setting, Given, Names, Ran, Runs, constraint, any_marked};
 
 use constraint_list::Constraint;
-use dfs::reach;
+use dfs::Walk;
+use graph::tables::FuncGraph;
 
 // A region's number.
 #[derive(Clone, Copy)]
@@ -33,10 +34,13 @@ pub struct Shape {
     pub points: usize,
 }
 
-fn wide8(x: u8) -> usize
-    ensures { result ≡ x }
-{
-    x as usize
+// What constraints are run in. Each point of the chain is followed by the next one alone.
+#[derive(Clone, Copy)]
+pub struct Setup<'a> {
+    pub graph: &'a FuncGraph,
+    pub chain: &'a [u32; 32],
+    pub shape: Shape,
+    pub rule: EndRule,
 }
 
 // Whether the end rule passes on an end that the inner region holds or not.
@@ -70,46 +74,11 @@ fn put_ends(
 }
 
 // Puts the points, all below n, into the set from word to, and says whether one was not there.
-fn put_words(words: &mut [u32], to: usize, n: usize, points: &[u32]) -> bool
+fn put(words: &mut [u32], to: usize, n: usize, points: &[u32]) -> bool
     requires { n ≤ 1024 }
     ensures { Below points.now n → Spread (In points.now) n words.old words.new to result }
 {
     bit_set::union_from(words, to, points, 0, (n + 31) / 32)
-}
-
-// The same of an array, whose length a caller need not show.
-fn put(words: &mut [u32], to: usize, n: usize, points: &[u32; 32]) -> bool
-    requires { n ≤ 1024 }
-    ensures { Below points.now n → Spread (In points.now) n words.old words.new to result }
-{
-    put_words(words, to, n, points)
-}
-
-// Puts into the set from word to what a constraint at p puts there, where the inner set starts at word from, and says whether one point was not there.
-fn spread(
-    words: &mut [u32],
-    first: &[u16; 1025],
-    succ: &[u16; 1536],
-    chain: &[u32; 32],
-    shape: Shape,
-    rule: EndRule,
-    to: usize,
-    from: usize,
-    p: usize,
-) -> bool
-    requires { (shape.code ≤ shape.points) × (shape.points ≤ 1024) × (in_code words.old from shape.code p ≡ true) }
-    ensures { Chained chain.now first.now succ.now
-        → Spread (Gets (rule_of rule) first.now succ.now words.old from shape.code shape.points p)
-        shape.points words.old words.new to result }
-{
-    let code = shape.code;
-    let end = shape.points;
-    let reached = reach(chain, first, succ, words, from, code, p);
-    let mut points = reached.points;
-    if reached.exit {
-        put_ends(words, from, code, end, rule, &mut points);
-    }
-    put(words, to, end, &points)
 }
 
 // Whether both runs of n words are among the words.
@@ -165,15 +134,13 @@ fn stays_within(
     if !both_fit(words, from, to, width) {
         return false;
     }
-    let mut k = p / 32;
-    while k < width {
+    for k in p / 32..width {
         if !is_covered(chain, words, from, to, k) {
             return false;
         }
         if words[from + k] < 2147483648 {
             return true;
         }
-        k += 1;
     }
     false
 }
@@ -214,119 +181,120 @@ fn in_bounds(shape: Shape, s: usize, t: usize, p: usize) -> bool
         & (p < shape.code)
 }
 
-// Runs the constraint "sup outlives sub at point". It is passed by where neither the last round nor this one marks sub, so that nothing is new in it,
-// where sub does not hold the point, and where the words show that it adds nothing. If the set of sup grows, sup is marked. `chain` is a set of points, each
-// followed by the next one alone.
-pub fn outlives(
-    words: &mut [u32],
-    first: &[u16; 1025],
-    succ: &[u16; 1536],
-    chain: &[u32; 32],
-    shape: Shape,
-    rule: EndRule,
-    last: &[u8; 128],
-    grew: &mut [u8; 128],
-    sup: RegionVariable,
-    sub: RegionVariable,
-    point: usize,
-)
-    ensures { (s : Setting) → Given s shape rule first.now succ.now chain.now words.old grew.old
-        → Names s (constraint sup.0 sub.0 point)
-        → Ran s last.now (constraint sup.0 sub.0 point ∷ []) words.old grew.old words.new grew.new }
-{
-    let s = wide8(sup.0);
-    let t = wide8(sub.0);
-    if !in_bounds(shape, s, t, point) {
-        return;
-    }
-    if (last[t] == 0) & (grew[t] == 0) {
-        return;
-    }
-    let from = t * shape.width;
-    if !bit_set::test(words, from, point) {
-        return;
-    }
-    let to = s * shape.width;
-    if stays_within(chain, words, from, to, shape.width, point) {
-        return;
-    }
-    if adds_nothing(words, shape, rule, to, from) {
-        return;
-    }
-    if spread(words, first, succ, chain, shape, rule, to, from, point) {
-        grew[s] = 1;
-    }
-}
-
-fn wide16(x: u16) -> usize
-    ensures { result ≡ x }
-{
-    x as usize
-}
-
 // The mark of a region, or 0 if it has no place among the marks.
 fn mark(grew: &[u8; 128], region: u8) -> u8
     ensures { result ≡ cond (ltb region 128) (get_or grew.now region 0) 0 }
 {
-    let r = wide8(region);
+    let r = usize::from(region);
     if r < 128 { grew[r] } else { 0 }
 }
 
-// Runs a constraint, and puts it into the list `recent`, if there is room, where by it the outer region gets its mark.
-fn run_one(
-    words: &mut [u32],
-    first: &[u16; 1025],
-    succ: &[u16; 1536],
-    chain: &[u32; 32],
-    shape: Shape,
-    rule: EndRule,
-    last: &[u8; 128],
-    grew: &mut [u8; 128],
-    recent: &mut [u32],
-    c: Constraint,
-)
-    ensures { Runs shape rule first.now succ.now chain.now last.now (outlives_of c ∷ [])
-        words.old grew.old words.new grew.new
-        × Draws (outlives_of c ∷ []) recent.old recent.new }
-{
-    let before = mark(grew, c.sup);
-    let sup = RegionVariable(c.sup);
-    let sub = RegionVariable(c.sub);
-    let point = wide16(c.point);
-    outlives(
-        words, first, succ, chain, shape, rule, last, grew, sup, sub, point,
-    );
-    if mark(grew, c.sup) == before {
-        return;
+impl Setup<'_> {
+    // Puts into the set from word to what a constraint at p puts there, where the inner set starts at word from, and says whether one point was not there.
+    fn spread(&self, words: &mut [u32], to: usize, from: usize, p: usize) -> bool
+        requires { (self.now.shape.code ≤ self.now.shape.points) × (self.now.shape.points ≤ 1024) × (in_code words.old from self.now.shape.code p ≡ true) }
+        ensures { Chained self.now.chain.now self.now.graph.now.first self.now.graph.now.succ
+            → Spread (Gets (rule_of self.now.rule) self.now.graph.now.first self.now.graph.now.succ words.old from self.now.shape.code self.now.shape.points p)
+            self.now.shape.points words.old words.new to result }
+    {
+        let code = self.shape.code;
+        let end = self.shape.points;
+        let walk = Walk {
+            graph: self.graph,
+            chain: self.chain,
+            words,
+            from,
+            code,
+        };
+        let reached = walk.reach(p);
+        let mut points = reached.points;
+        if reached.exit {
+            put_ends(words, from, code, end, self.rule, &mut points);
+        }
+        put(words, to, end, &points)
     }
-    constraint_list::add(recent, c);
-}
 
-// Runs each constraint of the list once. Those by which regions are marked come into the list `recent`, as far as it has room.
-pub fn run(
-    words: &mut [u32],
-    first: &[u16; 1025],
-    succ: &[u16; 1536],
-    chain: &[u32; 32],
-    shape: Shape,
-    rule: EndRule,
-    last: &[u8; 128],
-    grew: &mut [u8; 128],
-    recent: &mut [u32],
-    list: &[u32],
-)
-    ensures { Runs shape rule first.now succ.now chain.now last.now (constraints_in list.now)
-        words.old grew.old words.new grew.new
-        × Draws (constraints_in list.now) recent.old recent.new }
-{
-    let count = constraint_list::count(list);
-    let mut i = 0;
-    while i < count {
-        let c = constraint_list::get(list, i);
-        run_one(
-            words, first, succ, chain, shape, rule, last, grew, recent, c,
-        );
-        i += 1;
+    // Runs the constraint "sup outlives sub at point". It is passed by where neither the last round nor this one marks sub, so that nothing is new in it,
+    // where sub does not hold the point, and where the words show that it adds nothing. If the set of sup grows, sup is marked.
+    pub fn outlives(
+        &self,
+        words: &mut [u32],
+        last: &[u8; 128],
+        grew: &mut [u8; 128],
+        sup: RegionVariable,
+        sub: RegionVariable,
+        point: usize,
+    )
+        ensures { (s : Setting) → Given s self.now.shape self.now.rule self.now.graph.now.first self.now.graph.now.succ self.now.chain.now words.old grew.old
+            → Names s (constraint sup.0 sub.0 point)
+            → Ran s last.now (constraint sup.0 sub.0 point ∷ []) words.old grew.old words.new grew.new }
+    {
+        let shape = self.shape;
+        let s = usize::from(sup.0);
+        let t = usize::from(sub.0);
+        if !in_bounds(shape, s, t, point) {
+            return;
+        }
+        if (last[t] == 0) & (grew[t] == 0) {
+            return;
+        }
+        let from = t * shape.width;
+        if !bit_set::test(words, from, point) {
+            return;
+        }
+        let to = s * shape.width;
+        if stays_within(self.chain, words, from, to, shape.width, point) {
+            return;
+        }
+        if adds_nothing(words, shape, self.rule, to, from) {
+            return;
+        }
+        if self.spread(words, to, from, point) {
+            grew[s] = 1;
+        }
+    }
+
+    // Runs a constraint, and puts it into the list `recent`, if there is room, where by it the outer region gets its mark.
+    fn run_one(
+        &self,
+        words: &mut [u32],
+        last: &[u8; 128],
+        grew: &mut [u8; 128],
+        recent: &mut [u32],
+        c: Constraint,
+    )
+        ensures { Runs self.now.shape self.now.rule self.now.graph.now.first self.now.graph.now.succ self.now.chain.now last.now (outlives_of c ∷ [])
+            words.old grew.old words.new grew.new
+            × Draws (outlives_of c ∷ []) recent.old recent.new }
+    {
+        let before = mark(grew, c.sup);
+        let sup = RegionVariable(c.sup);
+        let sub = RegionVariable(c.sub);
+        let point = usize::from(c.point);
+        self.outlives(words, last, grew, sup, sub, point);
+        if mark(grew, c.sup) == before {
+            return;
+        }
+        constraint_list::add(recent, c);
+    }
+
+    // Runs each constraint of the list once. Those by which regions are marked come into the list `recent`, as far as it has room.
+    pub fn run(
+        &self,
+        words: &mut [u32],
+        last: &[u8; 128],
+        grew: &mut [u8; 128],
+        recent: &mut [u32],
+        list: &[u32],
+    )
+        ensures { Runs self.now.shape self.now.rule self.now.graph.now.first self.now.graph.now.succ self.now.chain.now last.now (constraints_in list.now)
+            words.old grew.old words.new grew.new
+            × Draws (constraints_in list.now) recent.old recent.new }
+    {
+        for i in 0..constraint_list::count(list) {
+            let c = constraint_list::get(list, i);
+            self.run_one(words, last, grew, recent, c);
+        }
     }
 }
 
@@ -335,8 +303,8 @@ pub fn any_marked(grew: &[u8; 128]) -> bool
     ensures { result ≡ any_marked grew.now 128 }
 {
     let mut found = false;
-    for i in 0..128 {
-        found = found | (grew[i] != 0);
+    for &mark in grew {
+        found = found | (mark != 0);
     }
     found
 }

@@ -17,6 +17,7 @@ ghost use Rattle.liveness.specs.Rows.{LiveRows};
 
 use actions::fill;
 use flow::Direction;
+use graph::tables::FuncGraph;
 use record::Head;
 use rows::rows;
 
@@ -36,8 +37,7 @@ fn wide(x: u16) -> usize
 fn by_tables(
     s: &[u8],
     layout: &[u16; 1280],
-    first: &[u16; 1025],
-    succ: &[u16; 1536],
+    graph: &FuncGraph,
     walked: &[u32; 32],
     code: usize,
     many: usize,
@@ -50,21 +50,21 @@ fn by_tables(
     requires { (length layout.now ≡ 1280) × (code ≤ 32 * width) × (width ≤ 32) × (many ≤ 64) × Blank code sets.old pass.old
         × (4 * code ≤ length sets.old) × (4 * code ≤ length pass.old) × (64 * width ≤ length used.old) × (64 * width ≤ length dropped.old) }
     ensures { (h : heads.Head) (j : Job) → code ≡ h.code → many ≡ h.variables → Layout s.now layout.now h j
-        → Edges (graph_of j) first.now succ.now → WalkedIn j walked.now
+        → Edges (graph_of j) graph.now.first graph.now.succ → WalkedIn j walked.now
         → LiveRows j width used.new dropped.new }
 {
     fill(s, layout, code, sets, pass);
-    flow::flow(sets, pass, first, succ, code, Direction::Backward);
+    flow::flow(sets, pass, graph, code, Direction::Backward);
     rows(sets, walked, code, 0, many, width, used);
     rows(sets, walked, code, 64, many, width, dropped);
 }
 
-// The same for at most 128 points.
-fn compute_small(
+// The same by tables of N words.
+#[inline(never)]
+fn with_tables<const N: usize>(
     s: &[u8],
     layout: &[u16; 1280],
-    first: &[u16; 1025],
-    succ: &[u16; 1536],
+    graph: &FuncGraph,
     walked: &[u32; 32],
     code: usize,
     many: usize,
@@ -72,32 +72,23 @@ fn compute_small(
     used: &mut [u32],
     dropped: &mut [u32],
 )
-    requires { (length layout.now ≡ 1280) × (code ≤ 128) × (code ≤ 32 * width) × (width ≤ 32) × (many ≤ 64) × (64 * width ≤ length used.old) × (64 * width ≤ length dropped.old) }
+    requires { (length layout.now ≡ 1280) × (4 * code ≤ N) × (N ≤ 4096) × (code ≤ 32 * width) × (width ≤ 32) × (many ≤ 64) × (64 * width ≤ length used.old) × (64 * width ≤ length dropped.old) }
     ensures { (h : heads.Head) (j : Job) → code ≡ h.code → many ≡ h.variables → Layout s.now layout.now h j
-        → Edges (graph_of j) first.now succ.now → WalkedIn j walked.now
+        → Edges (graph_of j) graph.now.first graph.now.succ → WalkedIn j walked.now
         → LiveRows j width used.new dropped.new }
 {
-    if code <= 32 {
-        let mut sets = [0; 128];
-        let mut pass = [4294967295; 128];
-        by_tables(
-            s, layout, first, succ, walked, code, many, width, &mut sets, &mut pass, used, dropped,
-        );
-    } else {
-        let mut sets = [0; 512];
-        let mut pass = [4294967295; 512];
-        by_tables(
-            s, layout, first, succ, walked, code, many, width, &mut sets, &mut pass, used, dropped,
-        );
-    }
+    let mut sets = [0; N];
+    let mut pass = [u32::MAX; N];
+    by_tables(
+        s, layout, graph, walked, code, many, width, &mut sets, &mut pass, used, dropped,
+    );
 }
 
 // The same by tables of a size for so many points.
 fn compute(
     s: &[u8],
     layout: &[u16; 1280],
-    first: &[u16; 1025],
-    succ: &[u16; 1536],
+    graph: &FuncGraph,
     walked: &[u32; 32],
     code: usize,
     many: usize,
@@ -107,18 +98,20 @@ fn compute(
 )
     requires { (length layout.now ≡ 1280) × (code ≤ 32 * width) × (width ≤ 32) × (many ≤ 64) × (64 * width ≤ length used.old) × (64 * width ≤ length dropped.old) }
     ensures { (h : heads.Head) (j : Job) → code ≡ h.code → many ≡ h.variables → Layout s.now layout.now h j
-        → Edges (graph_of j) first.now succ.now → WalkedIn j walked.now
+        → Edges (graph_of j) graph.now.first graph.now.succ → WalkedIn j walked.now
         → LiveRows j width used.new dropped.new }
 {
-    if code <= 128 {
-        compute_small(
-            s, layout, first, succ, walked, code, many, width, used, dropped,
+    if code <= 32 {
+        with_tables::<128>(
+            s, layout, graph, walked, code, many, width, used, dropped,
+        );
+    } else if code <= 128 {
+        with_tables::<512>(
+            s, layout, graph, walked, code, many, width, used, dropped,
         );
     } else {
-        let mut sets = [0; 4096];
-        let mut pass = [4294967295; 4096];
-        by_tables(
-            s, layout, first, succ, walked, code, many, width, &mut sets, &mut pass, used, dropped,
+        with_tables::<4096>(
+            s, layout, graph, walked, code, many, width, used, dropped,
         );
     }
 }
@@ -128,8 +121,7 @@ pub fn liveness(
     s: &[u8],
     layout: &[u16; 1280],
     head: Head,
-    first: &[u16; 1025],
-    succ: &[u16; 1536],
+    graph: &FuncGraph,
     walked: &[u32; 32],
     width: usize,
     used: &mut [u32],
@@ -138,7 +130,7 @@ pub fn liveness(
     requires { length layout.now ≡ 1280 }
     ensures { (j : Job) → Layout s.now layout.now head j → code_count j.blocks ≤ word_bits * width → width ≤ 32
         → 64 * width ≤ length used.old → 64 * width ≤ length dropped.old
-        → Edges (graph_of j) first.now succ.now → WalkedIn j walked.now
+        → Edges (graph_of j) graph.now.first graph.now.succ → WalkedIn j walked.now
         → LiveRows j width used.new dropped.new }
 {
     let code = wide(head.code);
@@ -155,7 +147,5 @@ pub fn liveness(
     if dropped.len() < 64 * width {
         return;
     }
-    compute(
-        s, layout, first, succ, walked, code, many, width, used, dropped,
-    );
+    compute(s, layout, graph, walked, code, many, width, used, dropped);
 }

@@ -16,7 +16,8 @@ use Rattle.bit_set.specs.Bits.{has, with_bit, joined}
 use Rattle.bit_set.proofs.BitLaws.{digit, length_with, has_with, has_with_other}
 use Rattle.bit_set.proofs.SetLaws.{length-joined, has-joined, has-joined_other}
 use Rattle.bit_slice.proofs.ShiftLaws.{shift_done}
-use Rattle.graph.specs.Tables.{row_start, row_end, up_to}
+use Rattle.graph.specs.Tables.{row_start, row_end, up_to, successors}
+use Rattle.graph.proofs.RowLaws.{successor_at}
 use Rattle.flow.specs.Flows.{bit_at}
 use Rattle.flow.proofs.RunningLaws.{digit_and, has_word}
 use Rattle.loans_in_scope.specs.Gains.{Gains, Cell, If, Cells, Column, Below, WordTo, Onto, Leaving, Row, Rows, Masked}
@@ -231,21 +232,30 @@ gains_out ws from code p q h = gains_none ws (λ x i e. omega (arith, e.0))
 
 module _ (from : List ℕ) (code : ℕ) (first succ ws : List ℕ) where
   module _ (p : ℕ) where
-    pub leaving_none : (lo : ℕ) → lo ≡ row_start first p → Gains (Leaving from code first succ p lo) ws ws
-    leaving_none lo e = gains_none ws (λ x i k. omega (arith, k.1, k.2))
+    pub leaving_none : Gains (Leaving from code first succ p (row_start first p + 0)) ws ws
+    leaving_none = gains_none ws (λ x i k. omega (arith, k.1, k.2))
 
-    pub leaving_more : {u v : List ℕ} (k : ℕ) → row_start first p ≤ k → Gains (Leaving from code first succ p k) ws u → Gains (Onto from code p (get_or succ k 0)) u v
-        → Gains (Leaving from code first succ p (k + 1)) ws v
-    leaving_more k l a b =
-        gains_then a b (λ x i e. (e.0, e.1, omega (arith, e.2), e.3)) (λ x i e. (k, l, omega arith, e)) (λ x i e. go x i e (ℕ_discrete e.0 k))
+    -- what goes to the point that is number n of the list
+    pub leaving_more : {u v ss : List ℕ} (n : ℕ) → ss ≡ successors first succ p → n < length ss → Gains (Leaving from code first succ p (row_start first p + n)) ws u
+        → Gains (Onto from code p (get_or ss n 0)) u v → Gains (Leaving from code first succ p (row_start first p + (n + 1))) ws v
+    leaving_more {u} {v} {ss} n e l a b =
+        gains_then a b' (λ x i e. (e.0, e.1, omega (arith, e.2), e.3)) (λ x i e. (k, omega arith, omega arith, e)) (λ x i e. go x i e (ℕ_discrete e.0 k))
       where
-        go : (x i : ℕ) (e : Leaving from code first succ p (k + 1) x i) → Dec (e.0 ≡ k) → Leaving from code first succ p k x i ⊎ Onto from code p (get_or succ k 0) x i
+        k : ℕ
+        k = row_start first p + n
+
+        same : get_or ss n 0 ≡ get_or succ k 0
+        same = rw e (successor_at first succ p n (rw e at l))
+
+        b' : Gains (Onto from code p (get_or succ k 0)) u v
+        b' = rw same at b
+
+        go : (x i : ℕ) (e : Leaving from code first succ p (row_start first p + (n + 1)) x i) → Dec (e.0 ≡ k) → Leaving from code first succ p k x i ⊎ Onto from code p (get_or succ k 0) x i
         go x i e (yes n) = inr (subst (λ (z : ℕ). Onto from code p (get_or succ z 0) x i) n e.3)
         go x i e (no n) = inl (e.0, e.1, omega (arith, n, e.2), e.3)
 
-    pub leaving_all : {u : List ℕ} (lo hi k : ℕ) → lo ≡ row_start first p → hi ≡ up_to (row_end first p) → lo ≤ k → k - lo ≤ hi - lo → hi ≤ k → Gains (Leaving from code first succ p k) ws u → Gains (Row from code first succ p) ws u
-    leaving_all lo hi k el eh l m h a =
-        gains_as a (λ x i e. (e.0, e.1, rw (← eh) (omega (arith, e.1, e.2)), e.3)) (λ x i e. (e.0, e.1, (let z : e.0 < hi = rw eh e.2 in omega arith), e.3))
+    pub leaving_all : {u : List ℕ} (n : ℕ) → n ≡ up_to (row_end first p) - row_start first p → Gains (Leaving from code first succ p (row_start first p + n)) ws u → Gains (Row from code first succ p) ws u
+    leaving_all n e a = gains_as a (λ x i k. (k.0, k.1, omega (arith, e, k.1, k.2), k.3)) (λ x i k. (k.0, k.1, omega (arith, e, k.1, k.2), k.3))
 
   pub rows_none : Gains (Rows from code first succ 0) ws ws
   rows_none = gains_none ws (λ x i e. absurd (omega (arith, e.1)))

@@ -14,7 +14,7 @@ ghost use Rattle.loans_in_scope.specs.Scope.{overwritten_by, paths_of, killed, R
 
 use env::prefixes::is_prefix;
 use flow::Direction;
-use graph::tables::up_to;
+use graph::tables::FuncGraph;
 use loans::{Loan, loan_at};
 use record::Head;
 use record::access::action_at;
@@ -283,35 +283,22 @@ fn onto(code: usize, from: &[u32], p: usize, q: u16, scope: &mut [u32])
 }
 
 // The same for each point that follows p.
-fn follow(
-    first: &[u16; 1025],
-    succ: &[u16; 1536],
-    code: usize,
-    from: &[u32],
-    p: usize,
-    scope: &mut [u32],
-)
+fn follow(graph: &FuncGraph, code: usize, from: &[u32], p: usize, scope: &mut [u32])
     requires { (code ≤ 1024) × (p < code) × (4 * code ≤ length from.now) × (4 * code ≤ length scope.old) }
-    ensures { Gains (Row from.now code first.now succ.now p) scope.old scope.new }
+    ensures { Gains (Row from.now code graph.now.first graph.now.succ p) scope.old scope.new }
 {
-    let start = wide(first[p]);
-    let end = up_to(first[p + 1]);
-    let mut k = start;
-    while k < end {
-        onto(code, from, p, succ[k], scope);
-        k += 1;
+    for &s in graph.successors(p) {
+        onto(code, from, p, s, scope);
     }
 }
 
 // The same for each point.
-fn gather(first: &[u16; 1025], succ: &[u16; 1536], code: usize, from: &[u32], scope: &mut [u32])
+fn gather(graph: &FuncGraph, code: usize, from: &[u32], scope: &mut [u32])
     requires { (code ≤ 1024) × (4 * code ≤ length from.now) × (4 * code ≤ length scope.old) }
-    ensures { Gains (Rows from.now code first.now succ.now code) scope.old scope.new }
+    ensures { Gains (Rows from.now code graph.now.first graph.now.succ code) scope.old scope.new }
 {
-    let mut p = 0;
-    while p < code {
-        follow(first, succ, code, from, p, scope);
-        p += 1;
+    for p in 0..code {
+        follow(graph, code, from, p, scope);
     }
 }
 
@@ -331,8 +318,7 @@ fn mask(by: &[u32], n: usize, sets: &mut [u32])
 fn by_tables(
     s: &[u8],
     layout: &[u16; 1280],
-    first: &[u16; 1025],
-    succ: &[u16; 1536],
+    graph: &FuncGraph,
     words: &[u32],
     width: usize,
     table: &[u16; 1024],
@@ -345,23 +331,23 @@ fn by_tables(
 )
     requires { (length layout.now ≡ 1280) × (length table.now ≡ 1024) × Sized code (tables leaves.old pass.old region.old) × Empty (tables leaves.old pass.old region.old)
         × (width ≤ 32) × (count ≤ 128) × (code ≤ 1024) × (4 * code ≤ length scope.old) }
-    ensures { (h : heads.Head) → code ≡ h.code → ScopeSays s.now layout.now h first.now succ.now words.now width table.now count scope.new }
+    ensures { (h : heads.Head) → code ≡ h.code → ScopeSays s.now layout.now h graph.now.first graph.now.succ words.now width table.now count scope.new }
 {
     fill(
         s, layout, words, width, table, count, code, leaves, pass, region,
     );
-    flow::flow(leaves, pass, first, succ, code, Direction::Forward);
+    flow::flow(leaves, pass, graph, code, Direction::Forward);
     bit_set::clear(scope, 0, 4 * code);
-    gather(first, succ, code, leaves, scope);
+    gather(graph, code, leaves, scope);
     mask(region, 4 * code, scope);
 }
 
-// The same for at most 128 points.
-fn compute_small(
+// The same by tables of N words.
+#[inline(never)]
+fn with_tables<const N: usize>(
     s: &[u8],
     layout: &[u16; 1280],
-    first: &[u16; 1025],
-    succ: &[u16; 1536],
+    graph: &FuncGraph,
     words: &[u32],
     width: usize,
     table: &[u16; 1024],
@@ -369,56 +355,33 @@ fn compute_small(
     code: usize,
     scope: &mut [u32],
 )
-    requires { (length layout.now ≡ 1280) × (length table.now ≡ 1024) × (width ≤ 32) × (count ≤ 128) × (code ≤ 128) × (4 * code ≤ length scope.old) }
-    ensures { (h : heads.Head) → code ≡ h.code → ScopeSays s.now layout.now h first.now succ.now words.now width table.now count scope.new }
+    requires { (length layout.now ≡ 1280) × (length table.now ≡ 1024) × (width ≤ 32) × (count ≤ 128) × (4 * code ≤ N) × (N ≤ 4096) × (4 * code ≤ length scope.old) }
+    ensures { (h : heads.Head) → code ≡ h.code → ScopeSays s.now layout.now h graph.now.first graph.now.succ words.now width table.now count scope.new }
 {
-    if code <= 32 {
-        let mut leaves = [0; 128];
-        let mut pass = [0; 128];
-        let mut region = [0; 128];
-        by_tables(
-            s,
-            layout,
-            first,
-            succ,
-            words,
-            width,
-            table,
-            count,
-            code,
-            &mut leaves,
-            &mut pass,
-            &mut region,
-            scope,
-        );
-    } else {
-        let mut leaves = [0; 512];
-        let mut pass = [0; 512];
-        let mut region = [0; 512];
-        by_tables(
-            s,
-            layout,
-            first,
-            succ,
-            words,
-            width,
-            table,
-            count,
-            code,
-            &mut leaves,
-            &mut pass,
-            &mut region,
-            scope,
-        );
-    }
+    let mut leaves = [0; N];
+    let mut pass = [0; N];
+    let mut region = [0; N];
+    by_tables(
+        s,
+        layout,
+        graph,
+        words,
+        width,
+        table,
+        count,
+        code,
+        &mut leaves,
+        &mut pass,
+        &mut region,
+        scope,
+    );
 }
 
 // The same by tables of a size for so many points.
 fn compute(
     s: &[u8],
     layout: &[u16; 1280],
-    first: &[u16; 1025],
-    succ: &[u16; 1536],
+    graph: &FuncGraph,
     words: &[u32],
     width: usize,
     table: &[u16; 1024],
@@ -427,30 +390,19 @@ fn compute(
     scope: &mut [u32],
 )
     requires { (length layout.now ≡ 1280) × (length table.now ≡ 1024) × (width ≤ 32) × (count ≤ 128) × (code ≤ 1024) × (4 * code ≤ length scope.old) }
-    ensures { (h : heads.Head) → code ≡ h.code → ScopeSays s.now layout.now h first.now succ.now words.now width table.now count scope.new }
+    ensures { (h : heads.Head) → code ≡ h.code → ScopeSays s.now layout.now h graph.now.first graph.now.succ words.now width table.now count scope.new }
 {
-    if code <= 128 {
-        compute_small(
-            s, layout, first, succ, words, width, table, count, code, scope,
+    if code <= 32 {
+        with_tables::<128>(
+            s, layout, graph, words, width, table, count, code, scope,
+        );
+    } else if code <= 128 {
+        with_tables::<512>(
+            s, layout, graph, words, width, table, count, code, scope,
         );
     } else {
-        let mut leaves = [0; 4096];
-        let mut pass = [0; 4096];
-        let mut region = [0; 4096];
-        by_tables(
-            s,
-            layout,
-            first,
-            succ,
-            words,
-            width,
-            table,
-            count,
-            code,
-            &mut leaves,
-            &mut pass,
-            &mut region,
-            scope,
+        with_tables::<4096>(
+            s, layout, graph, words, width, table, count, code, scope,
         );
     }
 }
@@ -460,8 +412,7 @@ pub fn loans_in_scope(
     s: &[u8],
     layout: &[u16; 1280],
     head: Head,
-    first: &[u16; 1025],
-    succ: &[u16; 1536],
+    graph: &FuncGraph,
     words: &[u32],
     width: usize,
     table: &[u16; 1024],
@@ -470,7 +421,7 @@ pub fn loans_in_scope(
 )
     requires { (length layout.now ≡ 1280) × (length table.now ≡ 1024) }
     ensures { 4 * head.code ≤ length scope.old
-        → ScopeSays s.now layout.now head first.now succ.now words.now width table.now count scope.new }
+        → ScopeSays s.now layout.now head graph.now.first graph.now.succ words.now width table.now count scope.new }
 {
     let code = wide(head.code);
     if 1024 < code {
@@ -488,7 +439,5 @@ pub fn loans_in_scope(
     if scope.len() < 4 * code {
         return;
     }
-    compute(
-        s, layout, first, succ, words, width, table, count, code, scope,
-    );
+    compute(s, layout, graph, words, width, table, count, code, scope);
 }

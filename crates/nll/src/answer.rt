@@ -5,6 +5,7 @@ ghost use Rattle.nll.specs.Steps.{room_for, Writes};
 use super::bytes::{marks, verdicts};
 use super::words::solve;
 use graph::edges::edges;
+use graph::tables::FuncGraph;
 use record::Head;
 use repr::BasicBlockIndex;
 
@@ -13,13 +14,12 @@ pub fn write(s: &[u8], layout: &[u16; 1280], head: Head, words: &mut [u32], byte
     requires { (length layout.now ≡ 1280) × (head.declared ≤ 128) × (room_for head (length words.old) (length bytes.old) ≡ true) }
     ensures { Writes s.now layout.now head words.old bytes.old words.new bytes.new }
 {
-    let mut first = [0; 1025];
-    let mut succ = [0; 1536];
+    let mut graph = FuncGraph::empty();
     let mut walked = [0; 32];
     let mut grown = [0; 128];
-    edges(s, layout, head, &mut first, &mut succ);
+    edges(s, layout, head, &mut graph);
     graph::walked::walked(s, layout, head, BasicBlockIndex(0), &mut walked);
-    solve(s, layout, head, &first, &succ, &walked, words, &mut grown);
-    verdicts(s, layout, head, &first, &succ, &walked, words, bytes);
+    solve(s, layout, head, &graph, &walked, words, &mut grown);
+    verdicts(s, layout, head, &graph, &walked, words, bytes);
     marks(head, &grown, bytes);
 }

@@ -6,6 +6,7 @@ ghost use Rattle.nll.specs.Steps.{shape_of, Judges};
 
 use super::room::{shape_of, wide};
 use borrowck::borrow_check;
+use graph::tables::FuncGraph;
 use loans::loans;
 use loans_in_scope::loans_in_scope;
 use record::Head;
@@ -15,15 +16,14 @@ fn by_scope(
     s: &[u8],
     layout: &[u16; 1280],
     head: Head,
-    first: &[u16; 1025],
-    succ: &[u16; 1536],
+    graph: &FuncGraph,
     walked: &[u32; 32],
     words: &[u32],
     scope: &mut [u32],
     bytes: &mut [u8],
 )
     requires { (length layout.now ≡ 1280) × (head.code ≤ 1024 → 4 * head.code ≤ length scope.old) }
-    ensures { Judges s.now layout.now head first.now succ.now walked.now words.now bytes.old bytes.new }
+    ensures { Judges s.now layout.now head graph.now.first graph.now.succ walked.now words.now bytes.old bytes.new }
 {
     let shape = shape_of(head);
     let mut table = [0; 1024];
@@ -32,8 +32,7 @@ fn by_scope(
         s,
         layout,
         head,
-        first,
-        succ,
+        graph,
         words,
         shape.width,
         &table,
@@ -43,35 +42,45 @@ fn by_scope(
     borrow_check(s, layout, head, &table, count, scope, bytes);
 }
 
+// The same with N words for the loans in scope.
+#[inline(never)]
+fn with_words<const N: usize>(
+    s: &[u8],
+    layout: &[u16; 1280],
+    head: Head,
+    graph: &FuncGraph,
+    walked: &[u32; 32],
+    words: &[u32],
+    bytes: &mut [u8],
+)
+    requires { (length layout.now ≡ 1280) × (head.code ≤ 1024 → 4 * head.code ≤ N) × (N ≤ 4096) }
+    ensures { Judges s.now layout.now head graph.now.first graph.now.succ walked.now words.now bytes.old bytes.new }
+{
+    let mut scope = [0; N];
+    by_scope(
+        s, layout, head, graph, walked, words, &mut scope, bytes,
+    );
+}
+
 // The same with words of a size for so many points.
 pub fn verdicts(
     s: &[u8],
     layout: &[u16; 1280],
     head: Head,
-    first: &[u16; 1025],
-    succ: &[u16; 1536],
+    graph: &FuncGraph,
     walked: &[u32; 32],
     words: &[u32],
     bytes: &mut [u8],
 )
     requires { length layout.now ≡ 1280 }
-    ensures { Judges s.now layout.now head first.now succ.now walked.now words.now bytes.old bytes.new }
+    ensures { Judges s.now layout.now head graph.now.first graph.now.succ walked.now words.now bytes.old bytes.new }
 {
     if head.code <= 32 {
-        let mut scope = [0; 128];
-        by_scope(
-            s, layout, head, first, succ, walked, words, &mut scope, bytes,
-        );
+        with_words::<128>(s, layout, head, graph, walked, words, bytes);
     } else if head.code <= 128 {
-        let mut scope = [0; 512];
-        by_scope(
-            s, layout, head, first, succ, walked, words, &mut scope, bytes,
-        );
+        with_words::<512>(s, layout, head, graph, walked, words, bytes);
     } else {
-        let mut scope = [0; 4096];
-        by_scope(
-            s, layout, head, first, succ, walked, words, &mut scope, bytes,
-        );
+        with_words::<4096>(s, layout, head, graph, walked, words, bytes);
     }
 }
 

@@ -3,6 +3,7 @@ ghost use Rattle.std.specs.Prelude.{◌≡◌, ◌*◌, ◌≤◌, length};
 ghost use Rattle.nll.specs.Steps.{Seeds, Solves};
 
 use super::room::shape_of;
+use graph::tables::FuncGraph;
 use infer::EndRule;
 use liveness::liveness;
 use record::Head;
@@ -14,8 +15,7 @@ fn by_rows(
     s: &[u8],
     layout: &[u16; 1280],
     head: Head,
-    first: &[u16; 1025],
-    succ: &[u16; 1536],
+    graph: &FuncGraph,
     walked: &[u32; 32],
     width: usize,
     used: &mut [u32],
@@ -23,10 +23,39 @@ fn by_rows(
     words: &mut [u32],
 )
     requires { (length layout.now ≡ 1280) × (length walked.now ≡ 32) × (width ≤ 32 → 64 * width ≤ length used.old) × (width ≤ 32 → 64 * width ≤ length dropped.old) }
-    ensures { Seeds s.now layout.now head first.now succ.now walked.now width words.old words.new }
+    ensures { Seeds s.now layout.now head graph.now.first graph.now.succ walked.now width words.old words.new }
 {
-    liveness(s, layout, head, first, succ, walked, width, used, dropped);
+    liveness(s, layout, head, graph, walked, width, used, dropped);
     seeds(s, layout, head, walked, used, dropped, width, words);
+}
+
+// The same with N words for each of the two tables of rows.
+#[inline(never)]
+fn with_rows<const N: usize>(
+    s: &[u8],
+    layout: &[u16; 1280],
+    head: Head,
+    graph: &FuncGraph,
+    walked: &[u32; 32],
+    width: usize,
+    words: &mut [u32],
+)
+    requires { (length layout.now ≡ 1280) × (length walked.now ≡ 32) × (width ≤ 32 → 64 * width ≤ N) × (N ≤ 2048) }
+    ensures { Seeds s.now layout.now head graph.now.first graph.now.succ walked.now width words.old words.new }
+{
+    let mut used = [0; N];
+    let mut dropped = [0; N];
+    by_rows(
+        s,
+        layout,
+        head,
+        graph,
+        walked,
+        width,
+        &mut used,
+        &mut dropped,
+        words,
+    );
 }
 
 // The same with rows of a size for sets of so many words.
@@ -34,60 +63,20 @@ fn seed(
     s: &[u8],
     layout: &[u16; 1280],
     head: Head,
-    first: &[u16; 1025],
-    succ: &[u16; 1536],
+    graph: &FuncGraph,
     walked: &[u32; 32],
     width: usize,
     words: &mut [u32],
 )
     requires { (length layout.now ≡ 1280) × (length walked.now ≡ 32) }
-    ensures { Seeds s.now layout.now head first.now succ.now walked.now width words.old words.new }
+    ensures { Seeds s.now layout.now head graph.now.first graph.now.succ walked.now width words.old words.new }
 {
     if width <= 1 {
-        let mut used = [0; 64];
-        let mut dropped = [0; 64];
-        by_rows(
-            s,
-            layout,
-            head,
-            first,
-            succ,
-            walked,
-            width,
-            &mut used,
-            &mut dropped,
-            words,
-        );
+        with_rows::<64>(s, layout, head, graph, walked, width, words);
     } else if width <= 4 {
-        let mut used = [0; 256];
-        let mut dropped = [0; 256];
-        by_rows(
-            s,
-            layout,
-            head,
-            first,
-            succ,
-            walked,
-            width,
-            &mut used,
-            &mut dropped,
-            words,
-        );
+        with_rows::<256>(s, layout, head, graph, walked, width, words);
     } else {
-        let mut used = [0; 2048];
-        let mut dropped = [0; 2048];
-        by_rows(
-            s,
-            layout,
-            head,
-            first,
-            succ,
-            walked,
-            width,
-            &mut used,
-            &mut dropped,
-            words,
-        );
+        with_rows::<2048>(s, layout, head, graph, walked, width, words);
     }
 }
 
@@ -96,23 +85,21 @@ pub fn solve(
     s: &[u8],
     layout: &[u16; 1280],
     head: Head,
-    first: &[u16; 1025],
-    succ: &[u16; 1536],
+    graph: &FuncGraph,
     walked: &[u32; 32],
     words: &mut [u32],
     grown: &mut [u8; 128],
 )
     requires { (length layout.now ≡ 1280) × (length walked.now ≡ 32) × (length grown.old ≡ 128) }
-    ensures { Solves s.now layout.now head first.now succ.now walked.now words.old words.new grown.new }
+    ensures { Solves s.now layout.now head graph.now.first graph.now.succ walked.now words.old words.new grown.new }
 {
     let shape = shape_of(head);
-    seed(s, layout, head, first, succ, walked, shape.width, words);
+    seed(s, layout, head, graph, walked, shape.width, words);
     regionck(
         s,
         layout,
         head,
-        first,
-        succ,
+        graph,
         walked,
         shape,
         EndRule::EveryEnd,

@@ -9,6 +9,7 @@ ghost use Rattle.infer.specs.Search.{rule_of};
 ghost use Rattle.dfs.specs.Walk.{Chained};
 ghost use Rattle.regionck.specs.Rounds.{Cleared, Seeded, Solved};
 
+use graph::tables::FuncGraph;
 use infer::{EndRule, Shape};
 use record::Head;
 use rerun::keep;
@@ -35,8 +36,7 @@ fn solve(
     s: &[u8],
     layout: &[u16; 1280],
     head: Head,
-    first: &[u16; 1025],
-    succ: &[u16; 1536],
+    graph: &FuncGraph,
     chain: &[u32; 32],
     walked: &[u32; 32],
     shape: Shape,
@@ -49,8 +49,8 @@ fn solve(
     before: &mut [u32],
 )
     requires { (length layout.now ≡ 1280) × (length grown.old ≡ 128) × ((i : ℕ) → has absent.old i ≡ false) }
-    ensures { (length grown.new ≡ 128) × ((j : Job) → Seeded s.now layout.now head first.now succ.now walked.now shape words.old j
-        → Chained chain.now first.now succ.now → Solved (rule_of rule) j words.old words.new grown.new) }
+    ensures { (length grown.new ≡ 128) × ((j : Job) → Seeded s.now layout.now head graph.now.first graph.now.succ walked.now shape words.old j
+        → Chained chain.now graph.now.first graph.now.succ → Solved (rule_of rule) j words.old words.new grown.new) }
 {
     clear(grown);
     constraint_list::clear(recent);
@@ -60,7 +60,7 @@ fn solve(
     while left != 0 {
         keep(words, before);
         last = round(
-            s, layout, head, walked, shape, rule, words, first, succ, chain, &last, recent, absent,
+            s, layout, head, walked, shape, rule, words, graph, chain, &last, recent, absent,
             before, list, to,
         );
         if !infer::any_marked(&last) {
@@ -71,13 +71,13 @@ fn solve(
     }
 }
 
-// The same for at most 128 points, by tables of a size for so many.
-fn solve_small(
+// The same by tables of so many words each.
+#[inline(never)]
+fn with_tables<const LIST: usize, const RECENT: usize, const ABSENT: usize, const BEFORE: usize>(
     s: &[u8],
     layout: &[u16; 1280],
     head: Head,
-    first: &[u16; 1025],
-    succ: &[u16; 1536],
+    graph: &FuncGraph,
     chain: &[u32; 32],
     walked: &[u32; 32],
     shape: Shape,
@@ -85,90 +85,19 @@ fn solve_small(
     words: &mut [u32],
     grown: &mut [u8; 128],
 )
-    requires { (length layout.now ≡ 1280) × (length grown.old ≡ 128) }
-    ensures { (length grown.new ≡ 128) × ((j : Job) → Seeded s.now layout.now head first.now succ.now walked.now shape words.old j → Chained chain.now first.now succ.now → Solved (rule_of rule) j words.old words.new grown.new) }
+    requires { (length layout.now ≡ 1280) × (length grown.old ≡ 128) × (LIST ≤ 4097) × (RECENT ≤ 4097) × (ABSENT ≤ 4096) × (BEFORE ≤ 4096) }
+    ensures { (length grown.new ≡ 128) × ((j : Job) → Seeded s.now layout.now head graph.now.first graph.now.succ walked.now shape words.old j → Chained chain.now graph.now.first graph.now.succ → Solved (rule_of rule) j words.old words.new grown.new) }
 {
-    let mut before = [0; 1];
-    if shape.code <= 32 {
-        let mut list = [0; 393];
-        let mut recent = [0; 193];
-        let mut absent = [0; 128];
-        solve(
-            s,
-            layout,
-            head,
-            first,
-            succ,
-            chain,
-            walked,
-            shape,
-            rule,
-            words,
-            grown,
-            &mut list,
-            &mut recent,
-            &mut absent,
-            &mut before,
-        );
-    } else {
-        let mut list = [0; 1025];
-        let mut recent = [0; 513];
-        let mut absent = [0; 512];
-        solve(
-            s,
-            layout,
-            head,
-            first,
-            succ,
-            chain,
-            walked,
-            shape,
-            rule,
-            words,
-            grown,
-            &mut list,
-            &mut recent,
-            &mut absent,
-            &mut before,
-        );
-    }
-}
-
-// The words hold the regions' seeds before, and their least sets after. `grown` marks, by 1, the declared regions whose sets exceed their seeds.
-pub fn regionck(
-    s: &[u8],
-    layout: &[u16; 1280],
-    head: Head,
-    first: &[u16; 1025],
-    succ: &[u16; 1536],
-    walked: &[u32; 32],
-    shape: Shape,
-    rule: EndRule,
-    words: &mut [u32],
-    grown: &mut [u8; 128],
-)
-    requires { (length layout.now ≡ 1280) × (length grown.old ≡ 128) }
-    ensures { (length grown.new ≡ 128) × ((j : Job) → Seeded s.now layout.now head first.now succ.now walked.now shape words.old j
-        → Solved (rule_of rule) j words.old words.new grown.new) }
-{
-    let chain = dfs::chains(first, succ, shape.code);
-    if shape.code <= 128 {
-        solve_small(
-            s, layout, head, first, succ, &chain, walked, shape, rule, words, grown,
-        );
-        return;
-    }
-    let mut list = [0; 4097];
-    let mut recent = [0; 4097];
-    let mut absent = [0; 4096];
-    let mut before = [0; 4096];
+    let mut list = [0; LIST];
+    let mut recent = [0; RECENT];
+    let mut absent = [0; ABSENT];
+    let mut before = [0; BEFORE];
     solve(
         s,
         layout,
         head,
-        first,
-        succ,
-        &chain,
+        graph,
+        chain,
         walked,
         shape,
         rule,
@@ -179,4 +108,36 @@ pub fn regionck(
         &mut absent,
         &mut before,
     );
+}
+
+// The words hold the regions' seeds before, and their least sets after. `grown` marks, by 1, the declared regions whose sets exceed their seeds.
+pub fn regionck(
+    s: &[u8],
+    layout: &[u16; 1280],
+    head: Head,
+    graph: &FuncGraph,
+    walked: &[u32; 32],
+    shape: Shape,
+    rule: EndRule,
+    words: &mut [u32],
+    grown: &mut [u8; 128],
+)
+    requires { (length layout.now ≡ 1280) × (length grown.old ≡ 128) }
+    ensures { (length grown.new ≡ 128) × ((j : Job) → Seeded s.now layout.now head graph.now.first graph.now.succ walked.now shape words.old j
+        → Solved (rule_of rule) j words.old words.new grown.new) }
+{
+    let chain = dfs::chains(graph, shape.code);
+    if shape.code <= 32 {
+        with_tables::<393, 193, 128, 1>(
+            s, layout, head, graph, &chain, walked, shape, rule, words, grown,
+        );
+    } else if shape.code <= 128 {
+        with_tables::<1025, 513, 512, 1>(
+            s, layout, head, graph, &chain, walked, shape, rule, words, grown,
+        );
+    } else {
+        with_tables::<4097, 4097, 4096, 4096>(
+            s, layout, head, graph, &chain, walked, shape, rule, words, grown,
+        );
+    }
 }

@@ -6,6 +6,7 @@ ghost use Rattle.constraint_list.specs.Listed.{count_in, Draws};
 ghost use Rattle.rerun.specs.Rerun.{Holding, OwnKept};
 ghost use Rattle.regionck.specs.Rounds.{Sound, RunsBelow, RoundRuns};
 
+use graph::tables::FuncGraph;
 use infer::{EndRule, Shape};
 use record::Head;
 use rerun::point::point;
@@ -47,8 +48,7 @@ fn visit(
     shape: Shape,
     rule: EndRule,
     words: &mut [u32],
-    first: &[u16; 1025],
-    succ: &[u16; 1536],
+    graph: &FuncGraph,
     chain: &[u32; 32],
     last: &[u8; 128],
     grew: &mut [u8; 128],
@@ -57,9 +57,9 @@ fn visit(
     p: usize,
 )
     requires { (length layout.now ≡ 1280) × (p < shape.code) × Sound s.now layout.now head walked.now shape.code absent.old }
-    ensures { ((ws : List ℕ) → RunsBelow s.now layout.now head walked.now shape rule first.now succ.now chain.now
+    ensures { ((ws : List ℕ) → RunsBelow s.now layout.now head walked.now shape rule graph.now.first graph.now.succ chain.now
         last.now ws words.old grew.old p
-        → RunsBelow s.now layout.now head walked.now shape rule first.now succ.now chain.now
+        → RunsBelow s.now layout.now head walked.now shape rule graph.now.first graph.now.succ chain.now
         last.now ws words.new grew.new (p + 1))
         × OwnKept s.now layout.now head walked.now shape.code recent.old recent.new
         × Sound s.now layout.now head walked.now shape.code absent.new }
@@ -71,9 +71,7 @@ fn visit(
     let mut list = [0; 265];
     point(s, layout, head, walked, p, &mut list);
     absent_regions::put(&list, p, absent);
-    infer::run(
-        words, first, succ, chain, shape, rule, last, grew, recent, &list,
-    );
+    infer::run(words, graph, chain, shape, rule, last, grew, recent, &list);
 }
 
 // Runs the constraints of point `from` and of those after it.
@@ -85,8 +83,7 @@ fn rest(
     shape: Shape,
     rule: EndRule,
     words: &mut [u32],
-    first: &[u16; 1025],
-    succ: &[u16; 1536],
+    graph: &FuncGraph,
     chain: &[u32; 32],
     last: &[u8; 128],
     grew: &mut [u8; 128],
@@ -95,9 +92,9 @@ fn rest(
     from: usize,
 )
     requires { (length layout.now ≡ 1280) × (from ≤ shape.code) × Sound s.now layout.now head walked.now shape.code absent.old }
-    ensures { ((ws : List ℕ) → RunsBelow s.now layout.now head walked.now shape rule first.now succ.now chain.now
+    ensures { ((ws : List ℕ) → RunsBelow s.now layout.now head walked.now shape rule graph.now.first graph.now.succ chain.now
         last.now ws words.old grew.old from
-        → RunsBelow s.now layout.now head walked.now shape rule first.now succ.now chain.now
+        → RunsBelow s.now layout.now head walked.now shape rule graph.now.first graph.now.succ chain.now
         last.now ws words.new grew.new shape.code)
         × OwnKept s.now layout.now head walked.now shape.code recent.old recent.new
         × Sound s.now layout.now head walked.now shape.code absent.new }
@@ -106,8 +103,8 @@ fn rest(
     let mut p = from;
     while p < code {
         visit(
-            s, layout, head, walked, shape, rule, words, first, succ, chain, last, grew, recent,
-            absent, p,
+            s, layout, head, walked, shape, rule, words, graph, chain, last, grew, recent, absent,
+            p,
         );
         p += 1;
     }
@@ -123,8 +120,7 @@ fn sweep(
     shape: Shape,
     rule: EndRule,
     words: &mut [u32],
-    first: &[u16; 1025],
-    succ: &[u16; 1536],
+    graph: &FuncGraph,
     chain: &[u32; 32],
     last: &[u8; 128],
     recent: &mut [u32],
@@ -134,7 +130,7 @@ fn sweep(
 ) -> [u8; 128]
     requires { (length layout.now ≡ 1280) × Holding s.now layout.now head walked.now shape.code list.now 0 to
         × Sound s.now layout.now head walked.now shape.code absent.old }
-    ensures { RunsBelow s.now layout.now head walked.now shape rule first.now succ.now chain.now
+    ensures { RunsBelow s.now layout.now head walked.now shape rule graph.now.first graph.now.succ chain.now
         last.now words.old words.new result shape.code
         × OwnKept s.now layout.now head walked.now shape.code recent.old recent.new
         × Sound s.now layout.now head walked.now shape.code absent.new }
@@ -142,11 +138,11 @@ fn sweep(
     let mut grew = [0; 128];
     make_room(recent);
     infer::run(
-        words, first, succ, chain, shape, rule, last, &mut grew, recent, list,
+        words, graph, chain, shape, rule, last, &mut grew, recent, list,
     );
     rest(
-        s, layout, head, walked, shape, rule, words, first, succ, chain, last, &mut grew, recent,
-        absent, to,
+        s, layout, head, walked, shape, rule, words, graph, chain, last, &mut grew, recent, absent,
+        to,
     );
     grew
 }
@@ -160,8 +156,7 @@ pub fn round(
     shape: Shape,
     rule: EndRule,
     words: &mut [u32],
-    first: &[u16; 1025],
-    succ: &[u16; 1536],
+    graph: &FuncGraph,
     chain: &[u32; 32],
     last: &[u8; 128],
     recent: &mut [u32],
@@ -171,17 +166,16 @@ pub fn round(
     to: usize,
 ) -> [u8; 128]
     requires { (length layout.now ≡ 1280) × Holding s.now layout.now head walked.now shape.code list.now 0 to × Sound s.now layout.now head walked.now shape.code absent.old }
-    ensures { RoundRuns s.now layout.now head walked.now shape rule first.now succ.now chain.now
+    ensures { RoundRuns s.now layout.now head walked.now shape rule graph.now.first graph.now.succ chain.now
         last.now recent.old words.old words.new result
         × OwnKept s.now layout.now head walked.now shape.code recent.old recent.new
         × Sound s.now layout.now head walked.now shape.code absent.new }
 {
     let mut grew = sweep(
-        s, layout, head, walked, shape, rule, words, first, succ, chain, last, recent, absent,
-        list, to,
+        s, layout, head, walked, shape, rule, words, graph, chain, last, recent, absent, list, to,
     );
     repeat(
-        s, layout, head, walked, shape, rule, words, first, succ, chain, &mut grew, recent, before,
+        s, layout, head, walked, shape, rule, words, graph, chain, &mut grew, recent, before,
         absent, list, to,
     );
     grew

@@ -8,7 +8,8 @@ use native.Mathlib.Nat.{add-zero, zero-add}
 use lib.ListN.{length, get_or, take, drop, length-drop, drop_of_length-le, get_or-eq_default}
 use lib.Seq.{drop-cons, drop-drop}
 use borrow.Author.Tests.{le-leb, lt-leb}
-use Rattle.std.specs.Prelude.{Result, Ok, Err, IsErr, IsErrAnd}
+use Rattle.std.specs.Prelude.{Result, Ok, Err, IsErr, IsErrAnd, Option, Some, None}
+use Rattle.std.specs.Result.{result_ok}
 use Rattle.std.proofs.Common.{rules}
 use Rattle.repr.specs.declared.refusal.Refusal.{Refusal}
 use Rattle.nll_spec.specs.Decode.{Reading, refused, read, Reader, done, refuse, ◌>>=◌, byte, count, pick, one_of, items, region}
@@ -21,6 +22,22 @@ told says e k = sym e ∙ ap says k
 pub passed_on : {A : Type 0} {r : Result A Refusal} {k : Refusal} → IsErr r × IsErrAnd r (λ e. e ≡ k) → r ≡ Err k
 passed_on {r = Ok a} h = absurd (search rules)
 passed_on {r = Err e} h = ap Err h.1
+
+-- `ok` of an answer: what was read, or that it was refused
+module _ {A : Type 0} {r : Result A Refusal} {o : Option A} (e : o ≡ result_ok r) where
+  pub ok_some : {x : A} → o ≡ Some x → r ≡ Ok x
+  ok_some {x} h = go r (sym e ∙ h)
+    where
+      go : (q : Result A Refusal) → result_ok q ≡ Some x → q ≡ Ok x
+      go (Ok y) i = ap Ok (search rules)
+      go (Err k) i = absurd (search rules)
+
+  pub ok_none : o ≡ None → (k : Refusal) × (r ≡ Err k)
+  ok_none h = go r (sym e ∙ h)
+    where
+      go : (q : Result A Refusal) → result_ok q ≡ None → (k : Refusal) × (q ≡ Err k)
+      go (Ok y) i = absurd (search rules)
+      go (Err k) i = (k, refl)
 
 -- ---- A step, and what follows it
 

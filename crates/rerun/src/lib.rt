@@ -9,6 +9,7 @@ ghost use Rattle.constraint_list.specs.Listed.{constraints_in, Draws};
 ghost use Rattle.infer.specs.Ran.{Runs};
 ghost use Rattle.rerun.specs.Rerun.{no_marks, Noted, Holding, RunsAgain, RunsMore, Keeps};
 
+use graph::tables::FuncGraph;
 use infer::{EndRule, Shape};
 use marks::note;
 use point::point;
@@ -20,8 +21,7 @@ const TIMES: u32 = 65536;
 // Runs the constraints of the list once, those whose inner set has a mark in `last` or gets one. The answer marks, by 1, the regions whose sets grew, and so does `grew`.
 fn rerun(
     words: &mut [u32],
-    first: &[u16; 1025],
-    succ: &[u16; 1536],
+    graph: &FuncGraph,
     chain: &[u32; 32],
     shape: Shape,
     rule: EndRule,
@@ -30,14 +30,14 @@ fn rerun(
     recent: &mut [u32],
     list: &[u32],
 ) -> [u8; 128]
-    ensures { Runs shape rule first.now succ.now chain.now last.now (constraints_in list.now)
+    ensures { Runs shape rule graph.now.first graph.now.succ chain.now last.now (constraints_in list.now)
         words.old no_marks words.new result
         × (length grew.old ≡ 128 → Noted result grew.old grew.new 128)
         × Draws (constraints_in list.now) recent.old recent.new }
 {
     let mut next = [0; 128];
     infer::run(
-        words, first, succ, chain, shape, rule, last, &mut next, recent, list,
+        words, graph, chain, shape, rule, last, &mut next, recent, list,
     );
     note(&next, grew);
     next
@@ -47,8 +47,7 @@ fn rerun(
 // sets grew, in `fresh` and in `grew`.
 fn settle(
     words: &mut [u32],
-    first: &[u16; 1025],
-    succ: &[u16; 1536],
+    graph: &FuncGraph,
     chain: &[u32; 32],
     shape: Shape,
     rule: EndRule,
@@ -56,7 +55,7 @@ fn settle(
     grew: &mut [u8; 128],
     list: &[u32],
 )
-    ensures { RunsAgain shape rule first.now succ.now chain.now (constraints_in list.now)
+    ensures { RunsAgain shape rule graph.now.first graph.now.succ chain.now (constraints_in list.now)
         words.old grew.old words.new grew.new }
 {
     let mut none = [0; 1];
@@ -68,7 +67,7 @@ fn settle(
             return;
         }
         last = rerun(
-            words, first, succ, chain, shape, rule, &last, grew, &mut none, list,
+            words, graph, chain, shape, rule, &last, grew, &mut none, list,
         );
         note(&last, fresh);
         left -= 1;
@@ -150,8 +149,7 @@ fn revisit(
     shape: Shape,
     rule: EndRule,
     words: &mut [u32],
-    first: &[u16; 1025],
-    succ: &[u16; 1536],
+    graph: &FuncGraph,
     chain: &[u32; 32],
     last: &[u8; 128],
     fresh: &mut [u8; 128],
@@ -162,7 +160,7 @@ fn revisit(
     p: usize,
 )
     requires { (length layout.now ≡ 1280) × (p < shape.code) }
-    ensures { RunsMore s.now layout.now head walked.now shape rule first.now succ.now chain.now
+    ensures { RunsMore s.now layout.now head walked.now shape rule graph.now.first graph.now.succ chain.now
         recent.old words.old grew.old recent.new words.new grew.new }
 {
     if !bit_set::test(near, 0, p) {
@@ -174,9 +172,7 @@ fn revisit(
     }
     let mut list = [0; 265];
     point(s, layout, head, walked, p, &mut list);
-    let next = rerun(
-        words, first, succ, chain, shape, rule, last, grew, recent, &list,
-    );
+    let next = rerun(words, graph, chain, shape, rule, last, grew, recent, &list);
     note(&next, fresh);
 }
 
@@ -189,8 +185,7 @@ fn revisit_near(
     shape: Shape,
     rule: EndRule,
     words: &mut [u32],
-    first: &[u16; 1025],
-    succ: &[u16; 1536],
+    graph: &FuncGraph,
     chain: &[u32; 32],
     last: &[u8; 128],
     fresh: &mut [u8; 128],
@@ -200,15 +195,15 @@ fn revisit_near(
     absent: &[u32],
 )
     requires { length layout.now ≡ 1280 }
-    ensures { RunsMore s.now layout.now head walked.now shape rule first.now succ.now chain.now
+    ensures { RunsMore s.now layout.now head walked.now shape rule graph.now.first graph.now.succ chain.now
         recent.old words.old grew.old recent.new words.new grew.new }
 {
     let code = shape.code;
     let mut p = 0;
     while p < code {
         revisit(
-            s, layout, head, walked, shape, rule, words, first, succ, chain, last, fresh, grew,
-            recent, near, absent, p,
+            s, layout, head, walked, shape, rule, words, graph, chain, last, fresh, grew, recent,
+            near, absent, p,
         );
         p += 1;
     }
@@ -224,8 +219,7 @@ fn turn(
     shape: Shape,
     rule: EndRule,
     words: &mut [u32],
-    first: &[u16; 1025],
-    succ: &[u16; 1536],
+    graph: &FuncGraph,
     chain: &[u32; 32],
     last: &[u8; 128],
     grew: &mut [u8; 128],
@@ -236,17 +230,15 @@ fn turn(
 ) -> [u8; 128]
     requires { length layout.now ≡ 1280 }
     ensures { (to : Point) → Holding s.now layout.now head walked.now shape.code list.now 0 to
-        → RunsMore s.now layout.now head walked.now shape rule first.now succ.now chain.now
+        → RunsMore s.now layout.now head walked.now shape rule graph.now.first graph.now.succ chain.now
         recent.old words.old grew.old recent.new words.new grew.new }
 {
     let near = leading(words, before, shape.width, last);
     make_room(recent);
-    let mut fresh = rerun(
-        words, first, succ, chain, shape, rule, last, grew, recent, list,
-    );
+    let mut fresh = rerun(words, graph, chain, shape, rule, last, grew, recent, list);
     revisit_near(
-        s, layout, head, walked, shape, rule, words, first, succ, chain, last, &mut fresh, grew,
-        recent, &near, absent,
+        s, layout, head, walked, shape, rule, words, graph, chain, last, &mut fresh, grew, recent,
+        &near, absent,
     );
     fresh
 }
@@ -260,8 +252,7 @@ fn turns(
     shape: Shape,
     rule: EndRule,
     words: &mut [u32],
-    first: &[u16; 1025],
-    succ: &[u16; 1536],
+    graph: &FuncGraph,
     chain: &[u32; 32],
     marks: [u8; 128],
     grew: &mut [u8; 128],
@@ -272,7 +263,7 @@ fn turns(
 )
     requires { length layout.now ≡ 1280 }
     ensures { (to : Point) → Holding s.now layout.now head walked.now shape.code list.now 0 to
-        → RunsMore s.now layout.now head walked.now shape rule first.now succ.now chain.now
+        → RunsMore s.now layout.now head walked.now shape rule graph.now.first graph.now.succ chain.now
         recent.old words.old grew.old recent.new words.new grew.new }
 {
     let mut last = marks;
@@ -282,12 +273,10 @@ fn turns(
             return;
         }
         last = turn(
-            s, layout, head, walked, shape, rule, words, first, succ, chain, &last, grew, recent,
-            before, absent, list,
+            s, layout, head, walked, shape, rule, words, graph, chain, &last, grew, recent, before,
+            absent, list,
         );
-        settle(
-            words, first, succ, chain, shape, rule, &mut last, grew, recent,
-        );
+        settle(words, graph, chain, shape, rule, &mut last, grew, recent);
         left -= 1;
     }
 }
@@ -302,8 +291,7 @@ pub fn repeat(
     shape: Shape,
     rule: EndRule,
     words: &mut [u32],
-    first: &[u16; 1025],
-    succ: &[u16; 1536],
+    graph: &FuncGraph,
     chain: &[u32; 32],
     grew: &mut [u8; 128],
     recent: &mut [u32],
@@ -314,19 +302,17 @@ pub fn repeat(
 )
     requires { length layout.now ≡ 1280 }
     ensures { Holding s.now layout.now head walked.now shape.code list.now 0 to
-        → RunsMore s.now layout.now head walked.now shape rule first.now succ.now chain.now
+        → RunsMore s.now layout.now head walked.now shape rule graph.now.first graph.now.succ chain.now
         recent.old words.old grew.old recent.new words.new grew.new }
 {
     let mut last = [0; 128];
     note(grew, &mut last);
-    settle(
-        words, first, succ, chain, shape, rule, &mut last, grew, recent,
-    );
+    settle(words, graph, chain, shape, rule, &mut last, grew, recent);
     if shape.code <= to {
         return;
     }
     turns(
-        s, layout, head, walked, shape, rule, words, first, succ, chain, last, grew, recent,
-        before, absent, list,
+        s, layout, head, walked, shape, rule, words, graph, chain, last, grew, recent, before,
+        absent, list,
     );
 }

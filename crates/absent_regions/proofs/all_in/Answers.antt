@@ -1,20 +1,16 @@
--- `absent_regions::all_in`. The loop's invariant: all is `words_in` of the first k words. Assumes nothing.
-use Prim.Native.Nat.{◌-◌}
-use mathlib.Core.Path.{◌≡◌}
-use native.Mathlib.Omega.{arith}
-use Rattle.absent_regions.proofs.AbsentLaws.{words-none, words_more, all_in_lem, not-all}
+-- `absent_regions::all_in` meets its contract. Assumes nothing.
+use mathlib.Core.Path.{refl, ◌∙◌}
+use Rattle.std.proofs.Common.{rules, tests}
+use Rattle.std.proofs.lemmas.Iterator.{YieldsList-from_range}
+use Rattle.std.proofs.lemmas.Iterator.Search.{all_from_yields_List}
+use Rattle.absent_regions.proofs.AbsentLaws.{word_in, all_words, all_in_lem}
 use Rattle.absent_regions.proofs.all_in.Goals as goal
 
-pub returns-then-absent-p : goal.returns-then-absent-p
-returns-then-absent-p c = not-all _ _ _ (omega arith)
-
-pub loop-k-init : goal.loop-k-init
-loop-k-init c = (omega arith, words-none _ _ _)
-
-pub loop-k-preserved : goal.loop-k-preserved
-loop-k-preserved c = let l = c.loop-k in
-    (omega arith, rw l.invariant.1 (words_more _ _ _ l.k))
-
-pub returns : goal.returns
-returns c = let e : c.loop-k.k ≡ 4 = omega arith in
-    all_in_lem _ _ _ (rw (← e) c.loop-k.invariant.1) (omega arith)
+pub returns-then-p-absent : goal.returns-then-p-absent
+returns-then-p-absent c =
+    let t = c.args.absent.now in
+    let p = c.args.p in
+    let set = c.args.set.now in
+    all_in_lem t p set
+    (all_from_yields_List (word_in t p set) _ _ c.all.result c.all.ensures.ran (YieldsList-from_range 0 4 4 refl refl) (λ x b q k. search (rules, tests)) ∙ all_words t p set)
+    c.if-p-absent.true

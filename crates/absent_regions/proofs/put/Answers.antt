@@ -1,23 +1,22 @@
--- `absent_regions::put`. The loop's invariant: the table is `with_absent` of the regions below x. Assumes nothing.
-use Prim.Native.Nat.{◌-◌}
-use mathlib.Core.Path.{◌≡◌}
+-- `absent_regions::put` meets its contract. Assumes nothing.
+use mathlib.Core.Path.{◌≡◌, ◌∙◌}
 use native.Mathlib.Omega.{arith}
-use Rattle.absent_regions.proofs.AbsentLaws.{with_none, with_more, with_length, puts, puts_none}
+use borrow.Author.Tests.{eq-eqb, ne_eqb}
+use Rattle.absent_regions.proofs.AbsentLaws.{with_none, with_more, puts}
 use Rattle.absent_regions.proofs.put.Goals as goal
+use Rattle.absent_regions.proofs.put.Goals.{then-inner-region-eq0, else-inner-region-eq0}
 
-pub returns-then-absent-p : goal.returns-then-absent-p
-returns-then-absent-p c = puts_none _ _ _ (omega arith)
+pub loop-region-init : goal.loop-region-init
+loop-region-init c = with_none _ _ _
 
-pub loop-x-init : goal.loop-x-init
-loop-x-init c = (omega arith, with_none _ _ _)
-
-pub loop-x-preserved : goal.loop-x-preserved
-loop-x-preserved c = let l = c.loop-x in
-    (omega arith, with_more _ _ _ l.x c.inner_regions-inner.ensures (omega arith) l.invariant.1 c.add_if.ensures)
-
-pub shape_of-absent : goal.shape_of-absent
-shape_of-absent c = with_length _ _ _ c.loop-x.x c.loop-x.invariant.1 c.loop-x.invariant.0
+pub loop-region-preserved : goal.loop-region-preserved
+loop-region-preserved c =
+    let l = c.loop-region in
+    with_more _ _ _ l.region c.inner_regions-inner.ensures (omega arith) l.invariant (elim c.if-inner-region-eq0.branch [
+      | then-inner-region-eq0 w ↦ rw (eq-eqb _ 0 w.if-inner-region-eq0.true) (w.absent-is ∙ w.add.ensures.0)
+      | else-inner-region-eq0 w ↦ rw (ne_eqb _ 0 w.if-inner-region-eq0.false) w.absent-is
+    ])
 
 pub returns : goal.returns
-returns c = let e : c.loop-x.x ≡ 128 = omega arith in
-    puts _ _ _ (rw (← e) c.loop-x.invariant.1) (omega arith)
+returns c = let e : c.loop-region.region ≡ 128 = omega arith in
+    puts _ _ _ (rw (← e) c.loop-region.invariant) (omega arith)

@@ -1,11 +1,7 @@
--- `absent_regions::put`. The loop's invariant: the table is `with_absent` of the regions below x. Assumes nothing.
-use Prim.Native.Nat.{◌-◌, ◌≤◌}
+-- `absent_regions::put`. The loop's invariant: the table is `with_absent` of the regions below `region`. Assumes nothing.
 use mathlib.Core.Path.{◌≡◌}
 use Rattle.absent_regions.specs.Absent.{with_absent}
 use Rattle.absent_regions.proofs.put.Given as goal
 
-abbrev pub invariant-loop-x : goal.invariant-loop-x
-invariant-loop-x l = (l.x ≤ 128) × (l.absent ≡ with_absent l.list l.p l.initial.absent l.x)
-
-abbrev pub decreases-loop-x : goal.decreases-loop-x
-decreases-loop-x l = 128 - l.x
+abbrev pub invariant-loop-region : goal.invariant-loop-region
+invariant-loop-region l = l.absent ≡ with_absent l.list l.p l.initial.absent l.region

@@ -1,15 +1,16 @@
-use native.Mathlib.Omega.{arith}
-use Rattle.bit_set.proofs.BitLaws.{add-out, add_held, add_new}
+use Rattle.bit_set.proofs.BitLaws.{add-out, add_held, add_new, tested}
 use Rattle.bit_set.proofs.add.Goals as goal
 
-pub returns-then-w-p-eq1 : goal.returns-then-w-p-eq1
-returns-then-w-p-eq1 c = let a = c.args in add_held a.words.now a.start a.p (λ k. (c.slice_known-1.given k).fits) c.if-w-p-eq1.true
+pub returns-then-has_bit : goal.returns-then-has_bit
+returns-then-has_bit c =
+    let a = c.args in
+    add_held a.words.now a.start a.p (λ k. (c.type_inv.words k).fits) (tested a.words.now a.start a.p c.in-Some.ensures.0 c.has_bit.ensures c.if-has_bit.true)
 
-pub returns-then-start-words : goal.returns-then-start-words
-returns-then-start-words c = let a = c.args in add_new a.words.now a.start a.p (omega arith) c.if-w-p-eq1.false
+pub returns : goal.returns
+returns c =
+    let a = c.args in
+    let k = c.in-Some.ensures in
+    add_new a.words.now a.start a.p k.0 k.1 (tested a.words.now a.start a.p k.0 c.has_bit.ensures c.if-has_bit.false)
 
-pub returns-else-start-words : goal.returns-else-start-words
-returns-else-start-words c = let a = c.args in add-out a.words.now a.start a.p (omega arith)
-
-pub returns-else-k-words : goal.returns-else-k-words
-returns-else-k-words c = let a = c.args in add-out a.words.now a.start a.p (omega arith)
+pub returns-in_default : goal.returns-in_default
+returns-in_default c = let a = c.args in add-out a.words.now a.start a.p c.in_default.ensures

@@ -1,12 +1,8 @@
 -- `dfs::chains`. The loop's invariant: `Chained`. Assumes nothing.
-use Prim.Native.Nat.{◌-◌, ◌≤◌}
 use mathlib.Core.Path.{◌≡◌}
 use lib.ListN.{length}
 use Rattle.dfs.specs.Walk.{Chained}
 use Rattle.dfs.proofs.chains.Given as goal
 
 abbrev pub invariant-loop-q : goal.invariant-loop-q
-invariant-loop-q l = (l.q ≤ l.code) × (length l.chain ≡ 32) × Chained l.chain l.first l.succ
-
-abbrev pub decreases-loop-q : goal.decreases-loop-q
-decreases-loop-q l = l.code - l.q
+invariant-loop-q l = (length l.chain ≡ 32) × Chained l.chain l.graph.first l.graph.succ

@@ -1,5 +1,4 @@
 -- `flow::round`. The loop's invariant: the edges of the first i points are run. Assumes nothing.
-use Prim.Native.Nat.{◌-◌}
 use mathlib.Core.Path.{◌∙◌}
 use native.Mathlib.Omega.{arith}
 use Rattle.flow.proofs.RunningLaws.{rows_none, rows_more, rows_all}
@@ -7,17 +6,16 @@ use borrow.Author.Rules.{rules}
 use Rattle.flow.proofs.round.Goals as goal
 
 pub loop-i-init : goal.loop-i-init
-loop-i-init c = let a = c.args in (search rules, search rules, rows_none a.direction a.code a.first.now a.succ.now a.pass.now a.sets.now)
+loop-i-init c = let a = c.args in (search rules, rows_none a.direction a.code a.graph.now.first a.graph.now.succ a.pass.now a.sets.now)
 
 pub loop-i-preserved : goal.loop-i-preserved
 loop-i-preserved c = let a = c.args in
     let l = c.loop-i in (
-      omega arith,
-      c.row-changed.ensures.since.as_long ∙ l.invariant.1,
-      rows_more a.direction a.code a.first.now a.succ.now a.pass.now a.sets.now l.i _ _ _ c.point-p.ensures.0 l.invariant.2 c.row-changed.ensures,
+      c.row-changed.ensures.since.as_long ∙ l.invariant.0,
+      rows_more a.direction a.code a.graph.now.first a.graph.now.succ a.pass.now a.sets.now l.i _ _ _ c.point-p.ensures.0 l.invariant.1 c.row-changed.ensures,
     )
 
 pub returns : goal.returns
 returns c = let a = c.args in
     let l = c.loop-i in
-    rows_all a.direction a.code a.first.now a.succ.now a.pass.now a.sets.now l.i l.invariant.0 (omega arith) l.invariant.2
+    rows_all a.direction a.code a.graph.now.first a.graph.now.succ a.pass.now a.sets.now l.i (omega arith) (omega arith) l.invariant.1

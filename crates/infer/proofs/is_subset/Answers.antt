@@ -1,5 +1,4 @@
 -- `infer::is_subset`. The loop's invariant: lacks is `or_grows` of the first k words. Assumes nothing.
-use Prim.Native.Nat.{◌-◌}
 use native.Mathlib.Omega.{arith}
 use Rattle.infer.proofs.SubsetLaws.{subset_out, subset_start, subset_turn, subset_end}
 use Rattle.infer.proofs.is_subset.Goals as goal

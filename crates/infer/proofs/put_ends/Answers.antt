@@ -1,5 +1,4 @@
 -- `infer::put_ends`. The loop's invariant: the ends below i that the rule passes on are put. Assumes nothing.
-use Prim.Native.Nat.{◌-◌}
 use mathlib.Core.Path.{◌≡◌, sym, ap, ◌∙◌}
 use native.Mathlib.Omega.{arith}
 use Rattle.nll_spec.specs.Regions.{passes_end}

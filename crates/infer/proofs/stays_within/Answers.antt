@@ -1,5 +1,5 @@
 -- `infer::stays_within`. The loop's invariant: the words before k are covered. Assumes nothing.
-use Prim.Native.Nat.{◌-◌, ◌/◌}
+use Prim.Native.Nat.{◌/◌}
 use mathlib.Core.Bool.{true≢false}
 use mathlib.Core.Path.{sym}
 use native.Mathlib.Omega.{arith}

@@ -9,7 +9,7 @@ returns-then-width-gt32 c = λ j l k n. absurd (omega (arith, n, c.if-width-gt32
 
 pub returns-then-width-code : goal.returns-then-width-code
 returns-then-width-code c = let a = c.args in
-    λ j l k n u d. live_none a.s.now a.layout.now a.head a.first.now a.succ.now a.walked.now c.wide-code.ensures c.wide8-many.ensures c.if-width-code.true j l k n
+    λ j l k n u d. live_none a.s.now a.layout.now a.head a.graph.now.first a.graph.now.succ a.walked.now c.wide-code.ensures c.wide8-many.ensures c.if-width-code.true j l k n
 
 pub returns-then-used-width : goal.returns-then-used-width
 returns-then-used-width c = λ j l k n u d. absurd (omega (arith, u, c.if-used-width.true))

@@ -1,5 +1,4 @@
 -- `loans_in_scope::enter`. The loop's invariant: the first i loans are in both tables. Assumes nothing.
-use Prim.Native.Nat.{◌-◌}
 use Rattle.loans_in_scope.proofs.LoanLaws.{begun_none, begun_more, begun_all, regions-none, regions-more, regions-all}
 use native.Mathlib.Omega.{arith}
 use borrow.Author.Rules.{rules}

@@ -1,5 +1,4 @@
 -- `loans_in_scope::fill`. The loop's invariant: the loans that may pass the first p points are in their sets. Assumes nothing.
-use Prim.Native.Nat.{◌-◌}
 use Rattle.loans_in_scope.proofs.FillLaws.{kept_to_none, kept_to_more, within, all-filled}
 use native.Mathlib.Omega.{arith}
 use borrow.Author.Rules.{rules}

@@ -1,12 +1,11 @@
--- `loans_in_scope::follow`. The loop's invariant: the points up to entry k have what leaves p. Assumes nothing.
-use Prim.Native.Nat.{◌-◌, ◌≤◌}
+-- `loans_in_scope::follow`. The loop's invariant: the points so far have what leaves p. Assumes nothing.
+use Prim.Native.Nat.{◌+◌}
 use mathlib.Core.Path.{◌≡◌}
 use lib.ListN.{length}
+use Rattle.graph.specs.Tables.{row_start}
 use Rattle.loans_in_scope.specs.Gains.{Gains, Leaving}
 use Rattle.loans_in_scope.proofs.follow.Given as goal
 
-abbrev pub invariant-loop-k : goal.invariant-loop-k
-invariant-loop-k l = (l.start ≤ l.k) × (l.k - l.start ≤ l.end - l.start) × (length l.scope ≡ length l.initial.scope) × Gains (Leaving l.from l.code l.first l.succ l.p l.k) l.initial.scope l.scope
-
-abbrev pub decreases-loop-k : goal.decreases-loop-k
-decreases-loop-k l = l.end - l.k
+abbrev pub invariant-loop-s : goal.invariant-loop-s
+invariant-loop-s l =
+    (length l.scope ≡ length l.initial.scope) × Gains (Leaving l.from l.code l.fn.graph.first l.fn.graph.succ l.p (row_start l.fn.graph.first l.p + l.s-index)) l.initial.scope l.scope

@@ -1,12 +1,8 @@
 -- `loans_in_scope::gather`. The loop's invariant: what leaves the first p points has gone on. Assumes nothing.
-use Prim.Native.Nat.{◌-◌, ◌≤◌}
 use mathlib.Core.Path.{◌≡◌}
 use lib.ListN.{length}
 use Rattle.loans_in_scope.specs.Gains.{Gains, Rows}
 use Rattle.loans_in_scope.proofs.gather.Given as goal
 
 abbrev pub invariant-loop-p : goal.invariant-loop-p
-invariant-loop-p l = (l.p ≤ l.code) × (length l.scope ≡ length l.initial.scope) × Gains (Rows l.from l.code l.first l.succ l.p) l.initial.scope l.scope
-
-abbrev pub decreases-loop-p : goal.decreases-loop-p
-decreases-loop-p l = l.code - l.p
+invariant-loop-p l = (length l.scope ≡ length l.initial.scope) × Gains (Rows l.from l.code l.graph.first l.graph.succ l.p) l.initial.scope l.scope

@@ -1,5 +1,4 @@
 -- `loans_in_scope::keep_each`. The loop's invariant: of the first i loans, those that may pass are in the set. Assumes nothing.
-use Prim.Native.Nat.{◌-◌}
 use Rattle.loans_in_scope.specs.Scope.{paths_of}
 use Rattle.loans_in_scope.proofs.FillLaws.{each_none, each_more, each_all}
 use native.Mathlib.Omega.{arith}

@@ -1,5 +1,4 @@
 -- `loans_in_scope::mask`. The loop's invariant: the first w words are cut down. Assumes nothing.
-use Prim.Native.Nat.{◌-◌}
 use mathlib.Core.Path.{refl}
 use native.Mathlib.Omega.{arith}
 use Rattle.loans_in_scope.proofs.GainsLaws.{masked_none, masked_more, masked_all}

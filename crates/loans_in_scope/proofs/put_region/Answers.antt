@@ -1,5 +1,4 @@
 -- `loans_in_scope::put_region`. The loop's invariant: the points of the first k words have been put. Assumes nothing.
-use Prim.Native.Nat.{◌-◌}
 use Rattle.loans_in_scope.proofs.LoanLaws.{small_product, region-none, region-more, region-all}
 use native.Mathlib.Omega.{arith}
 use Rattle.loans_in_scope.proofs.put_region.Goals as goal

@@ -1,5 +1,4 @@
 -- `loans_in_scope::put_word`. The loop's invariant: `rest` has the bits from point p on, and the points before it have been put. Assumes nothing.
-use Prim.Native.Nat.{◌-◌}
 use Rattle.bit_slice.proofs.ShiftLaws.{shift_none, shift_more}
 use Rattle.loans_in_scope.proofs.GainsLaws.{word_none, word_more, word_done, word_all}
 use native.Mathlib.Omega.{arith}

@@ -7,7 +7,7 @@ use Rattle.regionck.proofs.SolvedLaws.{GoingOn, Kept}
 use Rattle.regionck.proofs.solve.Given as goal
 
 abbrev pub invariant-loop-left : goal.invariant-loop-left
-invariant-loop-left l = (length l.words ≡ length l.initial.words) × (length l.grown ≡ 128) × (length l.recent ≡ length l.initial.recent) × (length l.absent ≡ length l.initial.absent) × (length l.before ≡ length l.initial.before) × Sound l.s l.layout l.head l.walked l.shape.code l.absent × Kept l.s l.layout l.head l.first l.succ l.chain l.walked l.shape l.rule l.initial.words l.recent × GoingOn l.s l.layout l.head l.first l.succ l.chain l.walked l.shape l.rule l.initial.words l.words l.last l.grown l.left
+invariant-loop-left l = (length l.words ≡ length l.initial.words) × (length l.grown ≡ 128) × (length l.recent ≡ length l.initial.recent) × (length l.absent ≡ length l.initial.absent) × (length l.before ≡ length l.initial.before) × Sound l.s l.layout l.head l.walked l.shape.code l.absent × Kept l.s l.layout l.head l.graph.first l.graph.succ l.chain l.walked l.shape l.rule l.initial.words l.recent × GoingOn l.s l.layout l.head l.graph.first l.graph.succ l.chain l.walked l.shape l.rule l.initial.words l.words l.last l.grown l.left
 
 abbrev pub decreases-loop-left : goal.decreases-loop-left
 decreases-loop-left l = l.left

@@ -6,7 +6,7 @@ use Rattle.rerun.specs.Rerun.{RunsMore}
 use Rattle.rerun.proofs.revisit_near.Given as goal
 
 abbrev pub invariant-loop-p : goal.invariant-loop-p
-invariant-loop-p l = (length l.words ≡ length l.initial.words) × (length l.recent ≡ length l.initial.recent) × RunsMore l.s l.layout l.head l.walked l.shape l.rule l.first l.succ l.chain l.initial.recent l.initial.words l.initial.grew l.recent l.words l.grew
+invariant-loop-p l = (length l.words ≡ length l.initial.words) × (length l.recent ≡ length l.initial.recent) × RunsMore l.s l.layout l.head l.walked l.shape l.rule l.graph.first l.graph.succ l.chain l.initial.recent l.initial.words l.initial.grew l.recent l.words l.grew
 
 abbrev pub decreases-loop-p : goal.decreases-loop-p
 decreases-loop-p l = l.code - l.p

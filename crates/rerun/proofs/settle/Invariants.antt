@@ -6,7 +6,7 @@ use Rattle.rerun.specs.Rerun.{RunsAgain}
 use Rattle.rerun.proofs.settle.Given as goal
 
 abbrev pub invariant-loop-left : goal.invariant-loop-left
-invariant-loop-left l = (length l.words ≡ length l.initial.words) × (length l.none ≡ 1) × RunsAgain l.shape l.rule l.first l.succ l.chain (constraints_in l.list) l.initial.words l.initial.grew l.words l.grew
+invariant-loop-left l = (length l.words ≡ length l.initial.words) × (length l.none ≡ 1) × RunsAgain l.shape l.rule l.graph.first l.graph.succ l.chain (constraints_in l.list) l.initial.words l.initial.grew l.words l.grew
 
 abbrev pub decreases-loop-left : goal.decreases-loop-left
 decreases-loop-left l = l.left

@@ -6,7 +6,7 @@ use Rattle.rerun.specs.Rerun.{Holding, RunsMore}
 use Rattle.rerun.proofs.turns.Given as goal
 
 abbrev pub invariant-loop-left : goal.invariant-loop-left
-invariant-loop-left l = (length l.words ≡ length l.initial.words) × (length l.recent ≡ length l.initial.recent) × (length l.before ≡ length l.initial.before) × ((to : Point) → Holding l.s l.layout l.head l.walked l.shape.code l.list 0 to → RunsMore l.s l.layout l.head l.walked l.shape l.rule l.first l.succ l.chain l.initial.recent l.initial.words l.initial.grew l.recent l.words l.grew)
+invariant-loop-left l = (length l.words ≡ length l.initial.words) × (length l.recent ≡ length l.initial.recent) × (length l.before ≡ length l.initial.before) × ((to : Point) → Holding l.s l.layout l.head l.walked l.shape.code l.list 0 to → RunsMore l.s l.layout l.head l.walked l.shape l.rule l.graph.first l.graph.succ l.chain l.initial.recent l.initial.words l.initial.grew l.recent l.words l.grew)
 
 abbrev pub decreases-loop-left : goal.decreases-loop-left
 decreases-loop-left l = l.left

@@ -1,0 +1,42 @@
+-- `dfs::Walk::search`. The loop's invariant: `Going`. The measure is `work`. Assumes nothing.
+use native.Mathlib.Omega.{arith}
+use Rattle.dfs.specs.Walk.{in_code, state_of}
+use Rattle.dfs.proofs.SearchLaws.{going_start, popped_small, popped_roomy, turn_popped, finish, code-small}
+use Rattle.dfs.proofs.Walk.search.Goals as goal
+
+pub push-requires : goal.push-requires
+push-requires c = let w = c.args.self.now in (code-small w.words.now w.from w.code c.requires.0 c.args.p c.requires.1, omega arith)
+
+pub loop-q-init : goal.loop-q-init
+loop-q-init c = let w = c.args.self.now in
+    rw c.push.ensures (going_start w.chain.now w.graph.now.first w.graph.now.succ (in_code w.words.now w.from w.code) c.args.p (code-small w.words.now w.from w.code c.requires.0) c.requires.1)
+
+pub pop-requires : goal.pop-requires
+pop-requires c = omega (arith, c.loop-q.invariant.search.roomy.room)
+
+pub follow-end-requires : goal.follow-end-requires
+follow-end-requires c = let w = c.args.self.now in
+    (c.requires.0, popped_small w.chain.now w.graph.now.first w.graph.now.succ (in_code w.words.now w.from w.code) c.args.p (code-small w.words.now w.from w.code c.requires.0) c.loop-q.invariant c.in-Some.ensures, c.loop-q.invariant.sized)
+
+pub is_leaf-exit-requires : goal.is_leaf-exit-requires
+is_leaf-exit-requires c = c.follow-end.ensures.0.below
+
+pub leave-requires : goal.leave-requires
+leave-requires c = let w = c.args.self.now in
+    (c.requires.0, c.follow-end.ensures.0.below, popped_roomy w.chain.now w.graph.now.first w.graph.now.succ (in_code w.words.now w.from w.code) c.args.p (code-small w.words.now w.from w.code c.requires.0) c.loop-q.invariant c.in-Some.ensures)
+
+-- a turn of the loop is a turn of the search
+pub loop-q-smaller : goal.loop-q-smaller
+loop-q-smaller c = let w = c.args.self.now in
+    (turn_popped w.chain.now w.graph.now.first w.graph.now.succ (in_code w.words.now w.from w.code) c.args.p (code-small w.words.now w.from w.code c.requires.0)
+    c.loop-q.invariant c.in-Some.ensures c.follow-end.ensures c.is_leaf-exit.ensures c.leave.ensures).less
+
+pub loop-q-preserved : goal.loop-q-preserved
+loop-q-preserved c = let w = c.args.self.now in
+    (turn_popped w.chain.now w.graph.now.first w.graph.now.succ (in_code w.words.now w.from w.code) c.args.p (code-small w.words.now w.from w.code c.requires.0)
+    c.loop-q.invariant c.in-Some.ensures c.follow-end.ensures c.is_leaf-exit.ensures c.leave.ensures).going
+
+pub returns : goal.returns
+returns c = let w = c.args.self.now in
+    finish w.chain.now w.graph.now.first w.graph.now.succ (in_code w.words.now w.from w.code) c.args.p (code-small w.words.now w.from w.code c.requires.0)
+    c.loop-q.points c.loop-q.exit (state_of c.loop-q.search) c.loop-q.invariant c.in_default.ensures.0
