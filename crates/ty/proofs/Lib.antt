@@ -1,3 +1,4 @@
 pub mod FoundLaws
 pub mod WriteLaws
 pub mod SubstLaws
+pub mod ShapeLaws

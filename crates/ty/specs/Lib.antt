@@ -1,2 +1,3 @@
 -- Types as they lie in bytes, in prefix order.
+pub mod Shape
 pub mod Written
