@@ -6,7 +6,7 @@ use mathlib.Core.List.{List}
 use Prim.Native.Nat.{ℕ, ◌+◌, ◌*◌, ◌≤◌, ◌<◌}
 use native.Mathlib.Omega.{arith}
 use native.Mathlib.Decide.{dec_lt}
-use borrow.Author.Tests.{not-true, not-false}
+use borrow.Author.Tests.{not-true}
 use Rattle.nll_spec.specs.Fixpoint.{Table}
 use Rattle.nll_spec.specs.Syntax as syntax
 use Rattle.nll_spec.specs.Syntax.{Job, Point}
@@ -28,8 +28,20 @@ use Rattle.loans.specs.declared.Loan.{Loan}
 use Rattle.loans_in_scope.specs.Gains.{Gains, tables, Empty, Cell, If, Below, Within, Onto}
 use Rattle.loans_in_scope.specs.Scope.{paths_of, killed, inside_of, loan_in, given_to, RegionsTo, starts, keeps, KeptOf, Begun, Kept, PointsFilled, job_bits}
 use Rattle.loans_in_scope.specs.declared.Setup.{Setup}
-use Rattle.loans_in_scope.proofs.GainsLaws.{gains_none, gains_few, gains_not, on_as, cells_none, cells_more, points_none, points-more, filled-has}
+use Rattle.loans_in_scope.proofs.GainsLaws.{gains_none, gains_few, on_as, cells_none, cells_more, points_none, points-more, filled-has}
 use Rattle.loans_in_scope.proofs.LoanLaws.{inside_is}
+
+-- ---- One loan
+
+module _ (v : Setup) (region : List ℕ) (ds : List syntax.Path) (p i : ℕ) {b kept : Bool} (e : b ≡ has region (word_bits * (4 * p) + i)) where
+  pub keep_not : b ≡ false → kept ≡ b → (j : Job) → kept ≡ keeps j v region ds p i
+  keep_not n k j = k ∙ n ∙ sym (ap (λ (c : Bool). c && not (killed j ds (loan_in v i))) (sym e ∙ n))
+
+  pub keep_yes : {x : Loan} {dead : Bool} → b ≡ true → x ≡ entry_of v.loans.now.numbers i → ((j : Job) → dead ≡ killed j ds (loan_of v.input.now.bytes.now x)) → kept ≡ not dead
+      → (j : Job) → kept ≡ keeps j v region ds p i
+  keep_yes y is kill k j =
+      k ∙ ap not (kill j ∙ ap (λ (z : Loan). killed j ds (loan_of v.input.now.bytes.now z)) is)
+      ∙ sym (ap (λ (c : Bool). c && not (killed j ds (loan_in v i))) (sym e ∙ y))
 
 -- ---- Each loan
 
@@ -110,7 +122,7 @@ module _ {v : Setup} {start₀ pass₀ region₀ start pass region : List ℕ} (
         record {
           start = on_as {g = λ q i. (job_bits j sets q i).start} (a.bits j g.layout n) (λ q i w. w) (λ q i w. w) (λ q i w. ap (λ (x : loans.Loan). starts j (overwritten (action_at (graph_of j) q)) x q) (g.loans.same i w.1));
           pass = on_as {g = λ q i. (job_bits j sets q i).pass} (c.bits j g.layout n) (λ q i w. w) (λ q i w. w) (λ q i w. passing g q i w.0 w.1 (omega (arith, n, w.0)));
-          region = on_as {g = λ q i. (job_bits j sets q i).region} b (λ q i w. w) (λ q i w. w) (λ q i w. inside_is {u = v} g i q w.1 (omega (arith, n, w.0)));
+          region = on_as {g = λ q i. (job_bits j sets q i).region} b (λ q i w. w) (λ q i w. w) (λ q i w. inside_is v g i q w.1 (omega (arith, n, w.0)));
         };
   }
     where
@@ -118,4 +130,4 @@ module _ {v : Setup} {start₀ pass₀ region₀ start pass region : List ℕ} (
           → keeps j v region (overwritten (action_at (graph_of j) q)) q i ≡ (job_bits j sets q i).pass
       passing {j} {sets} g q i l m n =
           ap₂ (λ (x : Bool) (y : loans.Loan). x && not (killed j (overwritten (action_at (graph_of j) q)) y))
-          (filled-has {f = λ p k. inside_of v.words.now v.width (loan_in v k).region p} empty.region b q i l m (omega (arith, m, few)) ∙ inside_is {u = v} g i q m n) (g.loans.same i m)
+          (filled-has {f = λ p k. inside_of v.words.now v.width (loan_in v k).region p} empty.region b q i l m (omega (arith, m, few)) ∙ inside_is v g i q m n) (g.loans.same i m)

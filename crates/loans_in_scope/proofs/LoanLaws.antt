@@ -37,7 +37,6 @@ use Rattle.repr.specs.declared.refusal.Refusal.{Refusal}
 use Rattle.std.specs.Prelude.{Option, Some, None, Result, Ok, Err}
 use Rattle.record.specs.Access.{Acts}
 use Rattle.record.specs.Layout.{Holds}
-use Rattle.record.specs.declared.Record.{Record}
 use Rattle.repr.proofs.SpellLaws.{done_back, then}
 use Rattle.loans.specs.Loans.{loan_of}
 use Rattle.loans.specs.Table.{entry_of}
@@ -113,7 +112,7 @@ code_below : (j : Job) → code_count j.blocks ≤ point_count j
 unfolding point_count
 code_below j = omega arith
 
-module _ {u : Setup} {j : Job} {sets : Table} (g : given_to u j sets) where
+module _ (u : Setup) {j : Job} {sets : Table} (g : given_to u j sets) where
   pub inside_is : (i p : ℕ) → i < u.loans.now.count → p < code_count j.blocks → inside_of u.words.now u.width (loan_in u i).region p ≡ holds sets (loan_number (loans_of (graph_of j)) i).region p
   inside_is i p l m =
       let e : (loan_in u i).region ≡ (loan_number (loans_of (graph_of j)) i).region = ap (λ (x : loans.Loan). x.region) (g.loans.same i l) in
@@ -164,8 +163,8 @@ module _ (words : List ℕ) (start code i : ℕ) (ws : List ℕ) where
           inr (x.0.0.1, h, omega (arith, m, x.0.0.0), sym (bit p h d) ∙ x.1)
 
 -- all of its words are put
-pub region-all : (v : Setup) (r i : ℕ) {start k : ℕ} {ws u : List ℕ} → start ≡ r * v.width → v.code ≤ 32 * k → Gains (RegionPart v.words.now start v.code i (32 * k)) ws u → Gains (RegionTo v r i) ws u
-region-all v r i {start} e l a = gains_as a (λ p n x. (x.0.0, same p x.1)) (λ p n x. ((x.0, omega (arith, x.0.0)), back p x.1))
+pub region-all : (v : Setup) (r i k : ℕ) {start : ℕ} {ws u : List ℕ} → start ≡ r * v.width → v.code ≤ 32 * k → Gains (RegionPart v.words.now start v.code i (32 * k)) ws u → Gains (RegionTo v r i) ws u
+region-all v r i k {start} e l a = gains_as a (λ p n x. (x.0.0, same p x.1)) (λ p n x. ((x.0, omega (arith, x.0.0)), back p x.1))
   where
     same : (p : ℕ) → has v.words.now (word_bits * start + p) ≡ true → inside_of v.words.now v.width r p ≡ true
     same p h = subst (λ (y : ℕ). has v.words.now (word_bits * y + p) ≡ true) e h

@@ -6,15 +6,15 @@ use borrow.Author.Rules.{rules}
 use Rattle.loans_in_scope.proofs.mask.Goals as goal
 
 pub loop-w-init : goal.loop-w-init
-loop-w-init c = (omega arith, search rules, masked_none c.args.by.now c.args.sets.now)
+loop-w-init c = (search rules, masked_none c.args.by.now c.args.sets.now)
 
 pub loop-w-preserved : goal.loop-w-preserved
 loop-w-preserved c = let a = c.args in
     let l = c.loop-w in
-    let m = masked_more a.by.now a.sets.now l.w l.invariant.2 (omega arith) refl in
-    (omega arith, m.as_long, m)
+    let m = masked_more a.by.now a.sets.now l.w l.invariant.1 (omega arith) refl in
+    (m.as_long, m)
 
 pub returns : goal.returns
 returns c = let a = c.args in
     let l = c.loop-w in
-    masked_all a.by.now a.sets.now l.w a.n l.invariant.0 (omega arith) l.invariant.2
+    masked_all a.by.now a.sets.now l.w a.n (omega arith) (omega arith) l.invariant.1
