@@ -4,7 +4,6 @@ use mathlib.Core.Logic.{◌⊎◌, inl, inr}
 use mathlib.Core.Bool.{Bool, true, false, not, ◌&&◌, or-false}
 use mathlib.Core.List.{List}
 use Prim.Native.Nat.{ℕ, ◌+◌, ◌-◌, ◌*◌, ◌/◌, ◌%◌, ◌^◌, ◌≤◌, ◌<◌, min}
-use native.Mathlib.Nat.{mul-le-mul_right}
 use native.Mathlib.Omega.{arith}
 use native.Mathlib.Decide.{dec_lt}
 use lib.ListN.{length, get_or}
@@ -223,7 +222,3 @@ module _ (v : Setup) {ws : List ℕ} where
   regions-more i {x} e a b =
       columns_more (λ p k. inside_of v.words.now v.width (loan_in v k).region p) ws v.code i a
       (on_as {g = λ p k. inside_of v.words.now v.width (loan_in v k).region p} b (λ p k w. w) (λ p k w. w) (λ p k w. rw (w.1, e)))
-
--- a region's number times the words of a set
-pub small_product : (r width : ℕ) → r ≤ 255 → width ≤ 32 → r * width ≤ 8160
-small_product r width l m = omega (arith, mul-le-mul_right width l, m)

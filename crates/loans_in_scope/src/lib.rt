@@ -60,10 +60,7 @@ fn overwritten_at(input: &Record<'_>, p: usize) -> Option<Path>
 fn is_killed(s: &[u8], d: Option<Path>, loan: Loan) -> bool
     ensures { (j : Job) → result ≡ killed j (paths_of s.now d) (loan_of s.now loan) }
 {
-    match d {
-        Some(q) => is_prefix(s, q, loan.path),
-        None => false,
-    }
+    d.is_some_and(|q| is_prefix(s, q, loan.path))
 }
 
 // Puts number i into the set of point p, if it comes.
@@ -270,19 +267,10 @@ pub fn loans_in_scope(
         → ScopeSays input.now graph.now.first graph.now.succ words.now width loans.now.numbers loans.now.count scope.new }
 {
     let code = usize::from(input.head.code);
-    if 1024 < code {
+    if code > 1024 || width > 32 || loans.count > 128 {
         return;
     }
-    if 32 < width {
-        return;
-    }
-    if 128 < loans.count {
-        return;
-    }
-    if loans.count == 0 {
-        return;
-    }
-    if scope.len() < 4 * code {
+    if loans.count == 0 || scope.len() < 4 * code {
         return;
     }
     let setup = Setup {
