@@ -46,14 +46,8 @@ use Rattle.repr.proofs.SpellLaws.{clash, then}
 pub pass-more : (n k : ℕ) (ws us : List ℕ) {vs : List ℕ} → us ≡ passed n k ws → vs ≡ linked us n k → vs ≡ passed (n + 1) k ws
 pass-more n k ws us e f = rw (add-one, ← e) f
 
-pub pass-end : (n k : ℕ) (ws : List ℕ) (m : ℕ) {us : List ℕ} → us ≡ passed n k ws → n ≡ m → us ≡ passed m k ws
-pass-end n k ws m e f = e ∙ ap (λ (i : ℕ). passed i k ws) f
-
 pub close_more : (n m : ℕ) (ws us : List ℕ) {vs : List ℕ} → us ≡ closed n m ws → vs ≡ passed n m us → vs ≡ closed n (m + 1) ws
 close_more n m ws us e f = rw (add-one, ← e) f
-
-pub close_end : (n m : ℕ) (ws : List ℕ) {us : List ℕ} → us ≡ closed n m ws → m ≡ n → us ≡ closed n n ws
-close_end n m ws e f = e ∙ ap (λ (i : ℕ). closed n i ws) f
 
 -- ---- One row, and all
 
@@ -338,9 +332,6 @@ module _ {input : Record} where
         let hi : i < length j.outlives = omega (arith, w.declared_count) in
         listed_more j (named_parts j a).1 (omega (arith, w.declared_count, w.declared_limit)) i ws vs hi (l.says j w a) (f j w hi);
   }
-
-  pub listing-end : {i : ℕ} {ws : List ℕ} → Listing input i ws → input.head.declared ≤ i → Listing input input.head.declared ws
-  listing-end {i} {ws} l k = let n = l.turns in let e : i ≡ input.head.declared = omega arith in subst (λ (x : ℕ). Listing input x ws) e l
 
   pub ends-are : {ws vs : List ℕ} (n : ℕ) → Listing input input.head.declared ws → n ≡ input.head.declared → vs ≡ closed n n ws → Ends input vs
   ends-are {ws} n l e f = record {

@@ -26,9 +26,6 @@ and_no false = refl
 
 -- ---- Rows
 
-pub row_fits : (r w : ℕ) → r ≤ 255 → w ≤ 32 → r * w ≤ 8160
-row_fits r w hr hw = omega (arith, mul-le-mul_right w hr)
-
 -- row r's words are among those of n rows
 row_inside : (w n r : ℕ) → r < n → r * w + w ≤ n * w
 row_inside w n r h = omega (arith, mul-le-mul_right w h, suc-mul r w)

@@ -70,24 +70,22 @@ fn add_type(
         Node::Unit(next) | Node::Bound(_, next) => Ok(Rest { left, next }),
         Node::Ref {
             region,
-            referent,
+            referent: next,
             ..
         } => {
             add_region(region, which, set);
-            let next = referent;
             add_type(input, Rest { left, next }, in_ref(which), set)
         }
         Node::Struct {
             name,
             count,
-            arguments,
+            arguments: next,
         } => {
             let d = input.struct_decl_at(name);
             let parameters = Parameters {
                 count: d.parameters,
                 at: d.declared,
             };
-            let next = arguments;
             add_arguments(input, Rest { left, next }, count, parameters, which, set)
         }
     }
