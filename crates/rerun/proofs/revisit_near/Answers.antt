@@ -10,9 +10,6 @@ loop-p-init c = (search rules, search rules, more-none)
 pub revisit-requires : goal.revisit-requires
 revisit-requires c = (c.requires, omega arith)
 
-pub overflow_add-p : goal.overflow_add-p
-overflow_add-p c = search (rules, c.loop-p-test.true, c.well_formed)
-
 pub loop-p-preserved : goal.loop-p-preserved
 loop-p-preserved c = (search rules, search rules, more_then c.loop-p.invariant.2 c.revisit.ensures)
 
