@@ -1,5 +1,5 @@
 -- What the search of one constraint computes, from the tables and the words that it is handed.
-use Rattle.std.specs.Prelude.{◌≡◌, ◌⊎◌, Bool, true, not, ◌&&◌, cond, Option, Some, None, List, ℕ, zero, suc, ◌+◌, ◌-◌, ◌*◌, ◌/◌, ◌%◌, ◌^◌, ◌≤◌, ◌<◌, length, get_or, set, eqb, leb, ltb}
+use Rattle.std.specs.Prelude.{◌≡◌, ◌⊎◌, Bool, true, not, ◌&&◌, cond, List, ℕ, zero, suc, ◌+◌, ◌-◌, ◌*◌, ◌/◌, ◌%◌, ◌^◌, ◌≤◌, ◌<◌, length, get_or, set, eqb, leb, ltb}
 use Rattle.nll_spec.specs.Output.{word_bits}
 use Rattle.bit_set.specs.Bits.{has}
 use Rattle.graph.specs.Tables.{row_start, row_end, up_to, Edge}
@@ -58,11 +58,6 @@ pushed s st = state (set st.seen s 1) (set st.stack st.depth s) (st.depth + 1)
 -- the marks and the stack of a search
 abbrev pub state_of : Search → State
 state_of s = state s.seen s.stack s.depth
-
--- the last point is taken off the stack, if there is one
-abbrev pub Popped : State → Option ℕ → State → Type 0
-Popped st None st' = (st.depth ≡ 0) × (st' ≡ st)
-Popped st (Some q) st' = (0 < st.depth) × (q ≡ get_or st.stack (st.depth - 1) 0) × (st' ≡ state st.seen st.stack (st.depth - 1))
 
 -- s is marked and pushed, where it has no mark and h holds it
 abbrev pub visited : (ℕ → Bool) → ℕ → State → State

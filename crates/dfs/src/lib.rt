@@ -2,8 +2,9 @@
 // The walk of one constraint, "S outlives T at p": the points that are reached from p through T.
 ghost use Rattle.std.specs.Prelude.{◌≡◌, true, ◌+◌, ◌<◌, ◌≤◌, min, length};
 ghost use Rattle.bit_set.specs.Bits.{has, with_bit};
+ghost use Rattle.graph.specs.Search.{Popped};
 ghost use Rattle.graph.specs.Tables.{Edge};
-ghost use Rattle.dfs.specs.Walk.{in_code, Follows, Chained, Along, Stopped, Run, Mask, Reach, state_of, pushed, Popped, visited, left, is_leaf, Roomy, Reaches};
+ghost use Rattle.dfs.specs.Walk.{in_code, Follows, Chained, Along, Stopped, Run, Mask, Reach, state_of, pushed, visited, left, is_leaf, Roomy, Reaches};
 
 use graph::tables::FuncGraph;
 

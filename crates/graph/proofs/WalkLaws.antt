@@ -1,5 +1,5 @@
 -- The search of a job's blocks: its marks are the walked blocks. Assumes nothing.
-use mathlib.Core.Path.{◌≡◌, sym, subst}
+use mathlib.Core.Path.{◌≡◌, sym, ap, subst, ◌∙◌}
 use mathlib.Core.Logic.{◌⊎◌, inl, inr}
 use mathlib.Core.Bool.{Bool, ◌&&◌}
 use mathlib.Core.List.{List}
@@ -22,7 +22,8 @@ use Rattle.graph.proofs.ShapeLaws.{few-blocks}
 use Rattle.graph.specs.declared.Shape.{Shape}
 use Rattle.graph.specs.Shape.{row_of, ShapeSays}
 use Rattle.graph.specs.Filling.{Given}
-use Rattle.graph.specs.Search.{State, state, Roomy, visited, visits, is_marked, WalkedBlocks, Marked}
+use Rattle.std.proofs.Common.{Some, None}
+use Rattle.graph.specs.Search.{State, state, Popped, Roomy, visited, visits, is_marked, WalkedBlocks, Marked}
 use Rattle.graph.proofs.SearchLaws.{work, visited-kept, visits-kept, Walk, walk_none, walk_visit, walk_turn, walk-closed, roomy_none, roomy_pop}
 
 -- ---- Walked blocks
@@ -112,6 +113,16 @@ top_of st = get_or st.stack (st.depth - 1) 0
 abbrev pub popped : State → State
 popped st = state st.seen st.stack (st.depth - 1)
 
+module _ {st u : State} {b : ℕ} (k : Popped st (Some b) u) where
+  pub popped_roomy : Roomy st → Roomy u
+  popped_roomy w = rw k.2 (roomy_pop w)
+
+  pub popped_visits : (d : List ℕ) {v : State} → v ≡ visits d u → v ≡ visits d (popped st)
+  popped_visits d e = e ∙ ap (visits d) k.2
+
+  pub popped_says : (s t : List ℕ) (d : Shape) → ShapeSays s (entry_in t 96 64 b) d → ShapeSays s (entry_in t 96 64 (top_of st)) d
+  popped_says s t d w = subst (λ (x : ℕ). ShapeSays s (entry_in t 96 64 x) d) k.1 w
+
 -- the block on top is taken off, and its successors are visited
 module _ {s t : List ℕ} {start : ℕ} {st : State} (room : Roomy st) (deep : 0 < st.depth) {d : Shape} (says : ShapeSays s (entry_in t 96 64 (top_of st)) d) (w : Searching s t start st) where
   module _ (h : Head) (j : Job) (g : Starts s t start h j) where
@@ -168,9 +179,10 @@ module _ {s t : List ℕ} {from st : State} (w : Turned s t from st) (deep : 0 <
         subst (Turned s t from) (sym e)
         (record { roomy = (visits-kept (row_of s d) (roomy_pop w.roomy)).roomy; on = λ start x. searching_more w.roomy deep says (w.on start x) })
 
-pub turned_all : {s t : List ℕ} {from st : State} {start : ℕ} → Turned s t from st → st.depth ≡ 0 → from ≡ visited start nothing → WalkedBlocks s t start st.seen
-turned_all {s} {t} {from} {st} {start} w z e =
-    record {
+-- the stack is empty
+pub turned_all : {s t : List ℕ} {from st u : State} {start : ℕ} → Turned s t from st → Popped st None u → from ≡ visited start nothing → WalkedBlocks s t start u.seen
+turned_all {s} {t} {from} {st} {start = start} w k e =
+    rw k.1 record {
       size = w.roomy.marks;
-      marks = λ h j g i n. record { same = searching_all (w.on start (subst (Searching s t start) (sym e) (searching_start s t start))) z h j (record { given = g; is = i; named = n }) };
+      marks = λ h j g i n. record { same = searching_all (w.on start (subst (Searching s t start) (sym e) (searching_start s t start))) k.0 h j (record { given = g; is = i; named = n }) };
     }

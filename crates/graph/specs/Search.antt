@@ -1,10 +1,11 @@
 -- The search for the walked blocks: marks, and a stack of the blocks whose successors are still to be visited.
-use Rattle.std.specs.Prelude.{◌≡◌, Bool, cond, not, ◌&&◌, List, [], ◌∷◌, ℕ, zero, suc, ◌+◌, ◌≤◌, ◌<◌, length, get_or, set, T, eqb, ltb}
+use Rattle.std.specs.Prelude.{◌≡◌, Bool, cond, not, ◌&&◌, Option, Some, None, List, [], ◌∷◌, ℕ, zero, suc, ◌+◌, ◌-◌, ◌≤◌, ◌<◌, length, get_or, set, T, eqb, ltb}
 use Rattle.nll_spec.specs.Syntax.{Job, Point, BlockIndex}
 use Rattle.nll_spec.specs.Fixpoint.{holds}
 use Rattle.nll_spec.specs.Graph.{graph_of, is_walked, walked_table, first_point}
 use Rattle.record.specs.declared.Head.{Head}
 use Rattle.bit_set.specs.Bits.{has, with_bit}
+use Rattle.graph.specs.declared.walked.Search.{Search}
 use Rattle.graph.specs.Filling.{Given}
 
 -- how many marks are 0
@@ -21,6 +22,15 @@ pub record State : Type 0 where
 
 abbrev pub state : List ℕ → List ℕ → ℕ → State
 state a b d = record { seen = a; stack = b; depth = d }
+
+-- those of a search for blocks
+abbrev pub state_of : Search → State
+state_of s = state s.seen s.stack s.depth
+
+-- the last number is taken off the stack, if there is one
+abbrev pub Popped : State → Option ℕ → State → Type 0
+Popped st None st' = (st.depth ≡ 0) × (st' ≡ st)
+Popped st (Some b) st' = (0 < st.depth) × (b ≡ get_or st.stack (st.depth - 1) 0) × (st' ≡ state st.seen st.stack (st.depth - 1))
 
 -- The stack has room for every block without a mark.
 pub record Roomy (st : State) : Type 0 where

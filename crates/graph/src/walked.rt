@@ -5,57 +5,77 @@ ghost use Rattle.nll_spec.specs.Decode.{point_count};
 ghost use Rattle.nll_spec.specs.WellFormed.{successors_named};
 ghost use Rattle.record.specs.Layout.{Holds};
 ghost use Rattle.graph.specs.Shape.{InRecord, row_of};
-ghost use Rattle.graph.specs.Search.{state, Roomy, visited, visits, WalkedBlocks, with_run, BlockPoints, WalkedIn};
+ghost use Rattle.graph.specs.Search.{state_of, Popped, Roomy, visited, visits, WalkedBlocks, with_run, BlockPoints, WalkedIn};
 
 use super::Shape;
 use super::shapes::shape;
 use record::Record;
 use repr::BasicBlockIndex;
 
-// Marks and pushes block b, where it has no mark. Returns the stack's new depth.
-fn visit(b: u8, seen: &mut [u8; 64], stack: &mut [u8; 64], depth: usize) -> usize
-    requires { Roomy (state seen.old stack.old depth) }
-    ensures { state seen.new stack.new result ≡ visited b (state seen.old stack.old depth) }
-{
-    let at = usize::from(b);
-    if 64 <= at {
-        return depth;
-    }
-    if seen[at] != 0 {
-        return depth;
-    }
-    seen[at] = 1;
-    stack[depth] = b;
-    depth + 1
+// The marks of the blocks that were seen, and a stack of those whose successors are still to be visited.
+#[derive(Drop)]
+struct Search {
+    seen: [u8; 64],
+    stack: [u8; 64],
+    depth: usize,
 }
 
-// Visits the successors of a block. Returns the stack's new depth.
-fn visit_next(s: &[u8], d: Shape, seen: &mut [u8; 64], stack: &mut [u8; 64], depth: usize) -> usize
-    requires { InRecord s.now d × Roomy (state seen.old stack.old depth) }
-    ensures { state seen.new stack.new result ≡ visits (row_of s.now d) (state seen.old stack.old depth) }
-{
-    let mut top = depth;
-    for &b in &s[d.from..d.from + d.count] {
-        top = visit(b, seen, stack, top);
+impl Search {
+    // Marks and pushes block b, where it has no mark.
+    fn visit(&mut self, b: u8)
+        requires { Roomy (state_of self.old) }
+        ensures { state_of self.new ≡ visited b (state_of self.old) }
+    {
+        let at = usize::from(b);
+        if 64 <= at {
+            return;
+        }
+        if self.seen[at] != 0 {
+            return;
+        }
+        self.seen[at] = 1;
+        self.stack[self.depth] = b;
+        self.depth += 1;
     }
-    top
+
+    // Visits the successors of a block.
+    fn visit_next(&mut self, s: &[u8], d: Shape)
+        requires { InRecord s.now d × Roomy (state_of self.old) }
+        ensures { state_of self.new ≡ visits (row_of s.now d) (state_of self.old) }
+    {
+        for &b in &s[d.from..d.from + d.count] {
+            self.visit(b);
+        }
+    }
+
+    // Takes the last block off the stack.
+    fn pop(&mut self) -> Option<u8>
+        requires { self.old.depth ≤ 64 }
+        ensures { Popped (state_of self.old) result (state_of self.new) }
+    {
+        if self.depth == 0 {
+            return None;
+        }
+        self.depth -= 1;
+        Some(self.stack[self.depth])
+    }
 }
 
 // The walked blocks, as marks, of a job that starts at this block.
 pub fn blocks(input: &Record<'_>, start: BasicBlockIndex) -> [u8; 64]
     ensures { WalkedBlocks input.now.bytes.now input.now.layout.now start.0 result }
 {
-    let mut seen = [0; 64];
-    let mut stack = [0; 64];
-    let first = start.0;
-    let mut depth = visit(first, &mut seen, &mut stack, 0);
-    while depth > 0 {
-        depth -= 1;
-        let b = stack[depth];
+    let mut search = Search {
+        seen: [0; 64],
+        stack: [0; 64],
+        depth: 0,
+    };
+    search.visit(start.0);
+    while let Some(b) = search.pop() {
         let d = shape(input, BasicBlockIndex(b));
-        depth = visit_next(input.bytes, d, &mut seen, &mut stack, depth);
+        search.visit_next(input.bytes, d);
     }
-    seen
+    search.seen
 }
 
 // Puts n points from p on into the set.

@@ -364,12 +364,12 @@ module _ {input : Record} {first succ chain walked : List ℕ} {shape : Shape} {
   kept_more k y =
       record { own = λ j x. y.kept j (record { layout = x.layout; accepted = x.accepted; reached = x.reached; points = x.code }) (k.own j x) }
 
-  pub going_start : {marks : List ℕ} → Cleared marks 128 → GoingOn input first succ chain walked shape rule ws₀ ws₀ (replicate 128 1) marks 131073
-  going_start z = record { going = λ j x ch. start input first succ chain walked shape rule ws₀ j x ch z }
+  pub going_start : {marks : List ℕ} {left : ℕ} → left ≡ 131073 → Cleared marks 128 → GoingOn input first succ chain walked shape rule ws₀ ws₀ (replicate 128 1) marks left
+  going_start e z = rw e record { going = λ j x ch. start input first succ chain walked shape rule ws₀ j x ch z }
 
-  pub going_more : {recent ws last marks ws' grew marks' : List ℕ} {left : ℕ} → GoingOn input first succ chain walked shape rule ws₀ ws last marks left → Kept input first succ chain walked shape rule ws₀ recent
-      → RoundRuns input walked shape rule first succ chain last recent ws ws' grew → any_marked grew 128 ≡ true → Noted grew marks marks' 128 → GoingOn input first succ chain walked shape rule ws₀ ws' grew marks' (left - 1)
-  going_more g k y m noted = record { going = λ j x ch. more input first succ chain walked shape rule ws₀ j x ch (g.going j x ch) (k.own j x) y m noted }
+  pub going_more : {recent ws last marks ws' grew marks' : List ℕ} {left next : ℕ} → next ≡ left - 1 → GoingOn input first succ chain walked shape rule ws₀ ws last marks left → Kept input first succ chain walked shape rule ws₀ recent
+      → RoundRuns input walked shape rule first succ chain last recent ws ws' grew → any_marked grew 128 ≡ true → Noted grew marks marks' 128 → GoingOn input first succ chain walked shape rule ws₀ ws' grew marks' next
+  going_more e g k y m noted = rw e record { going = λ j x ch. more input first succ chain walked shape rule ws₀ j x ch (g.going j x ch) (k.own j x) y m noted }
 
   pub going_done : {recent ws last marks ws' grew : List ℕ} {left : ℕ} → GoingOn input first succ chain walked shape rule ws₀ ws last marks left → Kept input first succ chain walked shape rule ws₀ recent
       → RoundRuns input walked shape rule first succ chain last recent ws ws' grew → any_marked grew 128 ≡ false

@@ -51,8 +51,7 @@ fn solve(
     constraint_list::clear(recent);
     let to = collect(input, walked, setup.shape.code, list);
     let mut last = [1; 128];
-    let mut left = ROUNDS;
-    while left != 0 {
+    for _ in 0..ROUNDS {
         keep(words, before);
         last = round(
             input, walked, setup, words, &last, recent, absent, before, list, to,
@@ -61,7 +60,6 @@ fn solve(
             return;
         }
         note(&last, grown);
-        left -= 1;
     }
 }
 

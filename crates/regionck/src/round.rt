@@ -3,7 +3,7 @@ ghost use Rattle.std.specs.Prelude.{◌≡◌, cond, List, [], ℕ, ◌+◌, ◌
 ghost use Rattle.nll_spec.specs.Output.{word_bits};
 ghost use Rattle.bit_set.specs.Bits.{with_bit};
 ghost use Rattle.constraint_list.specs.Listed.{count_in, Draws};
-ghost use Rattle.rerun.specs.Rerun.{Holding, OwnKept};
+ghost use Rattle.rerun.specs.Rerun.{under, Holding, OwnKept};
 ghost use Rattle.regionck.specs.Rounds.{Sound, RunsBelow, RoundRuns};
 
 use infer::Setup;
@@ -24,15 +24,13 @@ pub fn collect(
     ensures { Holding input.now walked.now code list.new 0 result }
 {
     constraint_list::clear(list);
-    let mut p = 0;
-    while p < code {
+    for p in 0..code {
         if constraint_list::room(list) < MOST {
             return p;
         }
         point(input, walked, p, list);
-        p += 1;
     }
-    p
+    code
 }
 
 // Runs the constraints of point p. It is passed by if no region with a mark is the inner one of a constraint of the point, by its row of `absent`.
@@ -85,13 +83,10 @@ fn rest(
         × OwnKept input.now walked.now setup.now.shape.code recent.old recent.new
         × Sound input.now walked.now setup.now.shape.code absent.new }
 {
-    let code = setup.shape.code;
-    let mut p = from;
-    while p < code {
+    for p in from..setup.shape.code {
         visit(
             input, walked, setup, words, last, grew, recent, absent, p,
         );
-        p += 1;
     }
 }
 

@@ -7,7 +7,7 @@ ghost use Rattle.std.specs.Prelude.{◌≡◌, [], ◌<◌, ◌≤◌, length};
 ghost use Rattle.nll_spec.specs.Syntax.{Point};
 ghost use Rattle.constraint_list.specs.Listed.{constraints_in, Draws};
 ghost use Rattle.infer.specs.Ran.{Runs};
-ghost use Rattle.rerun.specs.Rerun.{no_marks, Noted, Holding, RunsAgain, RunsMore, Keeps};
+ghost use Rattle.rerun.specs.Rerun.{under, no_marks, Noted, Holding, RunsAgain, RunsMore, Keeps};
 
 use infer::Setup;
 use marks::note;
@@ -52,14 +52,12 @@ fn settle(
     let mut none = [0; 1];
     let mut last = [0; 128];
     note(fresh, &mut last);
-    let mut left = TIMES;
-    while left != 0 {
+    for _ in 0..TIMES {
         if !infer::any_marked(&last) {
             return;
         }
         last = rerun(setup, words, &last, grew, &mut none, list);
         note(&last, fresh);
-        left -= 1;
     }
 }
 
@@ -67,11 +65,8 @@ fn settle(
 pub fn keep(words: &[u32], before: &mut [u32])
     ensures { Keeps words.now before.old before.new (length before.old) }
 {
-    let many = before.len();
-    let mut i = 0;
-    while i < many {
+    for i in 0..before.len() {
         before[i] = bit_slice::word_at(words, i);
-        i += 1;
     }
 }
 
@@ -143,7 +138,7 @@ fn revisit(
     absent: &[u32],
     p: usize,
 )
-    requires { (p < setup.now.shape.code) }
+    requires { p < setup.now.shape.code }
     ensures { under setup.now (RunsMore input.now walked.now)
         recent.old words.old grew.old recent.new words.new grew.new }
 {
@@ -176,13 +171,10 @@ fn revisit_near(
     ensures { under setup.now (RunsMore input.now walked.now)
         recent.old words.old grew.old recent.new words.new grew.new }
 {
-    let code = setup.shape.code;
-    let mut p = 0;
-    while p < code {
+    for p in 0..setup.shape.code {
         revisit(
             input, walked, setup, words, last, fresh, grew, recent, near, absent, p,
         );
-        p += 1;
     }
 }
 
@@ -231,8 +223,7 @@ fn turns(
         recent.old words.old grew.old recent.new words.new grew.new }
 {
     let mut last = marks;
-    let mut left = TIMES;
-    while left != 0 {
+    for _ in 0..TIMES {
         if !infer::any_marked(&last) {
             return;
         }
@@ -240,7 +231,6 @@ fn turns(
             input, walked, setup, words, &last, grew, recent, before, absent, list,
         );
         settle(setup, words, &mut last, grew, recent);
-        left -= 1;
     }
 }
 

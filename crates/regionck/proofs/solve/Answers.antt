@@ -8,29 +8,29 @@ use Rattle.regionck.proofs.SolvedLaws.{kept-none, kept_more, going_start, going_
 use borrow.Author.Rules.{rules}
 use Rattle.regionck.proofs.solve.Goals as goal
 
-pub loop-left-init : goal.loop-left-init
-loop-left-init c = (search rules, c.clear.ensures.sized, search rules, search rules, search rules, sound_none c.requires.2, kept-none c.clear-2.ensures.1, going_start c.clear.ensures)
+pub loop-init : goal.loop-init
+loop-init c = (search rules, c.clear.ensures.sized, search rules, search rules, search rules, sound_none c.requires.2, kept-none c.clear-2.ensures.1, going_start (omega arith) c.clear.ensures)
 
 pub round-last-requires : goal.round-last-requires
-round-last-requires c = (c.requires.0, c.collect-to.ensures, c.loop-left.invariant.5)
+round-last-requires c = (c.requires.0, c.collect-to.ensures, c.loop.invariant.5)
 
 pub shape_of-recent-then-not-any_marked : goal.shape_of-recent-then-not-any_marked
-shape_of-recent-then-not-any_marked c = omega (arith, c.recent-in-loop-left-1, c.loop-left.invariant.2, c.recent-1)
+shape_of-recent-then-not-any_marked c = omega (arith, c.recent-in-loop-1, c.loop.invariant.2, c.recent-1)
 
 pub shape_of-before-then-not-any_marked : goal.shape_of-before-then-not-any_marked
-shape_of-before-then-not-any_marked c = omega (arith, c.before-in-loop-left-1, c.before-1, c.loop-left.invariant.4)
+shape_of-before-then-not-any_marked c = omega (arith, c.before-in-loop-1, c.before-1, c.loop.invariant.4)
 
 pub returns-then-not-any_marked : goal.returns-then-not-any_marked
 returns-then-not-any_marked c =
-    let loop = c.loop-left in
+    let loop = c.loop in
     (loop.invariant.1, going_done loop.invariant.7 loop.invariant.6 c.round-last.ensures.0 (sym c.any_marked.ensures ∙ not-true _ c.if-not-any_marked.true-raw))
 
-pub loop-left-preserved : goal.loop-left-preserved
-loop-left-preserved c =
-    let loop = c.loop-left in
+pub loop-preserved : goal.loop-preserved
+loop-preserved c =
+    let loop = c.loop in
     let noted = c.note.ensures loop.invariant.1 in
     let r = c.round-last.ensures in
-    (search rules, noted.sized, search rules, search rules, omega (arith, c.before-in-loop-left-1, c.before-1, loop.invariant.4), r.2, kept_more loop.invariant.6 r.1, going_more loop.invariant.7 loop.invariant.6 r.0 (sym c.any_marked.ensures ∙ not-false _ c.if-not-any_marked.false-raw) noted)
+    (search rules, noted.sized, search rules, search rules, omega (arith, c.before-in-loop-1, c.before-1, loop.invariant.4), r.2, kept_more loop.invariant.6 r.1, going_more (omega arith) loop.invariant.7 loop.invariant.6 r.0 (sym c.any_marked.ensures ∙ not-false _ c.if-not-any_marked.false-raw) noted)
 
 pub returns : goal.returns
-returns c = (c.loop-left.invariant.1, going_out (omega arith) c.loop-left.invariant.7)
+returns c = (c.loop.invariant.1, going_out (omega arith) c.loop.invariant.7)

@@ -1,5 +1,4 @@
 -- `rerun::revisit_near`. The loop's invariant: more of the job's constraints are run. Assumes nothing.
-use Prim.Native.Nat.{◌-◌}
 use mathlib.Core.Path.{◌≡◌}
 use lib.ListN.{length}
 use Rattle.rerun.specs.Rerun.{RunsMore}
@@ -7,6 +6,3 @@ use Rattle.rerun.proofs.revisit_near.Given as goal
 
 abbrev pub invariant-loop-p : goal.invariant-loop-p
 invariant-loop-p l = (length l.words ≡ length l.initial.words) × (length l.recent ≡ length l.initial.recent) × RunsMore l.input l.walked l.setup.shape l.setup.rule l.setup.graph.now.first l.setup.graph.now.succ l.setup.chain.now l.initial.recent l.initial.words l.initial.grew l.recent l.words l.grew
-
-abbrev pub decreases-loop-p : goal.decreases-loop-p
-decreases-loop-p l = l.code - l.p

@@ -3,14 +3,14 @@ use Rattle.rerun.proofs.RerunLaws.{again_none, again_more}
 use borrow.Author.Rules.{rules}
 use Rattle.rerun.proofs.settle.Goals as goal
 
-pub loop-left-init : goal.loop-left-init
-loop-left-init c = (search rules, search rules, again_none)
+pub loop-init : goal.loop-init
+loop-init c = (search rules, search rules, again_none)
 
 pub returns-then-not-any_marked : goal.returns-then-not-any_marked
-returns-then-not-any_marked c = c.loop-left.invariant.2
+returns-then-not-any_marked c = c.loop.invariant.2
 
-pub loop-left-preserved : goal.loop-left-preserved
-loop-left-preserved c = (search rules, search rules, again_more c.loop-left.invariant.2 c.rerun-last.ensures.0 c.rerun-last.ensures.1)
+pub loop-preserved : goal.loop-preserved
+loop-preserved c = (search rules, search rules, again_more c.loop.invariant.2 c.rerun-last.ensures.0 c.rerun-last.ensures.1)
 
 pub returns : goal.returns
-returns c = c.loop-left.invariant.2
+returns c = c.loop.invariant.2

@@ -5,8 +5,5 @@ use Rattle.constraint_list.specs.Listed.{constraints_in}
 use Rattle.rerun.specs.Rerun.{RunsAgain}
 use Rattle.rerun.proofs.settle.Given as goal
 
-abbrev pub invariant-loop-left : goal.invariant-loop-left
-invariant-loop-left l = (length l.words ≡ length l.initial.words) × (length l.none ≡ 1) × RunsAgain l.setup.shape l.setup.rule l.setup.graph.now.first l.setup.graph.now.succ l.setup.chain.now (constraints_in l.list) l.initial.words l.initial.grew l.words l.grew
-
-abbrev pub decreases-loop-left : goal.decreases-loop-left
-decreases-loop-left l = l.left
+abbrev pub invariant-loop : goal.invariant-loop
+invariant-loop l = (length l.words ≡ length l.initial.words) × (length l.none ≡ 1) × RunsAgain l.setup.shape l.setup.rule l.setup.graph.now.first l.setup.graph.now.succ l.setup.chain.now (constraints_in l.list) l.initial.words l.initial.grew l.words l.grew

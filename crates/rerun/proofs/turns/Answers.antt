@@ -4,16 +4,16 @@ use Rattle.rerun.proofs.RerunLaws.{more-none, more_recent, more_then}
 use borrow.Author.Rules.{rules}
 use Rattle.rerun.proofs.turns.Goals as goal
 
-pub loop-left-init : goal.loop-left-init
-loop-left-init c = (search rules, search rules, search rules, λ to held. more-none)
+pub loop-init : goal.loop-init
+loop-init c = (search rules, search rules, search rules, λ to held. more-none)
 
 pub returns-then-not-any_marked : goal.returns-then-not-any_marked
-returns-then-not-any_marked c = c.loop-left.invariant.3
+returns-then-not-any_marked c = c.loop.invariant.3
 
-pub loop-left-preserved : goal.loop-left-preserved
-loop-left-preserved c =
-    let loop = c.loop-left in
+pub loop-preserved : goal.loop-preserved
+loop-preserved c =
+    let loop = c.loop in
     (search rules, search rules, omega (arith, c.before-1, loop.invariant.2), λ to held. more_then (more_then (loop.invariant.3 to held) (c.turn-last.ensures to held)) (more_recent c.settle.ensures))
 
 pub returns : goal.returns
-returns c = c.loop-left.invariant.3
+returns c = c.loop.invariant.3

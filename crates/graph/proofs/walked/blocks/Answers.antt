@@ -1,26 +1,26 @@
 -- `graph::walked::blocks` meets its contract. Assumes nothing.
-use Rattle.graph.proofs.SearchLaws.{roomy_none, roomy_pop}
-use Rattle.graph.proofs.WalkLaws.{turned_none, turned_more, turned_less, turned_all}
+use Rattle.graph.proofs.SearchLaws.{roomy_none}
+use Rattle.graph.proofs.WalkLaws.{turned_none, turned_more, turned_less, turned_all, popped_roomy, popped_visits, popped_says}
 use native.Mathlib.Omega.{arith}
 use Rattle.graph.proofs.walked.blocks.Goals as goal
 
-pub visit-depth-requires : goal.visit-depth-requires
-visit-depth-requires c = roomy_none
+pub visit-requires : goal.visit-requires
+visit-requires c = roomy_none
 
-pub loop-depth-init : goal.loop-depth-init
-loop-depth-init c = turned_none _ _ c.args.start.0 c.visit-depth.ensures
+pub loop-b-init : goal.loop-b-init
+loop-b-init c = turned_none _ _ c.args.start.0 c.visit.ensures
 
-pub bounds-stack-depth : goal.bounds-stack-depth
-bounds-stack-depth c = omega (arith, c.loop-depth.invariant.roomy.room)
+pub pop-requires : goal.pop-requires
+pop-requires c = omega (arith, c.loop-b.invariant.roomy.room)
 
-pub visit_next-depth-requires : goal.visit_next-depth-requires
-visit_next-depth-requires c = (c.shape-d.ensures.fits, roomy_pop c.loop-depth.invariant.roomy)
+pub visit_next-requires : goal.visit_next-requires
+visit_next-requires c = (c.shape-d.ensures.fits, popped_roomy c.in-Some.ensures c.loop-b.invariant.roomy)
 
-pub loop-depth-smaller : goal.loop-depth-smaller
-loop-depth-smaller c = turned_less c.loop-depth.invariant (omega arith) c.shape-d.result c.visit_next-depth.ensures
+pub loop-b-smaller : goal.loop-b-smaller
+loop-b-smaller c = turned_less c.loop-b.invariant c.in-Some.ensures.0 c.shape-d.result (popped_visits c.in-Some.ensures _ c.visit_next.ensures)
 
-pub loop-depth-preserved : goal.loop-depth-preserved
-loop-depth-preserved c = turned_more c.loop-depth.invariant (omega arith) c.shape-d.result c.visit_next-depth.ensures c.shape-d.ensures
+pub loop-b-preserved : goal.loop-b-preserved
+loop-b-preserved c = turned_more c.loop-b.invariant c.in-Some.ensures.0 c.shape-d.result (popped_visits c.in-Some.ensures _ c.visit_next.ensures) (popped_says c.in-Some.ensures _ _ _ c.shape-d.ensures)
 
 pub returns : goal.returns
-returns c = turned_all c.loop-depth.invariant (omega arith) c.visit-depth.ensures
+returns c = turned_all c.loop-b.invariant c.in_default.ensures c.visit.ensures

@@ -6,19 +6,16 @@ use borrow.Author.Rules.{rules}
 use Rattle.regionck.proofs.round.rest.Goals as goal
 
 pub loop-p-init : goal.loop-p-init
-loop-p-init c = (c.requires.1, search rules, search rules, search rules, λ ws x. x, own_same, c.requires.2)
+loop-p-init c = (search rules, search rules, search rules, λ ws x. x, own_same, c.requires.2)
 
 pub visit-requires : goal.visit-requires
-visit-requires c = (c.requires.0, omega arith, c.loop-p.invariant.6)
-
-pub overflow_add-p : goal.overflow_add-p
-overflow_add-p c = search (rules, c.loop-p-test.true, c.well_formed)
+visit-requires c = (c.requires.0, omega arith, c.loop-p.invariant.5)
 
 pub loop-p-preserved : goal.loop-p-preserved
 loop-p-preserved c =
     let loop = c.loop-p in
     let visit = c.visit.ensures in
-    (omega arith, search rules, search rules, search rules, λ ws x. visit.0 ws (loop.invariant.4 ws x), own_then loop.invariant.5 visit.1, visit.2)
+    (search rules, search rules, search rules, λ ws x. visit.0 ws (loop.invariant.3 ws x), own_then loop.invariant.4 visit.1, visit.2)
 
 pub returns : goal.returns
-returns c = (λ ws x. below_code c.loop-p.p (omega arith) (c.loop-p.invariant.4 ws x), c.loop-p.invariant.5, c.loop-p.invariant.6)
+returns c = (λ ws x. below_code c.loop-p.p (omega arith) (c.loop-p.invariant.3 ws x), c.loop-p.invariant.4, c.loop-p.invariant.5)

@@ -1,18 +1,18 @@
--- `graph::walked::visit_next` meets its contract. Assumes nothing.
+-- `graph::walked::Search::visit_next` meets its contract. Assumes nothing.
 use Rattle.graph.proofs.SearchLaws.{visiting_none, visiting_more, visiting_all}
 use mathlib.Core.Path.{◌≡◌}
 use Prim.Native.Nat.{◌+◌, ◌-◌}
 use native.Mathlib.Omega.{arith}
-use Rattle.graph.proofs.walked.visit_next.Goals as goal
+use Rattle.graph.proofs.walked.Search.visit_next.Goals as goal
 
 pub loop-b-init : goal.loop-b-init
 loop-b-init c = visiting_none _ c.requires.1
 
-pub visit-top-requires : goal.visit-top-requires
-visit-top-requires c = c.loop-b.invariant.roomy
+pub visit-requires : goal.visit-requires
+visit-requires c = c.loop-b.invariant.roomy
 
 pub loop-b-preserved : goal.loop-b-preserved
-loop-b-preserved c = visiting_more c.loop-b.invariant c.loop-b-test.true c.visit-top.ensures
+loop-b-preserved c = visiting_more c.loop-b.invariant c.loop-b-test.true c.visit.ensures
 
 pub returns : goal.returns
 returns c =

@@ -1,0 +1,17 @@
+-- `graph::walked::Search::visit` meets its contract. Assumes nothing.
+use Rattle.graph.proofs.SearchLaws.{visited_out, visited-seen, visited-new, push_room}
+use Rattle.graph.specs.Search.{state_of}
+use native.Mathlib.Omega.{arith}
+use Rattle.graph.proofs.walked.Search.visit.Goals as goal
+
+pub returns-then-at-ge64 : goal.returns-then-at-ge64
+returns-then-at-ge64 c = let a = c.args in visited_out a.b (state_of a.self.now) (omega arith)
+
+pub returns-then-self-at-ne0 : goal.returns-then-self-at-ne0
+returns-then-self-at-ne0 c = let a = c.args in visited-seen a.b (state_of a.self.now) (omega arith) (rw c.from-at.ensures at c.if-self-at-ne0.true)
+
+pub bounds-self-self : goal.bounds-self-self
+bounds-self-self c = let z = push_room c.requires (omega arith) (rw c.from-at.ensures at c.if-self-at-ne0.false) in omega arith
+
+pub returns : goal.returns
+returns c = let a = c.args in rw c.from-at.ensures (visited-new a.b (state_of a.self.now) (omega arith) (rw c.from-at.ensures at c.if-self-at-ne0.false))

@@ -1,7 +1,0 @@
--- `graph::walked::visit_next` meets its contract. Assumes nothing.
-use Rattle.graph.proofs.SearchLaws.{Visiting}
-use Rattle.graph.specs.Search.{state}
-use Rattle.graph.proofs.walked.visit_next.Given as goal
-
-abbrev pub invariant-loop-b : goal.invariant-loop-b
-invariant-loop-b l = Visiting l.b-items l.b-index (state l.initial.seen l.initial.stack l.depth) (state l.seen l.stack l.top)
