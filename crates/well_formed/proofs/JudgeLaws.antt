@@ -12,14 +12,29 @@ use Rattle.nll_spec.specs.WellFormed.{named, types_fit, paths_fit, shapes_fit, r
 use Rattle.nll_spec.specs.Output.{judge_job, judge}
 use Rattle.record.specs.Layout.{Layout, Verdict, DecodedSays}
 use Rattle.record.specs.declared.Head.{Head}
-use Rattle.record.specs.declared.Decoded.{Decoded}
-use Rattle.record.specs.declared.Decoded.TheVariants.{Refused, Job as Accept}
 use Rattle.well_formed.specs.Tests.{refusal_of}
+use Rattle.repr.specs.declared.refusal.Refusal.{Refusal}
+use Rattle.repr.specs.declared.refusal.Refusal.TheVariants.{Version, Length, Form, Range, Size, Name, Arguments, Path, Shape, Room}
+use Rattle.repr.specs.Refusals.{number_of}
+use Rattle.std.specs.Prelude.{Result, Ok, Err}
 
 -- what a test that passed says
 holds : {x y : Bool} → x ≡ y → x ≡ true → T y
 holds {y = true} e k = tt
 holds {y = false} e k = let z : ◌≡◌ {A = ℕ} 0 1 = cc in omega arith
+
+-- no refusal has the number 0
+some_number : (k : Refusal) → number_of k ≡ 0 → ⊥
+some_number Version e = omega arith
+some_number Length e = omega arith
+some_number Form e = omega arith
+some_number Range e = omega arith
+some_number Size e = omega arith
+some_number Name e = omega arith
+some_number Arguments e = omega arith
+some_number Path e = omega arith
+some_number Shape e = omega arith
+some_number Room e = omega arith
 
 -- ---- Refusals 6 to 9
 
@@ -56,14 +71,14 @@ judge-decoded : (s : List ℕ) {j : Job} → decode.decode s ≡ decode.decoded 
 unfolding judge
 judge-decoded s e = ap (λ (x : decode.Decoded). elim x [ decode.rejected n ↦ decode.rejected n | decode.decoded j ↦ judge_job j ]) e
 
-module _ {s t : List ℕ} {d : Decoded} (v : DecodedSays (decode.decode s) s t d) where
-  verdict_at_lem : {x : Decoded} → d ≡ x → Verdict (decode.decode s) s t x
+module _ {s t : List ℕ} {d : Result Head Refusal} (v : DecodedSays (decode.decode s) s t d) where
+  verdict_at_lem : {x : Result Head Refusal} → d ≡ x → Verdict (decode.decode s) s t x
   verdict_at_lem e = subst (Verdict (decode.decode s) s t) e v.says
 
-  pub record_refused : {k : ℕ} → d ≡ Refused k → DecodedSays (judge s) s t (Refused k)
+  pub record_refused : {k : Refusal} → d ≡ Err k → DecodedSays (judge s) s t (Err k)
   record_refused e = record { says = judge-rejected s (verdict_at_lem e) }
 
-  module _ {h : Head} (e : d ≡ Accept h) where
+  module _ {h : Head} (e : d ≡ Ok h) where
     pub table_size : length t ≡ 1280
     table_size = (verdict_at_lem e).layout.size
 
@@ -74,8 +89,8 @@ module _ {s t : List ℕ} {d : Decoded} (v : DecodedSays (decode.decode s) s t d
       number_is : k ≡ refusal (verdict_at_lem e).job
       number_is = f (verdict_at_lem e).job (verdict_at_lem e).layout
 
-      pub record_accepted : k ≡ 0 → DecodedSays (judge s) s t (Accept h)
+      pub record_accepted : k ≡ 0 → DecodedSays (judge s) s t (Ok h)
       record_accepted z = let a = verdict_at_lem e in record { says = record { job = a.job; is = judged ∙ job-accepted a.job (sym number_is ∙ z); points = a.points; loans = a.loans; layout = a.layout } }
 
-      pub job-refused : (k ≡ 0 → ⊥) → DecodedSays (judge s) s t (Refused k)
-      job-refused z = record { says = judged ∙ job-rejected (verdict_at_lem e).job k number_is z }
+      pub job-refused : {refused : Refusal} → k ≡ number_of refused → DecodedSays (judge s) s t (Err refused)
+      job-refused {refused} i = record { says = judged ∙ job-rejected (verdict_at_lem e).job (number_of refused) (sym i ∙ number_is) (some_number refused) }
