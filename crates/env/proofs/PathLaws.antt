@@ -21,8 +21,6 @@ use Rattle.repr.specs.declared.Cursor.{Cursor}
 use Rattle.repr.specs.declared.Path as repr
 use Rattle.repr.specs.declared.BorrowKind.{BorrowKind as Kind}
 use Rattle.repr.specs.declared.Region.{Region}
-use Rattle.repr.specs.declared.Region.TheVariants as regions
-use Rattle.repr.specs.declared.RegionName.{RegionName}
 use Rattle.repr.specs.declared.StructName.{StructName}
 use Rattle.repr.specs.declared.StructDecl as decl
 use Rattle.repr.specs.declared.Node.{Node}
@@ -56,22 +54,11 @@ use Rattle.env.specs.declared.paths.Stepped.TheVariants as stepped
 use Rattle.env.proofs.FieldLaws.{type-few}
 use Rattle.env.proofs.StepLaws.{steps_out, steps_first}
 
--- ---- Regions
-
-pub named_free : {region : Region} {name : RegionName} → region ≡ regions.Free name → Named (region_of region) name.0
-named_free e = record { same = λ r i. let k = sym (ap region_of e) ∙ i in cc }
-
-pub named_bound : {region : Region} {b n : ℕ} → region ≡ regions.Bound b → Named (region_of region) n
-named_bound e = record { same = λ r i. let k = sym (ap region_of e) ∙ i in absurd (let z : ◌≡◌ {A = ℕ} 0 1 = cc in omega arith) }
-
 -- ---- A copy
 
 module _ {s : List ℕ} {at : ℕ} {out : List ℕ} {d : std.Option ℕ} (v : written.CopiedSays s at out d) where
   pub copy_large : d ≡ None → CopiedSays s at out None
   copy_large e = record { says = λ u p few. let h : max_nodes < type_nodes u = transport (λ (x : std.Option ℕ). StoodBy out u x) e (v.says u p) in omega arith }
-
-  pub copy_written : {end : ℕ} → d ≡ Some end → CopiedSays s at out (Some (path_types.Written (record { at = 0 })))
-  copy_written {end} e = record { says = λ u p few. let h : Stood out u end = transport (λ (x : std.Option ℕ). StoodBy out u x) e (v.says u p) in record { over = drop end out; stands = h.stands } }
 
 -- ---- A field
 
@@ -319,10 +306,6 @@ module _ {input : Record} {bytes : List ℕ} {c : ℕ} {kinds names : List ℕ} 
 
 along-is : {input : Record} {from : List ℕ} {c : ℕ} {kinds names : List ℕ} {i at left : ℕ} {to kinds' names' : List ℕ} {r x : std.Option Along} → AlongSays input from c kinds names i at left to kinds' names' r → r ≡ x → AlongSays input from c kinds names i at left to kinds' names' x
 along-is {input} {from} {c} {kinds} {names} {i} {at} {left} {to} {kinds'} {names'} v e = transport (λ (y : std.Option Along). AlongSays input from c kinds names i at left to kinds' names' y) e v
-
--- steps that were written take one at least
-pub written_taken : {input : Record} {from : List ℕ} {c : ℕ} {kinds names : List ℕ} {i at left : ℕ} {to kinds' names' : List ℕ} {r : std.Option Along} {a : Ahead} → AlongSays input from c kinds names i at left to kinds' names' r → r ≡ Some (along.Written a) → (a.left < left) × (a.i + a.left ≤ i + left)
-written_taken v e = (along-is v e).taken
 
 -- what was reached in the bytes `from` is reached where they were copied to
 copy_reached : (ss : List StructDecl) (t : Ty) (all s from out : List ℕ) {at : ℕ} {kinds names : List ℕ} → (m : Reached ss t all from at kinds names) (r : std.Option PathType) → CopyIs out (type_after ss t all) r → OnwardIs ss t all s out kinds names r

@@ -6,7 +6,7 @@ use Prim.Native.Nat.{ℕ, zero, suc, ◌+◌, ◌≤◌, ◌<◌}
 use native.Mathlib.Omega.{arith}
 use native.Mathlib.Numerals.{add-one}
 use native.Mathlib.Decide.{dec_lt}
-use lib.Seq.{drop-nil, take-suc, drop-append-le, length-take-le, take_all}
+use lib.Seq.{drop-nil, take-suc, drop-append-le, length-take-le}
 use Rattle.repr.specs.Reading.{path_of}
 use Rattle.repr.specs.declared.Path as repr
 use Rattle.std.specs.Prelude.{nat_eq}
@@ -127,17 +127,6 @@ shortest-none kinds = record { supporting = record { says = none not_shared }; f
 pub shortest-more : {kinds : List ℕ} {i k : ℕ} {r x : Shortest} → ShortestIn kinds i r → i < length kinds → k ≡ get_or kinds i 0 → x ≡ later_of r k (i + 1) → ShortestIn kinds (i + 1) x
 shortest-more {kinds} {i} {k = k} {r = r} g h e f = rw f (record { supporting = least_more g.supporting h (not_shared k) (ap not_shared (sym e)); frozen = least_more g.frozen h (not_ref k) (ap not_ref (sym e)) })
 
--- all that there are
-pub shortest-end : {kinds : List ℕ} {i n : ℕ} {r : Shortest} → ShortestIn kinds i r → length kinds ≡ 8 → i ≤ n → (i < 8 → n ≤ i) → ShortestIn kinds n r
-shortest-end {kinds} {i} {n} g size h k = record {
-  supporting = record { says = λ m. g.supporting.says m ∙ ap (λ (x : List ℕ). every not_shared (drop m x)) (same (dec_lt i 8)) };
-  frozen = record { says = λ m. g.frozen.says m ∙ ap (λ (x : List ℕ). every not_ref (drop m x)) (same (dec_lt i 8)) };
-}
-  where
-    same : Dec (i < 8) → take i kinds ≡ take n kinds
-    same (yes l) = let o = k l in let e : i ≡ n = omega arith in rw e
-    same (no l) = take_all i kinds (omega arith) ∙ sym (take_all n kinds (omega arith))
-
 -- ---- The shortest prefixes of a path
 
 shared_kind : (t : Ty) → not (is_shared t) ≡ not_shared (kind_code t)
@@ -197,18 +186,3 @@ later_never_stops j p {r} g i h = go (record { base = p.base; steps = take (i + 
         let l : length q.steps ≡ i + 1 = ap length e ∙ length-take-le (i + 1) p.steps (omega arith) in
         let k : is_prefix j q p ≡ true = prefix_starts j q p ∙ rw (eq-eqb q.base p.base b, e, starts-take (i + 1) p.steps) in
         sym (begins-take j.structs is_shared (variable_type j p.base) (i + 1) p.steps) ∙ supporting-begins j p q b e ∙ g.supporting q ∙ rw (k, l)
-
--- ---- Whether a path is such a prefix
-
-module _ {j : Job} {p : Path} {of : Shortest} (w : ShortestOf j p of) (q : Path) {n : ℕ} (e : n ≡ length q.steps) where
-  pub supporting-short : n < of.supporting → false ≡ is_supporting j q p
-  supporting-short h = sym (w.supporting q ∙ rw (← e, lt-leb of.supporting n h, and-false (is_prefix j q p)))
-
-  pub supporting_long : {r : Bool} → of.supporting ≤ n → r ≡ is_prefix j q p → r ≡ is_supporting j q p
-  supporting_long h i = i ∙ sym (w.supporting q ∙ rw (← e, le-leb of.supporting n h, and-true (is_prefix j q p)))
-
-  pub frozen-short : n < of.frozen → false ≡ is_frozen j q p
-  frozen-short h = sym (w.frozen q ∙ rw (← e, lt-leb of.frozen n h, and-false (is_prefix j q p)))
-
-  pub frozen_long : {r : Bool} → of.frozen ≤ n → r ≡ is_prefix j q p → r ≡ is_frozen j q p
-  frozen_long h i = i ∙ sym (w.frozen q ∙ rw (← e, le-leb of.frozen n h, and-true (is_prefix j q p)))

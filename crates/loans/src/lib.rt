@@ -27,17 +27,17 @@ pub struct Loan {
 
 // So many loans: loan i stands in eight numbers, from number 8 * i on.
 #[derive(Clone, Copy)]
-pub struct Loans {
+pub struct LoanTable {
     pub numbers: [u16; 1024],
     pub count: usize,
 }
 
-impl Loans {
+impl LoanTable {
     // No loans.
-    pub fn none() -> Loans
+    pub fn none() -> LoanTable
         ensures { result.count ≡ 0 }
     {
-        Loans {
+        LoanTable {
             numbers: [0; 1024],
             count: 0,
         }
@@ -153,7 +153,7 @@ fn lend(
 }
 
 // Puts the loans of a job into the table.
-pub fn loans(input: &Record<'_>, walked: &[u32; 32], lent: &mut Loans)
+pub fn loans(input: &Record<'_>, walked: &[u32; 32], lent: &mut LoanTable)
     ensures { (j : Job) → Holds input.now j → T (named j) → T (paths_fit j) → WalkedIn j walked.now → length (loans_of (graph_of j)) ≤ 128 → LoansAt input.now.bytes.now j lent.new.numbers lent.new.count }
 {
     let code = usize::from(input.head.code).min(1024);

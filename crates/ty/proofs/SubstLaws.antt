@@ -212,7 +212,3 @@ module _ {field : List ℕ} {x : ℕ} {next : Cursor} {d out : List ℕ} {w : Op
 
   pub copied_written : {y : Wrote} → w ≡ Some y → CopiedSays field x out (Some y.at)
   copied_written {y} e = record { says = λ t p. let f = (type-bytes p.stands).fine in let k = by_writes field d out (rest field next) t e (v.says field t p.over p.stands) in stood t d out y.at y.left f k.stand k.took }
-
--- what stands in the bytes, by the answer
-pub stood_at : {out : List ℕ} {u : Ty} {end : ℕ} → Stood out u end → TypeAt out 0 u
-stood_at {out} {end = end} h = record { over = drop end out; stands = h.stands }

@@ -3,7 +3,7 @@ use Prim.Native.Nat.{◌+◌, ◌*◌}
 use Rattle.seeds.proofs.regions.+add_arguments_add_type.Given as goal
 
 abbrev pub decreases-add_arguments : goal.decreases-add_arguments
-decreases-add_arguments l = 300 * l.left + l.count + 1
+decreases-add_arguments l = 300 * l.from.left + l.count + 1
 
 abbrev pub decreases-add_type : goal.decreases-add_type
-decreases-add_type l = 300 * l.left
+decreases-add_type l = 300 * l.from.left
