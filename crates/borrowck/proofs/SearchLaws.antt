@@ -1,5 +1,5 @@
 -- The search over loans and prefixes. Assumes nothing.
-use mathlib.Core.Path.{◌≡◌, refl, sym, ap, subst, ◌∙◌}
+use mathlib.Core.Path.{◌≡◌, refl, sym, subst, ◌∙◌}
 use mathlib.Core.Bool.{Bool, true, false, ◌&&◌, ◌||◌, not}
 use mathlib.Core.List.{List}
 use Prim.Native.Nat.{ℕ, ◌+◌, ◌≤◌, ◌<◌}
@@ -15,25 +15,14 @@ use Rattle.repr.specs.Reading.{borrow_kind_of, path_of}
 use Rattle.env.specs.Prefixes.{ShortestOf}
 use Rattle.loans.specs.Loans.{loan_of}
 use Rattle.loans.specs.declared.Loan.{Loan}
-use Rattle.borrowck.specs.Search.{counts, near, meets, lent_at, own_at, Touches, Prefixes, nth_loan, FoundIn, nth_access, is_found, FirstIn}
+use Rattle.borrowck.specs.Search.{counts, near, meets, lent_at, own_at, Touches, Prefixes, nth_loan, FoundIn, nth_access, FirstIn}
 use Rattle.borrowck.specs.declared.Access.{Access}
 use Rattle.borrowck.specs.declared.Depth.{Depth}
 use Rattle.borrowck.specs.declared.Depth.TheVariants.{Shallow, Deep}
-use Rattle.borrowck.specs.declared.Found.{Found}
-use Rattle.borrowck.specs.declared.Found.TheVariants.{At, Nothing}
+use Rattle.std.specs.Prelude.{Option, Some, None}
+use Rattle.std.proofs.Common.{rules}
 
 -- ---- One prefix
-
--- a test of equal numbers, and what follows it
-pub test_other : {k w n : ℕ} → w ≡ n → (k ≡ w → ⊥) → (b : Bool) → false ≡ eqb k n && b
-test_other {k} {w} {n} e h b = rw (ne_eqb k n (λ i. h (i ∙ sym e)))
-
-pub test_equal : {k w n : ℕ} {r b : Bool} → w ≡ n → k ≡ w → r ≡ b → r ≡ eqb k n && b
-test_equal {k} {w} {n} e h i = i ∙ sym (rw (eq-eqb k n (h ∙ e)))
-
-pub touches_says : {s : List ℕ} {loan : Loan} {x : Access} {k : ℕ} {a b : Bool} → ((j : Job) → a ≡ lent_at j s loan x.path k)
-    → ((j : Job) → ShortestOf j (path_of s loan.path) loan.shortest → b ≡ own_at j s x.depth loan x.path k) → Touches s loan x k (a || b)
-touches_says {s} {loan} {x} {k} {a} {b} lent own = record { says = λ j z. ap (λ (c : Bool). c || b) (lent j) ∙ ap (λ (c : Bool). lent_at j s loan x.path k || c) (own j z) }
 
 or-false : (a b : Bool) → a || b ≡ false → (a ≡ false) × (b ≡ false)
 or-false true b e = (e, absurd (let z : T false = subst T e tt in z))
@@ -42,24 +31,6 @@ or-false false b e = (refl, e)
 fails : (b : Bool) → T (not b) → b ≡ false
 fails true h = absurd h
 fails false h = refl
-
--- ---- How many prefixes
-
-pub prefixes_apart : (loan : Loan) (x : Access) → (loan.path.base.0 ≡ x.path.base.0 → ⊥) → Prefixes loan x 0
-prefixes_apart loan x h = record { none = λ i. refl; some = λ i. absurd (omega arith); lent = λ i o. absurd (h o); own = λ i o. absurd (h o); few = omega arith }
-
-module _ (loan : Loan) (x : Access) {b : Bool} (e : b ≡ counts x.mode (borrow_kind_of loan.kind)) where
-  pub prefixes_none : b ≡ false → Prefixes loan x 0
-  prefixes_none h = record { none = λ i. refl; some = λ i. absurd (omega arith); lent = λ i o. absurd (clash i); own = λ i o. absurd (clash i); few = omega arith }
-    where
-      clash : counts x.mode (borrow_kind_of loan.kind) ≡ true → ⊥
-      clash i = let z : T false = subst T (sym i ∙ sym e ∙ h) tt in z
-
-  pub prefixes_some : {n : ℕ} → b ≡ true → loan.path.steps < n → x.path.steps < n → n ≤ 256 → Prefixes loan x n
-  prefixes_some h l o f = record { none = λ i. absurd (clash i); some = λ i. sym e ∙ h; lent = λ i b. l; own = λ i b. o; few = f }
-    where
-      clash : counts x.mode (borrow_kind_of loan.kind) ≡ false → ⊥
-      clash i = let z : T false = subst T (sym h ∙ e ∙ i) tt in z
 
 -- ---- The prefixes of one loan
 
@@ -118,8 +89,8 @@ module _ (s : List ℕ) (loan : Loan) (x : Access) where
               let one = eqb-true loan.path.base.0 x.path.base.0 i in
               let a = (w.before j z loan.path.steps (let o = f.lent e one in omega arith)).0 in
               let b = (w.before j z x.path.steps (let o = f.own e one in omega arith)).1 in
-              let u : is_prefix j (path_of s loan.path) (path_of s x.path) ≡ false = test_equal {k = loan.path.steps} refl refl refl ∙ a in
-              let v : near j x.depth (path_of s x.path) (path_of s loan.path) ≡ false = test_equal {k = x.path.steps} refl refl refl ∙ b in
+              let u : is_prefix j (path_of s loan.path) (path_of s x.path) ≡ false = sym (rw (eq-eqb loan.path.steps loan.path.steps refl)) ∙ a in
+              let v : near j x.depth (path_of s x.path) (path_of s loan.path) ≡ false = sym (rw (eq-eqb x.path.steps x.path.steps refl)) ∙ b in
               rw (e, u, v)
           same false i =
               let u = prefix_apart j (path_of s loan.path) (path_of s x.path) i in
@@ -149,10 +120,10 @@ module _ (s : List ℕ) (x : Access) (loans : List Loan) where
         go j z m h (yes a) = w.before j z m a
         go j z m h (no a) = let y : m ≡ i = omega arith in rw y (untouched s (nth_loan loans i) x f v o j (z i l))
 
-    pub found_here : {r : Bool} → k < n → Touches s (nth_loan loans i) x k r → T r → FoundIn s x loans (At i)
+    pub found_here : {r : Bool} → k < n → Touches s (nth_loan loans i) x k r → T r → FoundIn s x loans (Some i)
     found_here h touch t = record { says = λ j z. (l, rw (f.some (omega arith)) (touched s (nth_loan loans i) x k touch t j (z i l)), w.before j z) }
 
-  pub found_none : (i : ℕ) → Searched i → length loans ≤ i → FoundIn s x loans Nothing
+  pub found_none : (i : ℕ) → Searched i → length loans ≤ i → FoundIn s x loans None
   found_none i w l = record { says = λ j z k h. w.before j z k (omega arith) }
 
 -- ---- All accesses
@@ -160,26 +131,22 @@ module _ (s : List ℕ) (x : Access) (loans : List Loan) where
 module _ (s : List ℕ) (accesses : List Access) (loans : List Loan) where
   -- The accesses below k conflict with none of the loans.
   pub record Tried (k : ℕ) : Type 0 where
-    pub before : (m : ℕ) → m < k → FoundIn s (nth_access accesses m) loans Nothing
+    pub before : (m : ℕ) → m < k → FoundIn s (nth_access accesses m) loans None
 
   pub tried_none : Tried 0
   tried_none = record { before = λ m h. absurd (omega arith) }
 
   module _ (k : ℕ) (w : Tried k) where
-    pub first-none : (many : ℕ) → many ≤ k → FirstIn s accesses many loans (record { access = many; loan = Nothing })
-    first-none many l = record { most = omega arith; before = λ m h. w.before m (omega arith); here = λ h. absurd (omega arith); hit = λ h. absurd (omega arith) }
+    pub first-none : (many : ℕ) → many ≤ k → FirstIn s accesses many loans None
+    first-none many l = record { before = λ m h. w.before m (omega arith); most = λ c e. absurd (search rules); here = λ c e. absurd (search rules) }
 
-    module _ {x : Access} {r : Found} {b : Bool} (e : x ≡ nth_access accesses k) (v : FoundIn s x loans r) (i : b ≡ is_found r) where
-      pub tried_more : b ≡ false → Tried (k + 1)
-      tried_more h = record { before = λ m l. go m l (dec_lt m k) }
+    module _ {r : Option ℕ} (v : FoundIn s (nth_access accesses k) loans r) where
+      pub tried_more : r ≡ None → Tried (k + 1)
+      tried_more e = record { before = λ m l. go m l (dec_lt m k) }
         where
-          missed : (y : Found) → is_found y ≡ false → y ≡ Nothing
-          missed (At n) o = absurd (let z : T false = subst T o tt in z)
-          missed Nothing o = refl
-
-          go : (m : ℕ) → m < k + 1 → Dec (m < k) → FoundIn s (nth_access accesses m) loans Nothing
+          go : (m : ℕ) → m < k + 1 → Dec (m < k) → FoundIn s (nth_access accesses m) loans None
           go m l (yes a) = w.before m a
-          go m l (no a) = let y : m ≡ k = omega arith in rw (y, sym e) (subst (FoundIn s x loans) (missed r (sym i ∙ h)) v)
+          go m l (no a) = let y : m ≡ k = omega arith in rw y (subst (FoundIn s (nth_access accesses k) loans) e v)
 
-      pub first-here : (many : ℕ) → k < many → T b → FirstIn s accesses many loans (record { access = k; loan = r })
-      first-here many l h = record { most = omega arith; before = w.before; here = λ o. subst (λ y. FoundIn s y loans r) e v; hit = λ o. sym i ∙ is_true b h }
+      pub first-here : (many : ℕ) → k < many → {i : ℕ} → r ≡ Some i → FirstIn s accesses many loans (Some (record { access = k; loan = i }))
+      first-here many l {i} e = record { before = w.before; most = λ c o. let y : c ≡ record { access = k; loan = i } = search rules in rw y l; here = λ c o. let y : c ≡ record { access = k; loan = i } = search rules in rw y (subst (FoundIn s (nth_access accesses k) loans) e v) }
