@@ -85,9 +85,6 @@ module _ {s : List ℕ} {loans : List Loan} {x : own.Access} where
 -- ---- Part by part
 
 module _ {s table scope : List ℕ} {p : Point} {accs : Accesses} where
-  pub checked_none : Checked s table scope p accs 0 None
-  checked_none = record { before = λ j z k l. refl; most = λ k e. absurd (search rules); here = λ k e. absurd (search rules) }
-
   -- how many accesses there are before the one that was found
   pub checked_most : {n : ℕ} (r : Option ℕ) → Checked s table scope p accs n r → unwrap_or r accs.count ≤ accs.count
   checked_most (Some k) w = let l = w.most k refl in omega arith

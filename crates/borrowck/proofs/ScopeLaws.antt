@@ -22,7 +22,7 @@ use Rattle.loans.specs.Loans.{loan_of}
 use Rattle.loans.specs.declared.Loan.{Loan}
 use Rattle.loans.specs.declared.LoanTable.{LoanTable}
 use Rattle.loans.proofs.ListLaws.{count-split, select-append}
-use Rattle.borrowck.specs.Scope.{is_in, held_loans, SomeIn, Gathered}
+use Rattle.borrowck.specs.Scope.{is_in, held_loans, SomeIn}
 use Rattle.borrowck.specs.Faults.{Scoped, Known}
 
 -- ---- Selected numbers
@@ -69,9 +69,6 @@ module _ (table scope : List ℕ) (p : Point) where
       ∙ select-split (is_in scope p) (entry_of table) from (i - from) 1
       ∙ ap (λ (a : ℕ). held_loans table scope p from i ++ map (entry_of table) (select (is_in scope p) (count_from a 1))) o
 
-  scope_none : (from : ℕ) → held_loans table scope p from from ≡ []
-  scope_none from = let e : from - from ≡ 0 = omega arith in rw e
-
 -- ---- A part
 
 -- The first n loans are those from number `from` on and below i that are in scope.
@@ -88,9 +85,6 @@ at-bit : (scope : List ℕ) (p i : ℕ) {b : Bool} → b ≡ has scope (word_bit
 at-bit scope p i e = let k : word_bits * (4 * p) + i ≡ 128 * p + i = omega arith in e ∙ ap (has scope) k
 
 module _ {table : List ℕ} {many : ℕ} {scope : List ℕ} {p : Point} {from : ℕ} where
-  pub gathering_none : {loans : List Loan} → length loans ≡ 16 → Gathering table many scope p from from 0 loans
-  gathering_none e = record { size = e; low = omega arith; high = omega arith; most = omega arith; few = omega arith; are = sym (scope_none table scope p from) }
-
   module _ {i n : ℕ} {loans : List Loan} (g : Gathering table many scope p from i n loans) where
     module _ {b : Bool} (l : i < many) (e : b ≡ has scope (word_bits * (4 * p) + i)) where
       is_in_lem : b ≡ is_in scope p i
@@ -118,17 +112,6 @@ module _ {table : List ℕ} {many : ℕ} {scope : List ℕ} {p : Point} {from : 
             ∙ take-suc-set loans n x (omega (arith, g.size, g.few, z))
             ∙ rw (g.are, o) (sym (rw (scope_more table scope p from i g.low, sym is_in_lem, h)));
       }
-
-    pub gathered_full : n ≡ 16 → Gathered table many scope p from (record { loans = loans; count = n; next = i })
-    gathered_full e = record { few = g.few; most = λ o. omega (arith, g.low, g.high); on = λ o. omega (arith, g.most); are = g.are }
-
-    pub gathered_all : many ≤ i → Gathered table many scope p from (record { loans = loans; count = n; next = many })
-    gathered_all l = record {
-      few = g.few;
-      most = λ o. omega arith;
-      on = λ o. o;
-      are = let e : i - from ≡ many - from = omega (arith, g.high) in g.are ∙ ap (λ (k : ℕ). map (entry_of table) (select (is_in scope p) (count_from from k))) e;
-    }
 
 -- ---- The loans in scope of a job
 

@@ -21,7 +21,7 @@ use Rattle.loans.specs.Loans.{LoansAt}
 use Rattle.loans.specs.declared.LoanTable.{LoanTable}
 use Rattle.std.specs.Prelude.{Option, None}
 use Rattle.loans.proofs.ListLaws.{count-split, gather_append}
-use Rattle.borrowck.specs.Faults.{verdict_of, Scoped, Judged, bytes_to}
+use Rattle.borrowck.specs.Faults.{verdict_of, Judged, bytes_to}
 use Rattle.borrowck.specs.declared.Fault.{Fault}
 
 -- ---- A point that does nothing
@@ -37,9 +37,6 @@ idle j t p h = ap (λ (a : Action). first_fault j (in_scope_at t (loans_of (grap
 module _ {input : Record} {lent : LoanTable} {scope : List ℕ} {p : Point} where
   pub judged_idle : input.head.code ≤ p → Judged input lent scope p None
   judged_idle l = record { says = λ j t z b. sym (idle j t p (omega (arith, z.code))) }
-
-  pub judged-there : {r : Option Fault} → p < input.head.code → ((j : Job) (t : Table) → Holds input j → p < code_count j.blocks → Scoped input.bytes.now j lent scope p t → verdict_of r ≡ verdict_at j (graph_of j) t (loans_of (graph_of j)) p) → Judged input lent scope p r
-  judged-there l f = record { says = λ j t z b. let i : p < code_count j.blocks = omega (arith, z.code) in f j t z i (b i) }
 
 -- ---- Two bytes more
 
@@ -73,9 +70,6 @@ pub record Writing (input : Record) (lent : LoanTable) (scope old : List ℕ) (p
   pub is : (j : Job) (t : Table) → Holds input j → LoansAt input.bytes.now j lent.numbers lent.count → ((q : Point) → q < code_count j.blocks → (i : Point) → i < lent.count → has scope (128 * q + i) ≡ holds t i q) → new ≡ overwrite (bytes_to (verdict_at j (graph_of j) t (loans_of (graph_of j))) p) old
 
 module _ {input : Record} {lent : LoanTable} {scope old : List ℕ} where
-  pub writing-none : Writing input lent scope old 0 old
-  writing-none = record { size = refl; is = λ j t w l b. refl }
-
   pub writing_more : {p : Point} {new : List ℕ} {r : Option Fault} {a b : ℕ} → Writing input lent scope old p new → Judged input lent scope p r → (a ≡ (verdict_of r).kind) × (b ≡ (verdict_of r).operand) → 2 * p + 2 ≤ length old
       → Writing input lent scope old (p + 1) (set (set new (2 * p) a) (2 * p + 1) b)
   writing_more {p} {new} {r} {a} {b} g v m room = record {

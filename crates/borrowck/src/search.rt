@@ -63,9 +63,9 @@ pub fn search(s: &[u8], loans: &[Loan], access: Access) -> Option<usize>
     ensures { FoundIn s.now access loans.now result }
 {
     'search: {
-        for (i, loan) in loans.iter().enumerate() {
-            for k in 0..prefixes(*loan, access) {
-                if touches(s, *loan, access, k) {
+        for (i, &loan) in loans.iter().enumerate() {
+            for k in 0..prefixes(loan, access) {
+                if touches(s, loan, access, k) {
                     break 'search Some(i);
                 }
             }
@@ -85,8 +85,9 @@ pub fn search_in(
     requires { (n ≤ 16) × (many ≤ 9) }
     ensures { FirstIn s.now accesses many (take n loans) result }
 {
-    for k in 0..many {
-        if let Some(loan) = search(s, &loans[..n], accesses[k]) {
+    let lent = &loans[..n];
+    for (k, &access) in accesses[..many].iter().enumerate() {
+        if let Some(loan) = search(s, lent, access) {
             return Some(Conflict { access: k, loan });
         }
     }

@@ -1,7 +1,6 @@
 -- `borrowck::search::search_in`. The loop's invariant: no access below k conflicts.
-use Rattle.std.proofs.Common.{take}
 use Rattle.borrowck.proofs.SearchLaws.{Tried}
 use Rattle.borrowck.proofs.search.search_in.Given as goal
 
 abbrev pub invariant-loop-k : goal.invariant-loop-k
-invariant-loop-k l = Tried l.s l.accesses (take l.n l.loans) l.k
+invariant-loop-k l = Tried l.s l.fn.accesses l.lent l.k
