@@ -18,7 +18,7 @@ use Rattle.nll_spec.specs.Constraints.{Outlives, require_outlives, relate, relat
 use Rattle.nll_spec.proofs.AcceptedLaws.{accepted-job}
 use Rattle.nll_spec.proofs.GraphLaws.{code-count}
 use Rattle.repr.specs.Reading.{rest, path_of, borrow_kind_of}
-use Rattle.repr.specs.Parts.{action_says, action_read}
+use Rattle.repr.specs.Parts.{action_read}
 use Rattle.repr.specs.declared.Cursor.{Cursor}
 use Rattle.repr.specs.declared.Path.{Path}
 use Rattle.repr.specs.declared.RegionName.{RegionName}
@@ -109,8 +109,8 @@ module _ {input : Record} {at : Point} {how : Related} {a : List ℕ} {x : ℕ} 
   types_borrowed e v = rw e (record { adds = λ j l m n k p q f g z. v.adds j l m n k p q f g z })
 
 module _ {input : Record} {p : Path} {out kinds names : List ℕ} {d : Option PathType} (v : PathSays input p out kinds names d) (j : Job) (l : Holds input j) (w : Takes input.bytes.now j p) where
-  result : {x : Option PathType} → d ≡ x → PathResult j (path_of s p) input.bytes.now out kinds names x
-  result e = subst (λ (x : Option PathType). PathResult j (path_of s p) input.bytes.now out kinds names x) e (v.says j l w.named)
+  result : {x : Option PathType} → d ≡ x → PathResult j (path_of input.bytes.now p) input.bytes.now out kinds names x
+  result e = subst (λ (x : Option PathType). PathResult j (path_of input.bytes.now p) input.bytes.now out kinds names x) e (v.says j l w.named)
 
   refused : d ≡ None → ⊥
   refused e = true≢false (sym w.fits ∙ result e)
@@ -215,7 +215,7 @@ none_made s c j p (actions.Use q) o u v i = carry (λ y z. constraints_at j p y 
 none_made s c j p (actions.Drop q) o u v i = carry (λ y z. constraints_at j p y ≡ []) i refl
 none_made s c j p (actions.StorageDead w) o u v i = carry (λ y z. constraints_at j p y ≡ []) i refl
 
-module _ {input : Record} {at : Point} {ls : List ℕ} {r : Result (Action × Cursor) Refusal} (act : Read input at.at r) where
+module _ {input : Record} {at : Point} {ls : List ℕ} {r : Result (Action × Cursor) Refusal} (act : Read input at r) where
   pub action-refused : {k : Refusal} → r ≡ Err k → Constrains input at ls ls
   action-refused e = record { adds = λ j l accepted h. absurd (clash (acts act j l h e).reads) }
 
