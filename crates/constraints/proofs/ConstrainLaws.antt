@@ -1,13 +1,12 @@
 -- The constraints of an action: of a borrow, of an assignment, and of any other. Assumes nothing.
 use mathlib.Core.Path.{◌≡◌, refl, sym, ap, ◌∙◌, subst}
-use mathlib.Core.Bool.{Bool, true, false, ◌&&◌, ◌||◌, not, cond, true≢false}
+use mathlib.Core.Bool.{Bool, true, false, ◌||◌, not, true≢false}
 use mathlib.Core.List.{List, [], ◌++◌, append-nil}
-use Prim.Native.Nat.{ℕ, ◌+◌, ◌≤◌, ◌<◌}
+use Prim.Native.Nat.{ℕ, ◌+◌, ◌<◌}
 use native.Mathlib.Omega.{arith}
 use native.Mathlib.Numerals.{add-one}
-use lib.ListN.{length, get_or, get_or-eq_default}
-use lib.Dec.{T, eqb, leb}
-use borrow.Author.Tests.{eqb-true, eq-eqb, ne_eqb, le-leb, lt-leb}
+use lib.Dec.{T, eqb}
+use borrow.Author.Tests.{eqb-true}
 use Rattle.nll_spec.specs.Syntax as syntax
 use Rattle.nll_spec.specs.Syntax.{Job, Point, Free, RefTy, Co, Contra}
 use Rattle.nll_spec.specs.Decode.{read, done, items, path, code_count}
@@ -31,13 +30,11 @@ use Rattle.record.specs.declared.Record.{Record}
 use Rattle.repr.proofs.SpellLaws.{clash, carry, then}
 use Rattle.env.specs.Prefixes.{ShortestIn}
 use Rattle.env.specs.Paths.{PathResult, PathSays}
-use Rattle.env.specs.declared.Shortest.{Shortest}
 use Rattle.env.specs.declared.paths.PathType.{PathType}
 use Rattle.env.specs.declared.paths.PathType.TheVariants as path_type
 use Rattle.env.proofs.PathLaws.{stepless}
 use Rattle.env.proofs.PrefixLaws.{shortest-of}
 use Rattle.env.proofs.ShortestLaws.{taken-leaves}
-use Rattle.relate.specs.Relates.{Relates, RelatesRef}
 use Rattle.constraint_list.specs.Listed.{Adds}
 use Rattle.constraint_list.proofs.ListLaws.{adds_none, adds-append}
 use Rattle.constraints.specs.Constraining.{step_constraints, source_constraints, Takes, SourceIs, SourceSays, PathTypesSay, along_source, TypesAdd, SecondAdds, PathsAdd, PairAdds, Constrains}
@@ -50,86 +47,31 @@ use Rattle.constraints.proofs.ListLaws.{gather-below}
 use Rattle.constraints.proofs.ActionLaws.{assign_takes, borrow-takes}
 use Rattle.constraints.proofs.SourceLaws.{source-same}
 use Rattle.repr.specs.declared.refusal.Refusal.{Refusal}
-use Rattle.std.specs.Prelude.{Result, Ok, Err, Option, Some, None}
+use Rattle.std.specs.Prelude.{Result, Ok, Err, Option, Some}
 
 -- ---- A step of a borrow's source
-
-module _ (at : Point) (kinds names : List ℕ) (shortest r i : ℕ) where
-  made : (b c : Bool) → not (eqb (get_or kinds i 0) 0) ≡ b → leb shortest (i + 1) ≡ c
-      → step_constraints at kinds names shortest r i ≡ cond (b && c) (require_outlives at (Free (get_or names i 0)) (Free r)) []
-  made b c e f =
-      ap (λ (x : Bool). cond (x && leb shortest (i + 1)) (require_outlives at (Free (get_or names i 0)) (Free r)) []) e
-      ∙ ap (λ (x : Bool). cond (b && x) (require_outlives at (Free (get_or names i 0)) (Free r)) []) f
-
-is_ref_lem : (kind : ℕ) → (kind ≡ 0 → ⊥) → not (eqb kind 0) ≡ true
-is_ref_lem kind h = ap not (ne_eqb kind 0 h)
 
 adds_as : {cs ds : List Outlives} {ls ls' : List ℕ} → cs ≡ ds → Adds cs ls ls' → Adds ds ls ls'
 adds_as {ls = ls} {ls' = ls'} e x = subst (λ (cs : List Outlives). Adds cs ls ls') e x
 
 module _ (at : Point) where
-  module _ (kinds names : List ℕ) (shortest r i : ℕ) where
-    pub step_other : {ls : List ℕ} → get_or kinds i 0 ≡ 0 → Adds (step_constraints at kinds names shortest r i) ls ls
-    step_other e = adds_none (made at kinds names shortest r i false (leb shortest (i + 1)) (ap not (eq-eqb (get_or kinds i 0) 0 e)) refl)
-
-    pub step_out : {ls : List ℕ} → length kinds ≡ 8 → 8 ≤ i → Adds (step_constraints at kinds names shortest r i) ls ls
-    step_out e l = step_other (get_or-eq_default kinds 0 {n = i} (omega arith))
-
-    module _ (ref : get_or kinds i 0 ≡ 0 → ⊥) where
-      pub step-short : {ls : List ℕ} → i + 1 < shortest → Adds (step_constraints at kinds names shortest r i) ls ls
-      step-short l = adds_none (made at kinds names shortest r i true false (is_ref_lem (get_or kinds i 0) ref) (lt-leb shortest (i + 1) l))
-
-      pub step-made : {ls ls' : List ℕ} → shortest ≤ i + 1 → Adds (require_outlives at (Free (get_or names i 0)) (Free r)) ls ls'
-          → Adds (step_constraints at kinds names shortest r i) ls ls'
-      step-made l x = adds_as (sym (made at kinds names shortest r i true true (is_ref_lem (get_or kinds i 0) ref) (le-leb shortest (i + 1) l))) x
-
   module _ (kinds names : List ℕ) (shortest r : ℕ) where
-    pub source-none : {ls : List ℕ} → Adds (source_constraints at kinds names shortest r 0) ls ls
-    source-none = adds_none refl
-
     pub source_more : {ls ls₁ ls₂ : List ℕ} (i : ℕ) → Adds (source_constraints at kinds names shortest r i) ls ls₁
         → Adds (step_constraints at kinds names shortest r i) ls₁ ls₂ → Adds (source_constraints at kinds names shortest r (i + 1)) ls ls₂
     source_more i x y = adds_as (sym (gather-below (step_constraints at kinds names shortest r) i)) (adds-append x y)
 
-pub source_unread : {s : List ℕ} {p : Path} {how : Related} {kinds : List ℕ} {r : Source} → how ≡ Assigned → r.steps ≡ 0 → SourceSays s p how kinds r
-source_unread e z = rw e (record { says = z })
-
-pub source-says : {s : List ℕ} {p : Path} {how : Related} {region : RegionName} {kinds : List ℕ} {n m c : ℕ} {of : Shortest} → how ≡ Borrowed region → n ≡ length (path_of s p).steps → ShortestIn kinds n of → c ≡ of.supporting → m ≡ n
-    → SourceSays s p how kinds (record { region = region; supporting = c; steps = m })
-source-says {kinds = kinds} {of = of} e len short sup count =
-    rw e (record { says = record { same = refl; steps = count ∙ len; of = of; shortest = subst (λ (n : ℕ). ShortestIn kinds n of) (sym count) short; supporting = sup } })
-
 -- ---- Two types, where they stand
-
-module _ {input : Record} {at : Point} {how : Related} {a : List ℕ} {x : ℕ} {b : List ℕ} {y : ℕ} {ls ls' : List ℕ} where
-  pub types_assigned : how ≡ Assigned → Relates input at a x b y Co ls ls' → TypesAdd input at how a x b y ls ls'
-  types_assigned e v = rw e (record { adds = λ j l m n k p q f g z. v.adds j l m n p q f g z })
-
-  pub types_borrowed : {r : RegionName} → how ≡ Borrowed r → RelatesRef r.0 input at a x b y Contra ls ls' → TypesAdd input at how a x b y ls ls'
-  types_borrowed e v = rw e (record { adds = λ j l m n k p q f g z. v.adds j l m n k p q f g z })
 
 module _ {input : Record} {p : Path} {out kinds names : List ℕ} {d : Option PathType} (v : PathSays input p out kinds names d) (j : Job) (l : Holds input j) (w : Takes input.bytes.now j p) where
   result : {x : Option PathType} → d ≡ x → PathResult j (path_of input.bytes.now p) input.bytes.now out kinds names x
   result e = subst (λ (x : Option PathType). PathResult j (path_of input.bytes.now p) input.bytes.now out kinds names x) e (v.says j l w.named)
 
-  refused : d ≡ None → ⊥
-  refused e = true≢false (sym w.fits ∙ result e)
-
 module _ {input : Record} {at : Point} {how : Related} {ls : List ℕ} where
   module _ {a : List ℕ} {x : ℕ} {q : Path} {b kinds names : List ℕ} {d : Option PathType} (v : PathSays input q b kinds names d) where
-    pub second-refused : d ≡ None → SecondAdds input at how a x q ls ls
-    second-refused e = record { adds = λ j l w m k p f z. absurd (refused v j l w e) }
-
     pub second-inside : {y : Cursor} {ls' : List ℕ} → d ≡ Some (path_type.Inside y) → TypesAdd input at how a x input.bytes.now y.at ls ls' → SecondAdds input at how a x q ls ls'
     second-inside e u = record { adds = λ j l w m k p f z. let r = result v j l w e in u.adds j l m _ k p r.stands f r.few z }
 
-    pub second_written : {y : Cursor} {ls' : List ℕ} → d ≡ Some (path_type.Written y) → TypesAdd input at how a x b y.at ls ls' → SecondAdds input at how a x q ls ls'
-    second_written e u = record { adds = λ j l w m k p f z. let r = result v j l w e in u.adds j l m _ k p r.stands f r.few z }
-
   module _ {p q : Path} {a kinds names : List ℕ} {d : Option PathType} (v : PathSays input p a kinds names d) where
-    pub paths-refused : d ≡ None → PathsAdd input at how p q ls ls
-    paths-refused e = record { adds = λ j l w u k z. absurd (refused v j l w e) }
-
     pub paths-inside : {x : Cursor} {ls' : List ℕ} → d ≡ Some (path_type.Inside x) → SecondAdds input at how input.bytes.now x.at q ls ls' → PathsAdd input at how p q ls ls'
     paths-inside e u = record { adds = λ j l w o k z. let r = result v j l w e in u.adds j l o _ k r.stands r.few z }
 
