@@ -24,7 +24,8 @@ use Rattle.repr.specs.declared.RegionName.{RegionName}
 use Rattle.repr.specs.declared.BorrowKind.{BorrowKind}
 use Rattle.repr.specs.declared.Action.{Action}
 use Rattle.repr.specs.declared.Action.TheVariants as actions
-use Rattle.record.specs.Layout.{Holds}
+use Rattle.record.specs.Layout.{Layout, Holds}
+use Rattle.record.specs.declared.Head.{Head}
 use Rattle.record.specs.Access.{entry_in, Acts}
 use Rattle.record.specs.declared.Record.{Record}
 use Rattle.repr.proofs.SpellLaws.{clash, carry, then}
@@ -54,11 +55,10 @@ use Rattle.std.specs.Prelude.{Result, Ok, Err, Option, Some}
 adds_as : {cs ds : List Outlives} {ls ls' : List ℕ} → cs ≡ ds → Adds cs ls ls' → Adds ds ls ls'
 adds_as {ls = ls} {ls' = ls'} e x = subst (λ (cs : List Outlives). Adds cs ls ls') e x
 
-module _ (at : Point) where
-  module _ (kinds names : List ℕ) (shortest r : ℕ) where
-    pub source_more : {ls ls₁ ls₂ : List ℕ} (i : ℕ) → Adds (source_constraints at kinds names shortest r i) ls ls₁
-        → Adds (step_constraints at kinds names shortest r i) ls₁ ls₂ → Adds (source_constraints at kinds names shortest r (i + 1)) ls ls₂
-    source_more i x y = adds_as (sym (gather-below (step_constraints at kinds names shortest r) i)) (adds-append x y)
+module _ (at : Point) (kinds names : List ℕ) (shortest r : ℕ) where
+  pub source_more : {ls ls₁ ls₂ : List ℕ} (i : ℕ) → Adds (source_constraints at kinds names shortest r i) ls ls₁
+      → Adds (step_constraints at kinds names shortest r i) ls₁ ls₂ → Adds (source_constraints at kinds names shortest r (i + 1)) ls ls₂
+  source_more i x y = adds_as (sym (gather-below (step_constraints at kinds names shortest r) i)) (adds-append x y)
 
 -- ---- Two types, where they stand
 
@@ -130,19 +130,14 @@ module _ {input : Record} {at : Point} {ls : List ℕ} where
   pub point_far : 1024 < at → Constrains input at ls ls
   point_far f = record { adds = λ j l accepted h. absurd (omega (arith, f, h, code-count j, l.few)) }
 
--- what is read there, for every job
-pub record Read (input : Record) (p : Point) (r : Result (Action × Cursor) Refusal) : Type 0 where
-  pub acts : (j : Job) → Holds input j → p < code_count j.blocks → Acts input.bytes.now (action_at (graph_of j) p) r
+module _ {s t : List ℕ} {h : Head} {at p : Point} {r : Result (Action × Cursor) Refusal} (same : p ≡ at) (act : (j : Job) → Layout s t h j → p < code_count j.blocks → Acts s (action_at (graph_of j) p) r) (j : Job) (l : Layout s t h j) (k : at < (graph_of j).code) where
+  acts : {x : Result (Action × Cursor) Refusal} → r ≡ x → Acts s (action_at (graph_of j) at) x
+  acts e =
+      subst (λ (x : Result (Action × Cursor) Refusal). Acts s (action_at (graph_of j) at) x) e
+      (subst (λ (n : Point). Acts s (action_at (graph_of j) n) r) same (act j l (omega (arith, same, k, code-count j))))
 
-pub read_at : {input : Record} {p q : Point} {r : Result (Action × Cursor) Refusal} → q ≡ p → Read input q r → Read input p r
-read_at {input} {r = r} e x = subst (λ (p : Point). Read input p r) e x
-
-module _ {input : Record} {p : Point} {r : Result (Action × Cursor) Refusal} (act : Read input p r) (j : Job) (l : Holds input j) (k : p < (graph_of j).code) where
-  acts : {x : Result (Action × Cursor) Refusal} → r ≡ x → Acts input.bytes.now (action_at (graph_of j) p) x
-  acts e = subst (λ (x : Result (Action × Cursor) Refusal). Acts input.bytes.now (action_at (graph_of j) p) x) e (act.acts j l (omega (arith, k, code-count j)))
-
-  is : {a x : Action} {c : Cursor} → r ≡ Ok (a, c) → a ≡ x → Acts input.bytes.now (action_at (graph_of j) p) (Ok (x, c))
-  is {c = c} e i = subst (λ (x : Action). Acts input.bytes.now (action_at (graph_of j) p) (Ok (x, c))) i (acts e)
+  is : {a x : Action} {c : Cursor} → r ≡ Ok (a, c) → a ≡ x → Acts s (action_at (graph_of j) at) (Ok (x, c))
+  is {c = c} e i = subst (λ (x : Action). Acts s (action_at (graph_of j) at) (Ok (x, c))) i (acts e)
 
 -- what any other action makes
 none_made : (s : List ℕ) (c : Cursor) (j : Job) (p : Point) (b : Action) → ((d : Path) (m : RegionName) (k : BorrowKind) (q : Path) → b ≡ actions.Borrow d m k q → ⊥) → ((d q : Path) → b ≡ actions.Assign d q → ⊥) → ((m n : RegionName) → b ≡ actions.Constraint m n → ⊥) → {x : syntax.Action} {over : List ℕ} → action_read s b c ≡ read x over
@@ -157,52 +152,48 @@ none_made s c j p (actions.Use q) o u v i = carry (λ y z. constraints_at j p y 
 none_made s c j p (actions.Drop q) o u v i = carry (λ y z. constraints_at j p y ≡ []) i refl
 none_made s c j p (actions.StorageDead w) o u v i = carry (λ y z. constraints_at j p y ≡ []) i refl
 
-module _ {input : Record} {at : Point} {ls : List ℕ} {r : Result (Action × Cursor) Refusal} (act : Read input at r) where
+module _ {input : Record} {at p : Point} {ls : List ℕ} {r : Result (Action × Cursor) Refusal} (same : p ≡ at) (act : (j : Job) → Holds input j → p < code_count j.blocks → Acts input.bytes.now (action_at (graph_of j) p) r) where
   pub action-refused : {k : Refusal} → r ≡ Err k → Constrains input at ls ls
-  action-refused e = record { adds = λ j l accepted h. absurd (clash (acts act j l h e).reads) }
+  action-refused e = record { adds = λ j l accepted h. absurd (clash (acts same act j l h e).reads) }
 
   module _ {a : Action} {c : Cursor} (e : r ≡ Ok (a, c)) where
     pub action_other : ((d : Path) (m : RegionName) (k : BorrowKind) (q : Path) → a ≡ actions.Borrow d m k q → ⊥) → ((d q : Path) → a ≡ actions.Assign d q → ⊥) → ((m n : RegionName) → a ≡ actions.Constraint m n → ⊥) → Constrains input at ls ls
-    action_other o u v = record { adds = λ j l accepted h. adds_none (none_made input.bytes.now c j at a o u v (acts act j l h e).reads) }
+    action_other o u v = record { adds = λ j l accepted h. adds_none (none_made input.bytes.now c j at a o u v (acts same act j l h e).reads) }
 
     module _ {ls' : List ℕ} where
-      pub action-borrow : {d q : Path} {o : RegionName} {k : BorrowKind} {next : Point} → a ≡ actions.Borrow d o k q → next ≡ at + 1
-          → PairAdds input next (record { how = Borrowed o; p = d; q = q }) ls ls' → Constrains input at ls ls'
+      pub action-borrow : {d q : Path} {o : RegionName} {k : BorrowKind} → a ≡ actions.Borrow d o k q
+          → PairAdds input (at + 1) (record { how = Borrowed o; p = d; q = q }) ls ls' → Constrains input at ls ls'
       unfolding constraints_at shape_fits
-      action-borrow {d} {q} {o} {k} {next} i f b =
+      action-borrow {d} {q} {o} {k} i b =
           record {
             adds = λ j l accepted h.
                 let u : action_at (graph_of j) at ≡ syntax.Borrow (path_of input.bytes.now d) o.0 (borrow_kind_of k) (path_of input.bytes.now q)
-                = carry (λ x y. x ≡ syntax.Borrow (path_of input.bytes.now d) o.0 (borrow_kind_of k) (path_of input.bytes.now q)) (is act j l h e i).reads refl in
+                = carry (λ x y. x ≡ syntax.Borrow (path_of input.bytes.now d) o.0 (borrow_kind_of k) (path_of input.bytes.now q)) (is same act j l h e i).reads refl in
                 let w = borrow-takes l accepted at d q u in
                 let z : T (shape_fits j (syntax.Borrow (path_of input.bytes.now d) o.0 (borrow_kind_of k) (path_of input.bytes.now q))) = subst (λ (x : syntax.Action). T (shape_fits j x)) u ((accepted-job j accepted).shapes at) in
-                let b' : PairAdds input (at + 1) (record { how = Borrowed o; p = d; q = q }) ls ls'
-                = subst (λ (x : Point). PairAdds input x (record { how = Borrowed o; p = d; q = q }) ls ls') f b in
                 adds_as (ap (constraints_at j at) (sym u))
                 (subst (λ (p : Point). Adds
                 (relate p j.structs (path_type j (path_of input.bytes.now d)) Contra (RefTy (borrow_kind_of k) (Free o.0) (path_type j (path_of input.bytes.now q)))
                 ++ relate_source p j.structs (Free o.0) (variable_type j q.base.0) (path_of input.bytes.now q).steps) ls ls')
-                (add-one at) (b'.adds j l accepted w.0 w.1 (borrow_kind_of k) z));
+                (add-one at) (b.adds j l accepted w.0 w.1 (borrow_kind_of k) z));
           }
 
-      pub action_assign : {d q : Path} {next : Point} → a ≡ actions.Assign d q → next ≡ at + 1
-          → PairAdds input next (record { how = Assigned; p = q; q = d }) ls ls' → Constrains input at ls ls'
+      pub action_assign : {d q : Path} → a ≡ actions.Assign d q
+          → PairAdds input (at + 1) (record { how = Assigned; p = q; q = d }) ls ls' → Constrains input at ls ls'
       unfolding constraints_at shape_fits
-      action_assign {d} {q} {next} i f b =
+      action_assign {d} {q} i b =
           record {
             adds = λ j l accepted h.
-                let u : action_at (graph_of j) at ≡ syntax.Assign (path_of input.bytes.now d) (path_of input.bytes.now q) = carry (λ x y. x ≡ syntax.Assign (path_of input.bytes.now d) (path_of input.bytes.now q)) (is act j l h e i).reads refl in
+                let u : action_at (graph_of j) at ≡ syntax.Assign (path_of input.bytes.now d) (path_of input.bytes.now q) = carry (λ x y. x ≡ syntax.Assign (path_of input.bytes.now d) (path_of input.bytes.now q)) (is same act j l h e i).reads refl in
                 let w = assign_takes l accepted at d q u in
                 let z : T (shape_fits j (syntax.Assign (path_of input.bytes.now d) (path_of input.bytes.now q))) = subst (λ (x : syntax.Action). T (shape_fits j x)) u ((accepted-job j accepted).shapes at) in
-                let b' : PairAdds input (at + 1) (record { how = Assigned; p = q; q = d }) ls ls'
-                = subst (λ (x : Point). PairAdds input x (record { how = Assigned; p = q; q = d }) ls ls') f b in
                 adds_as (ap (constraints_at j at) (sym u))
                 (subst (λ (p : Point). Adds (relate p j.structs (path_type j (path_of input.bytes.now q)) Co (path_type j (path_of input.bytes.now d))) ls ls')
-                (add-one at) (adds_as (append-nil _) (b'.adds j l accepted w.1 w.0 syntax.Mut z)));
+                (add-one at) (adds_as (append-nil _) (b.adds j l accepted w.1 w.0 syntax.Mut z)));
           }
 
       pub action-constraint : {m n : RegionName} → a ≡ actions.Constraint m n → Adds (require_outlives at (Free m.0) (Free n.0)) ls ls'
           → Constrains input at ls ls'
       unfolding constraints_at
       action-constraint {m} {n} i b =
-          record { adds = λ j l accepted h. adds_as (ap (constraints_at j at) (sym (carry (λ x y. x ≡ syntax.Constraint m.0 n.0) (is act j l h e i).reads refl))) b }
+          record { adds = λ j l accepted h. adds_as (ap (constraints_at j at) (sym (carry (λ x y. x ≡ syntax.Constraint m.0 n.0) (is same act j l h e i).reads refl))) b }
