@@ -15,8 +15,8 @@ use Rattle.nll_spec.specs.WellFormed.{path_named, action_named, actions_named, s
 use Rattle.nll_spec.specs.Graph.{Statement, first_point, block_statements, statements_from, statements_of, graph_of, action_at}
 use Rattle.nll_spec.proofs.Tests.{is_true, and_left, and_right}
 use Rattle.nll_spec.proofs.GraphLaws.{length-statements}
-use Rattle.record.specs.Layout.{Holds}
-use Rattle.record.specs.declared.Record.{Record}
+use Rattle.record.specs.Layout.{Layout}
+use Rattle.record.specs.declared.Head.{Head}
 use Rattle.refusals.proofs.RowLaws.{Testing, testing_start, testing_fails, testing_more, testing_end, ItemTested}
 use Rattle.refusals.proofs.PartLaws.{every_append, every_both}
 use Rattle.well_formed.specs.Tests.{refusal_of, action_taken}
@@ -51,7 +51,7 @@ pub point_tested : (f : Action → Bool) (j : Job) {p : Point} {r : Bool} → r 
 unfolding graph_of
 point_tested f j e = record { says = e }
 
-module _ {input : Record} {j : Job} (w : Holds input j) {code : ℕ} (e : code ≡ input.head.code) where
+module _ {s t : List ℕ} {h : Head} {j : Job} (w : Layout s t h j) {code : ℕ} (e : code ≡ h.code) where
   pub points-counted : length (statements_of j) ≡ code
   unfolding statements_of
   points-counted = length-statements j.blocks 0 0 j.blocks ∙ sym (e ∙ w.code)
