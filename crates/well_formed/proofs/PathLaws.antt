@@ -1,34 +1,29 @@
 -- Paths, their types, and the paths of an action. Assumes nothing.
 use mathlib.Core.Path.{◌≡◌, refl, sym, ap, subst, ◌∙◌}
-use mathlib.Core.Bool.{Bool, true, false, ◌&&◌, and-true, and-false, and_comm, cond}
+use mathlib.Core.Bool.{Bool, true, false, ◌&&◌, and-true, and-false, and_comm}
 use mathlib.Core.List.{List, []}
-use Prim.Native.Nat.{ℕ, ◌≤◌, ◌<◌}
+use Prim.Native.Nat.{ℕ, ◌<◌}
 use native.Mathlib.Omega.{arith}
-use lib.ListN.{length, drop}
-use borrow.Author.Tests.{lt-ltb, le-ltb}
+use lib.ListN.{length}
+use borrow.Author.Tests.{lt-ltb}
 use Rattle.nll_spec.specs.Lists.{every}
 use Rattle.nll_spec.specs.Syntax as syntax
 use Rattle.nll_spec.specs.Syntax.{Job}
 use Rattle.nll_spec.specs.Decode.{read, done, items, path}
 use Rattle.nll_spec.specs.Types.{path_type}
 use Rattle.nll_spec.specs.WellFormed.{path_fits, paths_of, same_shape, shape_fits}
-use Rattle.repr.specs.Reading.{rest, borrow_kind_of, path_of, says}
+use Rattle.repr.specs.Reading.{rest, path_of}
 use Rattle.repr.specs.Parts.{action_says, action_read, sources_of}
 use Rattle.repr.specs.declared.Cursor.{Cursor}
 use Rattle.repr.specs.declared.Path.{Path}
-use Rattle.repr.specs.declared.RegionName.{RegionName}
-use Rattle.repr.specs.declared.BorrowKind as repr_kind
 use Rattle.repr.specs.declared.Action.{Action}
 use Rattle.repr.specs.declared.Action.TheVariants.{Noop, Init, Borrow, Assign, Constraint, Use, Drop, StorageDead}
-use Rattle.repr.proofs.ReadLaws.{told}
 use Rattle.record.specs.Layout.{Layout, Holds}
 use Rattle.record.specs.declared.Head.{Head}
 use Rattle.record.specs.Access.{entry_in, Acts}
 use Rattle.record.specs.declared.Record.{Record}
-use Rattle.ty.specs.Shape.{SameShape, SameAsRef}
-use Rattle.repr.proofs.SpellLaws.{clash, carry, then}
-use Rattle.refusals.specs.Tests.{Passes, Tested}
-use Rattle.refusals.proofs.PartLaws.{none_passes, read-passes, read-fails}
+use Rattle.repr.proofs.SpellLaws.{carry, then}
+use Rattle.refusals.specs.Tests.{Tested}
 use Rattle.env.specs.Paths.{PathIs, PathResult}
 use Rattle.env.proofs.PathLaws.{no_entries, stepless}
 use Rattle.env.specs.declared.paths.PathType.{PathType}
@@ -37,7 +32,7 @@ use Rattle.well_formed.specs.Tests.{refusal_of, path_taken, TypeSays, action_tak
 use Rattle.well_formed.specs.declared.shapes.Wanted.{Wanted}
 use Rattle.well_formed.specs.declared.shapes.Wanted.TheVariants as wanted
 use Rattle.repr.specs.declared.refusal.Refusal.{Refusal}
-use Rattle.std.specs.Prelude.{Result, Ok, Err, Option, Some, None}
+use Rattle.std.specs.Prelude.{Result, Ok, Option, Some}
 
 -- ---- A path
 

@@ -17,13 +17,7 @@ pub enum Wanted {
 }
 
 // Two types where they stand.
-fn types_refusal(
-    wanted: Wanted,
-    a: &[u8],
-    x: Cursor,
-    b: &[u8],
-    y: Cursor,
-) -> Result<(), Refusal>
+fn types_refusal(wanted: Wanted, a: &[u8], x: Cursor, b: &[u8], y: Cursor) -> Result<(), Refusal>
     ensures { TypesFit wanted a.now x.at b.now y.at (number_in result) }
 {
     let fits = match wanted {
