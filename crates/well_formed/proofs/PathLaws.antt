@@ -1,5 +1,5 @@
 -- Paths, their types, and the paths of an action. Assumes nothing.
-use mathlib.Core.Path.{◌≡◌, refl, sym, ap, subst, ◌∙◌}
+use mathlib.Core.Path.{◌≡◌, refl, sym, ap, ◌∙◌}
 use mathlib.Core.Bool.{Bool, true, false, ◌&&◌, and-true, and-false, and_comm}
 use mathlib.Core.List.{List, []}
 use Prim.Native.Nat.{ℕ, ◌<◌}
@@ -24,15 +24,13 @@ use Rattle.record.specs.Access.{entry_in, Acts}
 use Rattle.record.specs.declared.Record.{Record}
 use Rattle.repr.proofs.SpellLaws.{carry, then}
 use Rattle.refusals.specs.Tests.{Tested}
-use Rattle.env.specs.Paths.{PathIs, PathResult}
+use Rattle.env.specs.Paths.{PathIs}
 use Rattle.env.proofs.PathLaws.{no_entries, stepless}
-use Rattle.env.specs.declared.paths.PathType.{PathType}
-use Rattle.env.specs.declared.paths.PathType.TheVariants as path_types
-use Rattle.well_formed.specs.Tests.{refusal_of, path_taken, TypeSays, action_taken, own_taken, own_shape, TypesFit, SecondSays, PairSays}
+use Rattle.well_formed.specs.Tests.{refusal_of, path_taken, action_taken, own_taken, own_shape, TypesFit, SecondSays, PairSays}
 use Rattle.well_formed.specs.declared.shapes.Wanted.{Wanted}
 use Rattle.well_formed.specs.declared.shapes.Wanted.TheVariants as wanted
 use Rattle.repr.specs.declared.refusal.Refusal.{Refusal}
-use Rattle.std.specs.Prelude.{Result, Ok, Option, Some}
+use Rattle.std.specs.Prelude.{Result, Ok}
 
 -- ---- A path
 
@@ -53,15 +51,8 @@ module _ {input : Record} {p : Path} where
   pub typed_taken : {bytes : List ℕ} {at : ℕ} → Typed input p bytes at → (j : Job) → Holds input j → path_taken j (path_of input.bytes.now p) ≡ true
   typed_taken v j w = named-is p w v.named (v.is j w).fits
 
-  module _ (l : p.base.0 < input.head.variables) where
-    typed : {out : List ℕ} {d x : Option PathType} (m : TypeSays input p out d) → d ≡ x → (j : Job) → Holds input j → PathResult j (path_of input.bytes.now p) input.bytes.now out m.kinds m.names x
-    typed {out} m e j w = subst (λ (y : Option PathType). PathResult j (path_of input.bytes.now p) input.bytes.now out m.kinds m.names y) e (m.says.says j w (in_job w l))
-
-    pub inside_typed : {out : List ℕ} {d : Option PathType} {c : Cursor} → TypeSays input p out d → d ≡ Some (path_types.Inside c) → Typed input p input.bytes.now c.at
-    inside_typed m e = record { named = l; kinds = m.kinds; names = m.names; is = λ j w. typed m e j w }
-
 pub stepless_typed : {input : Record} (p : Path) → p.base.0 < input.head.variables → (c : Cursor) → p.steps ≡ 0 → c.at ≡ entry_in input.layout.now 32 64 p.base.0 → Typed input p input.bytes.now c.at
-stepless_typed p l c z e = inside_typed l (record { kinds = no_entries; names = no_entries; says = stepless p c z e }) refl
+stepless_typed {input} p l c z e = record { named = l; kinds = no_entries; names = no_entries; is = λ j w. (stepless {input = input} p c z e).says j w (in_job w l) }
 
 pub stepless_taken : (input : Record) (p : Path) → p.base.0 < input.head.variables → p.steps ≡ 0 → (j : Job) → Holds input j → true ≡ path_taken j (path_of input.bytes.now p)
 stepless_taken input p l z j w = sym (typed_taken (stepless_typed {input = input} p l (record { at = entry_in input.layout.now 32 64 p.base.0 }) z refl) j w)

@@ -65,7 +65,7 @@ pub fn points_refusal(input: &Record<'_>) -> Result<(), Refusal>
         if found == Err(Refusal::Path) {
             return found;
         }
-        fits = fits & found.is_ok();
+        fits &= found.is_ok();
     }
     if fits { Ok(()) } else { Err(Refusal::Shape) }
 }
