@@ -31,7 +31,10 @@ fn own_refusal(input: &Record<'_>, a: Action) -> Result<(), Refusal>
     match a {
         Action::Init { dest, .. } => path_refusal(input, dest),
         Action::Borrow {
-            dest, kind, source, ..
+            dest,
+            kind,
+            source,
+            ..
         } => pair_refusal(Wanted::RefTo(kind), input, dest, source),
         Action::Assign { dest, source } => pair_refusal(Wanted::Same, input, source, dest),
         Action::Use(p) => path_refusal(input, p),
@@ -62,7 +65,7 @@ pub fn points_refusal(input: &Record<'_>) -> Result<(), Refusal>
         if found == Err(Refusal::Path) {
             return found;
         }
-        fits = fits & found.is_ok();
+        fits &= found.is_ok();
     }
     if fits { Ok(()) } else { Err(Refusal::Shape) }
 }
