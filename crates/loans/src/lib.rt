@@ -1,6 +1,6 @@
 #![tactic(auto)]
 // The loans of a job, the borrows of its walked blocks in record order, in a lent table of numbers.
-ghost use Rattle.std.specs.Prelude.{◌≡◌, ◌<◌, ◌≤◌, length, T};
+ghost use Rattle.std.specs.Prelude.{◌≡◌, ◌<◌, ◌≤◌, ◌%◌, length, T};
 ghost use Rattle.nll_spec.specs.Syntax.{Job};
 ghost use Rattle.nll_spec.specs.WellFormed.{named, paths_fit};
 ghost use Rattle.nll_spec.specs.Graph.{graph_of};

@@ -20,4 +20,4 @@ pub returns-then-n-eq128 : goal.returns-then-n-eq128
 returns-then-n-eq128 c = lends_full _ (search rules) c.requires.1 c.requires.0 c.test.ensures c.if-not-test.false c.action_at.ensures c.in-Ok.is c.in-Borrow.is c.if-n-eq128.true
 
 pub returns : goal.returns
-returns c = lends-more _ (search rules) c.requires.1 c.requires.0 c.test.ensures c.if-not-test.false c.action_at.ensures c.in-Ok.is c.in-Borrow.is c.shortest_of-shortest.ensures c.if-n-eq128.false c.put.ensures
+returns c = lends-more _ (search rules) c.requires.1 c.requires.0 c.test.ensures c.if-not-test.false c.action_at.ensures c.in-Ok.is c.in-Borrow.is c.shortest_of.ensures c.if-n-eq128.false c.put.ensures
