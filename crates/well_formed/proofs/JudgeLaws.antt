@@ -37,16 +37,15 @@ module _ {s t : List ℕ} {d : Result Head Refusal} (v : DecodedSays (decode.dec
   pub record_refused : {k : Refusal} → d ≡ Err k → DecodedSays (judge s) s t (Err k)
   record_refused e = record { says = judge-rejected s (verdict_at_lem e) }
 
-  module _ {h : Head} (e : d ≡ Ok h) where
-    module _ {k : ℕ} (f : (j : Job) → Layout s t h j → k ≡ refusal j) where
-      judged : judge s ≡ judge_job (verdict_at_lem e).job
-      judged = judge-decoded s (verdict_at_lem e).is
+  module _ {h : Head} (e : d ≡ Ok h) {k : ℕ} (f : (j : Job) → Layout s t h j → k ≡ refusal j) where
+    judged : judge s ≡ judge_job (verdict_at_lem e).job
+    judged = judge-decoded s (verdict_at_lem e).is
 
-      number_is : k ≡ refusal (verdict_at_lem e).job
-      number_is = f (verdict_at_lem e).job (verdict_at_lem e).layout
+    number_is : k ≡ refusal (verdict_at_lem e).job
+    number_is = f (verdict_at_lem e).job (verdict_at_lem e).layout
 
-      pub record_accepted : k ≡ 0 → DecodedSays (judge s) s t (Ok h)
-      record_accepted z = let a = verdict_at_lem e in record { says = record { job = a.job; is = judged ∙ job-accepted a.job (sym number_is ∙ z); points = a.points; loans = a.loans; layout = a.layout } }
+    pub record_accepted : k ≡ 0 → DecodedSays (judge s) s t (Ok h)
+    record_accepted z = let a = verdict_at_lem e in record { says = record { job = a.job; is = judged ∙ job-accepted a.job (sym number_is ∙ z); points = a.points; loans = a.loans; layout = a.layout } }
 
-      pub job-refused : {refused : Refusal} → k ≡ number_of refused → DecodedSays (judge s) s t (Err refused)
-      job-refused {refused} i = record { says = judged ∙ job-rejected (verdict_at_lem e).job (number_of refused) (sym i ∙ number_is) (some_number refused) }
+    pub job-refused : {refused : Refusal} → k ≡ number_of refused → DecodedSays (judge s) s t (Err refused)
+    job-refused {refused} i = record { says = judged ∙ job-rejected (verdict_at_lem e).job (number_of refused) (sym i ∙ number_is) (some_number refused) }
