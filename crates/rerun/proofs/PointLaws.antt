@@ -58,7 +58,7 @@ module _ {input : Record} {walked : List ℕ} {p : Point} where
   pub point_idle : {ls : List ℕ} {tag : ℕ} → ((j : Job) → Holds input j → p < code_count j.blocks → tag ≡ tag_of (action_at (graph_of j) p)) → (tag < 2) ⊎ (4 < tag) → PointAdds input walked p ls ls
   point_idle says e = record {
     adds = λ j code k l.
-        let same = says h j k.layout (omega (arith, l, k.points, code-count j)) in
+        let same = says j k.layout (omega (arith, l, k.points, code-count j)) in
         let none = none_made j p (action_at (graph_of j) p) (subst (λ (n : ℕ). (n < 2) ⊎ (4 < n)) same e) in
         adds_none (ap (λ (cs : List Outlives). cond (is_walked (graph_of j) p) cs []) none ∙ cond_same (is_walked (graph_of j) p));
   }
