@@ -1,4 +1,4 @@
--- What the call promises: document 01's number, every word and byte afterwards, and the three demands, each read off the number and the buffers.
+-- What the call promises: the number, every word and byte afterwards, and three demands, each read off the number and the buffers.
 use Rattle.std.specs.Prelude.{◌≡◌, ◌↔◌, List, ℕ, ◌<◌, ◌≤◌, T}
 use Rattle.nll_spec.specs.Syntax.{Job, Point, Path, RegionName, BorrowKind, Borrow}
 use Rattle.nll_spec.specs.Decode.{Decoded, rejected, decoded, decode, point_count}
@@ -8,13 +8,6 @@ use Rattle.nll_spec.specs.Regions.{every_end}
 use Rattle.nll_spec.specs.Output.{judge, analyse}
 use Rattle.nll_spec.specs.Meaning.{Room, Reached, Means, verdict_in}
 use Rattle.nll_spec.specs.Guarantee.{only, is_path, uses_holder, untouched}
-use Rattle.nll.specs.declared.Analysis.{Analysis}
-use Rattle.nll.specs.declared.Analysis.TheVariants.{Accepted, Refused}
-
--- document 01's number of an answer
-abbrev pub number_of : Analysis → ℕ
-number_of Accepted = 0
-number_of (Refused k) = k
 
 module _ (input ws bs : List ℕ) (n : ℕ) (ws' bs' : List ℕ) where
   -- Demand 1. The number is 0 or one of ten refusals: 0 exactly for a job that 1 to 9 let pass and that there is room for, 10 exactly where the room is
@@ -48,7 +41,7 @@ module _ (input ws bs : List ℕ) (n : ℕ) (ws' bs' : List ℕ) where
     pub bytes : bs' ≡ (analyse every_end input ws bs).bytes
     -- demand 1
     pub refuses : Refuses
-    -- demand 2: what is written for an accepted job means what document 01 says
+    -- demand 2: what is written for an accepted job means what `nll_spec` says
     pub means : (j : Job) → decode input ≡ decoded j → n ≡ 0 → Means every_end j ws bs ws' bs'
     -- demand 3: from the bytes handed in to the bytes written
     pub guarantee : Guarantee
