@@ -3,7 +3,7 @@ ghost use Rattle.std.specs.Prelude.{◌≡◌, cond, List, [], ℕ, ◌+◌, ◌
 ghost use Rattle.nll_spec.specs.Output.{word_bits};
 ghost use Rattle.bit_set.specs.Bits.{with_bit};
 ghost use Rattle.constraint_list.specs.Listed.{count_in, Draws};
-ghost use Rattle.rerun.specs.Rerun.{Holding, OwnKept};
+ghost use Rattle.rerun.specs.Rerun.{under, Holding, OwnKept};
 ghost use Rattle.regionck.specs.Rounds.{Sound, RunsBelow, RoundRuns};
 
 use infer::Setup;

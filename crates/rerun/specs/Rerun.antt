@@ -15,11 +15,16 @@ use Rattle.infer.specs.Search.{rule_of}
 use Rattle.infer.specs.Ran.{Setting, Given, AllNamed, Ran}
 use Rattle.infer.specs.declared.EndRule as declared
 use Rattle.infer.specs.declared.Shape.{Shape}
+use Rattle.infer.specs.declared.Setup.{Setup}
 use Rattle.constraint_list.specs.Listed.{constraints_in, Adds}
 
 -- what the constraints of a job are run in
 abbrev pub setting_of : EndRule → Job → Setting
 setting_of ends j = record { ends = ends; graph = graph_of j; regions = j.regions; width = word_count (point_count j) }
+
+-- what is said of the tables of a setup
+abbrev pub under : {A : Type 1} → Setup → (Shape → declared.EndRule → List ℕ → List ℕ → List ℕ → A) → A
+under setup says = says setup.shape setup.rule setup.graph.now.first setup.graph.now.succ setup.chain.now
 
 -- the marks before a round
 abbrev pub no_marks : List ℕ

@@ -7,7 +7,7 @@ ghost use Rattle.std.specs.Prelude.{◌≡◌, [], ◌<◌, ◌≤◌, length};
 ghost use Rattle.nll_spec.specs.Syntax.{Point};
 ghost use Rattle.constraint_list.specs.Listed.{constraints_in, Draws};
 ghost use Rattle.infer.specs.Ran.{Runs};
-ghost use Rattle.rerun.specs.Rerun.{no_marks, Noted, Holding, RunsAgain, RunsMore, Keeps};
+ghost use Rattle.rerun.specs.Rerun.{under, no_marks, Noted, Holding, RunsAgain, RunsMore, Keeps};
 
 use infer::Setup;
 use marks::note;
@@ -138,7 +138,7 @@ fn revisit(
     absent: &[u32],
     p: usize,
 )
-    requires { (p < setup.now.shape.code) }
+    requires { p < setup.now.shape.code }
     ensures { under setup.now (RunsMore input.now walked.now)
         recent.old words.old grew.old recent.new words.new grew.new }
 {

@@ -4,16 +4,9 @@ ghost use Rattle.rerun.specs.Rerun.{PointAdds};
 
 use constraints::constrain;
 use record::Record;
-use record::access::tag_at;
-use relate::Site;
 
 // Adds the constraints of a point of the blocks, if its block is walked. Only Borrow, Assign and Constraint, tags 2 to 4, make any.
-pub fn point(
-    input: &Record<'_>,
-    walked: &[u32; 32],
-    p: usize,
-    list: &mut [u32],
-)
+pub fn point(input: &Record<'_>, walked: &[u32; 32], p: usize, list: &mut [u32])
     ensures { PointAdds input.now walked.now p list.old list.new }
 {
     if 1024 < p {
@@ -22,13 +15,12 @@ pub fn point(
     if !bit_set::test(walked, 0, p) {
         return;
     }
-    let tag = tag_at(input, p);
+    let tag = input.tag_at(p);
     if tag < 2 {
         return;
     }
     if 4 < tag {
         return;
     }
-    let site = Site { head, at: p as u16 };
-    constrain(input, site, list);
+    constrain(input, p as u16, list);
 }

@@ -3,9 +3,9 @@ use mathlib.Core.Path.{◌≡◌, refl, sym, ap, subst, ◌∙◌}
 use mathlib.Core.Logic.{◌⊎◌, inl, inr}
 use mathlib.Core.Bool.{Bool, true, false, cond}
 use mathlib.Core.List.{List, [], ◌∷◌, ◌++◌, tail}
-use Prim.Native.Nat.{ℕ, ◌-◌}
+use Prim.Native.Nat.{ℕ, ◌+◌, ◌-◌, ◌≤◌}
 use native.Mathlib.Omega.{arith}
-use native.Mathlib.Nat.{sub-zero}
+use native.Mathlib.Nat.{le_refl, sub-zero}
 use Rattle.nll_spec.specs.Syntax.{Ty, UnitTy, RefTy, StructTy, BoundTy, Args, NoArgs, RegionArg, TypeArg, Param, StructDecl, Job}
 use Rattle.nll_spec.specs.Syntax as syntax
 use Rattle.nll_spec.specs.Types.{struct_of, region_name, regions_of, arg_regions, type_nodes, arg_nodes}
@@ -243,6 +243,22 @@ module _ {input : Record} {which : Which} {ps : Parameters} {from : Rest} {n : �
             (λ u. u ∙ rw (x.words, y.0) (sym (add_append before 0 (chosen (in_argument which (head_dangles ds)) j.structs w.item) (chosen_args which j.structs (tail ds) w.more)) ∙ ap (add_all before 0) (sym (ap (chosen_args which j.structs ds) w.same ∙ chosen-type which j.structs ds w.item w.more))));
         fewer = λ u h. let k = a.fewer to t in let o = v.fewer u h in omega arith;
       }
+
+-- Of n arguments, `over` are passed over up to c: passing over the others passes over all.
+pub record Passing (input : Record) (which : Which) (ps : Parameters) (from : Rest) (n : ℕ) (before : List ℕ) (others : Parameters) (c : Rest) (over : ℕ) (ws : List ℕ) : Type 0 where
+  pub low : c.left ≤ from.left
+  pub onward : (after : List ℕ) (r : Result Rest Refusal) → ArgumentsAdd input which others c (n - over) ws after r → ArgumentsAdd input which ps from n before after r
+
+pub passing_none : (input : Record) (which : Which) (ps : Parameters) (from : Rest) (n : ℕ) (ws : List ℕ) → Passing input which ps from n ws ps from 0 ws
+passing_none input which ps from n ws = record { low = le_refl from.left; onward = λ after r v. rw sub-zero at v }
+
+module _ {input : Record} {which : Which} {ps : Parameters} {from : Rest} {n : ℕ} {before : List ℕ} {others : Parameters} {c : Rest} {over : ℕ} {ws : List ℕ} (p : Passing input which ps from n before others c over ws) where
+  pub passing_all : over ≡ n → ArgumentsAdd input which ps from n before ws (Ok c)
+  passing_all e = p.onward ws (Ok c) (args_none (omega arith))
+
+  pub passing_more : {more : Parameters} {d : Rest} {us : List ℕ} → d.left ≤ c.left
+      → ((after : List ℕ) (r : Result Rest Refusal) → ArgumentsAdd input which more d (n - over - 1) us after r → ArgumentsAdd input which others c (n - over) ws after r) → Passing input which ps from n before more d (over + 1) us
+  passing_more l f = record { low = let k = p.low in omega arith; onward = λ after r v. p.onward after r (f after r (let e : n - over - 1 ≡ n - (over + 1) = omega arith in rw e v)) }
 
 -- ---- A whole type
 

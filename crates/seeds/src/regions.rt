@@ -103,22 +103,22 @@ fn add_arguments(
 ) -> Result<Rest, Refusal>
     ensures { ArgumentsAdd input.now which parameters from count set.old set.new result }
 {
-    if count == 0 {
-        return Ok(from);
-    }
-    let (dangles, others) = first_parameter(input.bytes, parameters)?;
-    let inner = in_argument(which, dangles);
-    let left = from.left;
-    match from.next.argument(input.bytes)? {
-        Argument::Region(region, next) => {
-            add_region(region, inner, set);
-            add_arguments(input, Rest { left, next }, count - 1, others, which, set)
+    let mut rest = from;
+    let mut params = parameters;
+    for _ in 0..count {
+        let (dangles, others) = first_parameter(input.bytes, params)?;
+        let inner = in_argument(which, dangles);
+        let left = rest.left;
+        match rest.next.argument(input.bytes)? {
+            Argument::Region(region, next) => {
+                add_region(region, inner, set);
+                rest = Rest { left, next };
+            }
+            Argument::Type(next) => rest = add_type(input, Rest { left, next }, inner, set)?,
         }
-        Argument::Type(next) => {
-            let rest = add_type(input, Rest { left, next }, inner, set)?;
-            add_arguments(input, rest, count - 1, others, which, set)
-        }
+        params = others;
     }
+    Ok(rest)
 }
 
 // Puts the regions that are taken of the type at c into the set.
