@@ -14,19 +14,18 @@ ghost use Rattle.loans_in_scope.specs.Scope.{overwritten_by, paths_of, killed, S
 use env::prefixes::is_prefix;
 use flow::Direction;
 use graph::tables::FuncGraph;
-use loans::{Loan, Loans};
+use loans::{Loan, LoanTable};
 use record::Record;
 use repr::{Action, Path, RegionName};
 
-// What the loans in scope are computed from: a record with its graph, the regions' sets in so many words each, the loans, and how many points are actions
-// or ends of blocks.
+// What the loans in scope are computed from: a record and its graph, the regions' sets in so many words each, the loans, and how many points the blocks have.
 #[derive(Clone, Copy)]
 struct Setup<'a> {
     input: &'a Record<'a>,
     graph: &'a FuncGraph,
     words: &'a [u32],
     width: usize,
-    loans: &'a Loans,
+    loans: &'a LoanTable,
     code: usize,
 }
 
@@ -260,7 +259,7 @@ pub fn loans_in_scope(
     graph: &FuncGraph,
     words: &[u32],
     width: usize,
-    loans: &Loans,
+    loans: &LoanTable,
     scope: &mut [u32],
 )
     ensures { 4 * input.now.head.code ≤ length scope.old
