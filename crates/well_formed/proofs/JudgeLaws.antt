@@ -14,7 +14,7 @@ use Rattle.record.specs.Layout.{Layout, Verdict, DecodedSays}
 use Rattle.record.specs.declared.Head.{Head}
 use Rattle.well_formed.specs.Tests.{refusal_of}
 use Rattle.repr.specs.declared.refusal.Refusal.{Refusal}
-use Rattle.repr.specs.declared.refusal.Refusal.TheVariants.{Version, Length, Form, Range, Size, Name, Arguments, Path, Shape, Room}
+use Rattle.well_formed.proofs.PointLaws.{some_number}
 use Rattle.repr.specs.Refusals.{number_of}
 use Rattle.std.specs.Prelude.{Result, Ok, Err}
 
@@ -22,19 +22,6 @@ use Rattle.std.specs.Prelude.{Result, Ok, Err}
 holds : {x y : Bool} → x ≡ y → x ≡ true → T y
 holds {y = true} e k = tt
 holds {y = false} e k = let z : ◌≡◌ {A = ℕ} 0 1 = cc in omega arith
-
--- no refusal has the number 0
-some_number : (k : Refusal) → number_of k ≡ 0 → ⊥
-some_number Version e = omega arith
-some_number Length e = omega arith
-some_number Form e = omega arith
-some_number Range e = omega arith
-some_number Size e = omega arith
-some_number Name e = omega arith
-some_number Arguments e = omega arith
-some_number Path e = omega arith
-some_number Shape e = omega arith
-some_number Room e = omega arith
 
 -- ---- Refusals 6 to 9
 

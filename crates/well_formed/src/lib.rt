@@ -17,6 +17,7 @@ use refusals::{named, types_fit};
 use repr::Refusal;
 
 // The first refusal from 6 to 9 that applies to a job.
+#[tactic(auto, unfolding(nll_spec::specs::WellFormed::refusal))]
 pub fn refusal(input: &Record<'_>) -> Result<(), Refusal>
     ensures { (j : Job) → Holds input.now j → number_in result ≡ well_formed.refusal j }
 {

@@ -5,13 +5,14 @@ ghost use Rattle.nll_spec.specs.Syntax.{Job};
 ghost use Rattle.nll_spec.specs.Decode.{items, path};
 ghost use Rattle.repr.specs.Reading.{path_of};
 ghost use Rattle.record.specs.Layout.{Holds};
-ghost use Rattle.refusals.specs.Tests.{Tested};
+ghost use Rattle.refusals.specs.Tests.{Passes, Tested};
 ghost use Rattle.well_formed.specs.Tests.{path_taken, TypeSays};
 
 use env::Step;
 use env::paths::{PathType, path_type};
 use record::Record;
-use repr::{Cursor, Path};
+use refusals::rows::each;
+use repr::{Cursor, Path, Refusal};
 
 // The type of a path that begins at a variable, in the record or in the lent bytes, if its steps may be taken.
 pub fn type_of(input: &Record<'_>, p: Path, out: &mut [u8; 512]) -> Option<PathType>
@@ -36,19 +37,21 @@ pub fn path_fits(input: &Record<'_>, p: Path) -> bool
     type_of(input, p, &mut out).is_some()
 }
 
-// So many paths.
+// Where a path ends, if it fits.
+fn path_end(input: &Record<'_>, c: Cursor) -> Result<Cursor, Refusal>
+    ensures { (j : Job) → Holds input.now j → Passes path (path_taken j) input.now.bytes.now c.at result }
+{
+    let (p, next) = c.path(input.bytes)?;
+    if path_fits(input, p) {
+        Ok(next)
+    } else {
+        Err(Refusal::Path)
+    }
+}
+
+// Whether so many paths fit.
 pub fn sources_fit(input: &Record<'_>, from: Cursor, count: u8) -> bool
     ensures { (j : Job) → Holds input.now j → Tested (items count path) (every (path_taken j)) input.now.bytes.now from.at result }
 {
-    let mut c = from;
-    for _ in 0..count {
-        let Ok((p, next)) = c.path(input.bytes) else {
-            return false;
-        };
-        if !path_fits(input, p) {
-            return false;
-        }
-        c = next;
-    }
-    true
+    each(from, count, |c| path_end(input, c)).is_ok()
 }
