@@ -16,8 +16,8 @@ use Rattle.nll_spec.proofs.GraphLaws.{every-action}
 use Rattle.nll_spec.proofs.AcceptedLaws.{accepted-job}
 use Rattle.repr.specs.Reading.{path_of}
 use Rattle.repr.specs.declared.Path as repr
-use Rattle.record.specs.Layout.{Holds}
-use Rattle.record.specs.declared.Record.{Record}
+use Rattle.record.specs.Layout.{Layout}
+use Rattle.record.specs.declared.Head.{Head}
 use Rattle.env.proofs.ShortLaws.{short, all_short, coded-short}
 use Rattle.constraints.specs.Constraining.{Takes}
 
@@ -33,7 +33,7 @@ paths-fit j e = go (named j) (types_fit j) (paths_fit j) (shapes_fit j) e
     go true false c d e = absurd (omega arith)
     go false b c d e = absurd (omega arith)
 
-module _ {input : Record} {j : Job} (w : Holds input j) (accepted : refusal j ≡ 0) (p : Point) {a : Action} (e : action_at (graph_of j) p ≡ a) where
+module _ {s t : List ℕ} {h : Head} {j : Job} (w : Layout s t h j) (accepted : refusal j ≡ 0) (p : Point) {a : Action} (e : action_at (graph_of j) p ≡ a) where
   names : T (action_named j a)
   names = subst (λ (x : Action). T (action_named j x)) e ((accepted-job j accepted).actions-named p)
 
@@ -49,40 +49,40 @@ takes : (s : List ℕ) (j : Job) (q : repr.Path) → T (path_named j (path_of s 
 takes s j q n f k =
     record { named = ltb→lt q.base.0 (length j.variables) n; fits = is_true (path_fits j (path_of s q)) f; short = omega (arith, leb→le (length (path_of s q).steps) max_steps k) }
 
-module _ {input : Record} {j : Job} (w : Holds input j) (accepted : refusal j ≡ 0) (p : Point) (d q : repr.Path) where
-  pub assign_takes : action_at (graph_of j) p ≡ Assign (path_of input.bytes.now d) (path_of input.bytes.now q) → Takes input.bytes.now j d × Takes input.bytes.now j q
+module _ {s t : List ℕ} {h : Head} {j : Job} (w : Layout s t h j) (accepted : refusal j ≡ 0) (p : Point) (d q : repr.Path) where
+  pub assign_takes : action_at (graph_of j) p ≡ Assign (path_of s d) (path_of s q) → Takes s j d × Takes s j q
   unfolding action_named paths_of
   assign_takes e = (
-    takes input.bytes.now j d (and_left (path_named j (path_of input.bytes.now d)) (path_named j (path_of input.bytes.now q)) n) (and_left (path_fits j (path_of input.bytes.now d)) (path_fits j (path_of input.bytes.now q) && true) f) (and_left (short (path_of input.bytes.now d)) (short (path_of input.bytes.now q) && true) k),
-    takes input.bytes.now j q (and_right (path_named j (path_of input.bytes.now d)) (path_named j (path_of input.bytes.now q)) n)
-        (and_left (path_fits j (path_of input.bytes.now q)) true (and_right (path_fits j (path_of input.bytes.now d)) (path_fits j (path_of input.bytes.now q) && true) f))
-        (and_left (short (path_of input.bytes.now q)) true (and_right (short (path_of input.bytes.now d)) (short (path_of input.bytes.now q) && true) k)),
+    takes s j d (and_left (path_named j (path_of s d)) (path_named j (path_of s q)) n) (and_left (path_fits j (path_of s d)) (path_fits j (path_of s q) && true) f) (and_left (short (path_of s d)) (short (path_of s q) && true) k),
+    takes s j q (and_right (path_named j (path_of s d)) (path_named j (path_of s q)) n)
+        (and_left (path_fits j (path_of s q)) true (and_right (path_fits j (path_of s d)) (path_fits j (path_of s q) && true) f))
+        (and_left (short (path_of s q)) true (and_right (short (path_of s d)) (short (path_of s q) && true) k)),
   )
     where
-      n : T (action_named j (Assign (path_of input.bytes.now d) (path_of input.bytes.now q)))
+      n : T (action_named j (Assign (path_of s d) (path_of s q)))
       n = names w accepted p e
 
-      f : T (every (path_fits j) (paths_of (Assign (path_of input.bytes.now d) (path_of input.bytes.now q))))
+      f : T (every (path_fits j) (paths_of (Assign (path_of s d) (path_of s q))))
       f = fits w accepted p e
 
-      k : T (all_short (Assign (path_of input.bytes.now d) (path_of input.bytes.now q)))
+      k : T (all_short (Assign (path_of s d) (path_of s q)))
       k = shorts w accepted p e
 
-  pub borrow-takes : {r : RegionName} {k : BorrowKind} → action_at (graph_of j) p ≡ Borrow (path_of input.bytes.now d) r k (path_of input.bytes.now q) → Takes input.bytes.now j d × Takes input.bytes.now j q
+  pub borrow-takes : {r : RegionName} {k : BorrowKind} → action_at (graph_of j) p ≡ Borrow (path_of s d) r k (path_of s q) → Takes s j d × Takes s j q
   unfolding action_named paths_of
   borrow-takes {r} {k = kind} e = (
-    takes input.bytes.now j d (and_left (path_named j (path_of input.bytes.now d)) (is_region j r) (and_left (path_named j (path_of input.bytes.now d) && is_region j r) (path_named j (path_of input.bytes.now q)) n))
-        (and_left (path_fits j (path_of input.bytes.now d)) (path_fits j (path_of input.bytes.now q) && true) f) (and_left (short (path_of input.bytes.now d)) (short (path_of input.bytes.now q) && true) k),
-    takes input.bytes.now j q (and_right (path_named j (path_of input.bytes.now d) && is_region j r) (path_named j (path_of input.bytes.now q)) n)
-        (and_left (path_fits j (path_of input.bytes.now q)) true (and_right (path_fits j (path_of input.bytes.now d)) (path_fits j (path_of input.bytes.now q) && true) f))
-        (and_left (short (path_of input.bytes.now q)) true (and_right (short (path_of input.bytes.now d)) (short (path_of input.bytes.now q) && true) k)),
+    takes s j d (and_left (path_named j (path_of s d)) (is_region j r) (and_left (path_named j (path_of s d) && is_region j r) (path_named j (path_of s q)) n))
+        (and_left (path_fits j (path_of s d)) (path_fits j (path_of s q) && true) f) (and_left (short (path_of s d)) (short (path_of s q) && true) k),
+    takes s j q (and_right (path_named j (path_of s d) && is_region j r) (path_named j (path_of s q)) n)
+        (and_left (path_fits j (path_of s q)) true (and_right (path_fits j (path_of s d)) (path_fits j (path_of s q) && true) f))
+        (and_left (short (path_of s q)) true (and_right (short (path_of s d)) (short (path_of s q) && true) k)),
   )
     where
-      n : T (action_named j (Borrow (path_of input.bytes.now d) r kind (path_of input.bytes.now q)))
+      n : T (action_named j (Borrow (path_of s d) r kind (path_of s q)))
       n = names w accepted p e
 
-      f : T (every (path_fits j) (paths_of (Borrow (path_of input.bytes.now d) r kind (path_of input.bytes.now q))))
+      f : T (every (path_fits j) (paths_of (Borrow (path_of s d) r kind (path_of s q))))
       f = fits w accepted p e
 
-      k : T (all_short (Borrow (path_of input.bytes.now d) r kind (path_of input.bytes.now q)))
+      k : T (all_short (Borrow (path_of s d) r kind (path_of s q)))
       k = shorts w accepted p e

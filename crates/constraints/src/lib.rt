@@ -62,6 +62,7 @@ fn relate_step(of: Source, taken: &[Step; 8], i: usize, at: u16, list: &mut [u32
 }
 
 // The steps of a borrow's source.
+#[tactic(auto, using(crate::proofs::ConstrainLaws::source_more))]
 fn relate_source(of: Source, taken: &[Step; 8], at: u16, list: &mut [u32])
     ensures { Adds (source_constraints at (kinds_of taken.now) (names_of taken.now) of.supporting of.region.0 of.steps)
         list.old list.new }
@@ -192,6 +193,7 @@ fn relate_stepped(pair: Pair, input: &Record<'_>, at: u16, list: &mut [u32])
 }
 
 // The constraints of an assignment or a borrow, at the point.
+#[tactic(auto, using(crate::proofs::ConstrainLaws::pair_stepless, crate::proofs::ConstrainLaws::both_zero))]
 fn relate_paths(pair: Pair, input: &Record<'_>, at: u16, list: &mut [u32])
     ensures { PairAdds input.now at pair
         list.old list.new }
