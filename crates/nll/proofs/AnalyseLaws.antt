@@ -22,7 +22,6 @@ use Rattle.record.specs.Layout.{Accepted, DecodedSays}
 use Rattle.record.specs.declared.Head.{Head}
 use Rattle.record.specs.declared.Record.{Record}
 use Rattle.infer.specs.declared.Shape.{Shape}
-use Rattle.well_formed.specs.Tests.{number_in}
 use Rattle.nll.specs.Analysis.{AnalyseSays, points_of}
 use Rattle.nll.specs.Steps.{shape_of, room_for, JobAt, Writes}
 use Rattle.nll.proofs.JobLaws.{points-are, room-is}
@@ -133,7 +132,3 @@ module _ {input t : List ℕ} {h : Head} (m : DecodedSays (judge input) input t 
       let l = leaves-answer input ws bs job.is k in
       let a : JobAt r job.job = record { layout = rw (es, et, eh) job.layout; accepted = l.0; points = job.points; loans = job.loans } in
       promised input ws bs (l.1 ∙ ap₂ (λ (x y : List ℕ). unchanged 0 x y) (sym (w.words job.job a k)) (sym (w.bytes job.job a k)))
-
--- the number of an answer
-pub as_number : {input ws bs ws' bs' : List ℕ} {r x : Result (Unit {0}) Refusal} → AnalyseSays input ws bs (number_in r) ws' bs' → r ≡ x → AnalyseSays input ws bs (number_in x) ws' bs'
-as_number {input} {ws} {bs} {ws'} {bs'} a e = subst (λ (y : Result (Unit {0}) Refusal). AnalyseSays input ws bs (number_in y) ws' bs') e a
