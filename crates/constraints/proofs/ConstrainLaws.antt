@@ -1,12 +1,10 @@
 -- The constraints of an action: of a borrow, of an assignment, and of any other. Assumes nothing.
 use mathlib.Core.Path.{◌≡◌, refl, sym, ap, ◌∙◌, subst}
-use mathlib.Core.Bool.{Bool, true, false, ◌||◌, not, true≢false}
 use mathlib.Core.List.{List, [], ◌++◌, append-nil}
 use Prim.Native.Nat.{ℕ, ◌+◌, ◌<◌}
 use native.Mathlib.Omega.{arith}
 use native.Mathlib.Numerals.{add-one}
-use lib.Dec.{T, eqb}
-use borrow.Author.Tests.{eqb-true}
+use lib.Dec.{T}
 use Rattle.nll_spec.specs.Syntax as syntax
 use Rattle.nll_spec.specs.Syntax.{Job, Point, Free, RefTy, Co, Contra}
 use Rattle.nll_spec.specs.Decode.{read, done, items, path, code_count}
@@ -79,15 +77,6 @@ module _ {input : Record} {at : Point} {how : Related} {ls : List ℕ} where
     paths_written e u = record { adds = λ j l w o k z. let r = result v j l w e in u.adds j l o _ k r.stands r.few z }
 
 -- ---- An assignment and a borrow
-
--- a test of two numbers, of which each is 0
-pub both_zero : (m n : ℕ) → not (eqb m 0) || not (eqb n 0) ≡ false → (m ≡ 0) × (n ≡ 0)
-both_zero m n e = go (eqb m 0) (eqb n 0) refl refl e
-  where
-    go : (x y : Bool) → eqb m 0 ≡ x → eqb n 0 ≡ y → not x || not y ≡ false → (m ≡ 0) × (n ≡ 0)
-    go true true i k e = (eqb-true m 0 i, eqb-true n 0 k)
-    go true false i k e = absurd (true≢false e)
-    go false y i k e = absurd (true≢false e)
 
 then_none : (cs : List Outlives) {ds : List Outlives} → ds ≡ [] → cs ++ ds ≡ cs
 then_none cs e = ap (λ (ds : List Outlives). cs ++ ds) e ∙ append-nil cs

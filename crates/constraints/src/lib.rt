@@ -146,12 +146,10 @@ fn relate_second(
         → SecondAdds input.now at how a.now x.at q
         list.old list.new }
 {
-    let Some(second) = found else {
-        return;
-    };
-    match second {
-        PathType::Inside(y) => relate_types(how, input, a, x, input.bytes, y, at, list),
-        PathType::Written(y) => relate_types(how, input, a, x, b, y, at, list),
+    match found {
+        Some(PathType::Inside(y)) => relate_types(how, input, a, x, input.bytes, y, at, list),
+        Some(PathType::Written(y)) => relate_types(how, input, a, x, b, y, at, list),
+        None => {}
     }
 }
 
@@ -193,14 +191,14 @@ fn relate_stepped(pair: Pair, input: &Record<'_>, at: u16, list: &mut [u32])
 }
 
 // The constraints of an assignment or a borrow, at the point.
-#[tactic(auto, using(crate::proofs::ConstrainLaws::pair_stepless, crate::proofs::ConstrainLaws::both_zero))]
+#[tactic(auto, using(crate::proofs::ConstrainLaws::pair_stepless))]
 fn relate_paths(pair: Pair, input: &Record<'_>, at: u16, list: &mut [u32])
     ensures { PairAdds input.now at pair
         list.old list.new }
 {
     let p = pair.p;
     let q = pair.q;
-    if (p.steps != 0) | (q.steps != 0) {
+    if p.steps != 0 || q.steps != 0 {
         relate_stepped(pair, input, at, list);
         return;
     }

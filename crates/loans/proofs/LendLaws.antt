@@ -34,7 +34,6 @@ use Rattle.env.specs.declared.Shortest.{Shortest}
 use Rattle.graph.specs.Search.{WalkedIn}
 use Rattle.loans.specs.Table.{Put}
 use Rattle.loans.specs.Loans.{loans_below, Listed, LoansAt, Given, Lends}
-use Rattle.loans.specs.declared.Loan.{Loan}
 use Rattle.loans.proofs.ListLaws.{below_unwalked, below-walked, below_more, listed_more}
 use Rattle.loans.proofs.ActionLaws.{source-named, source_fits, source-short}
 use Rattle.repr.specs.declared.refusal.Refusal.{Refusal}

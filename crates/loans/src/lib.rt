@@ -1,13 +1,13 @@
 #![tactic(auto)]
 // The loans of a job, the borrows of its walked blocks in record order, in a lent table of numbers.
-ghost use Rattle.std.specs.Prelude.{◌≡◌, ◌<◌, ◌≤◌, length, T};
+ghost use Rattle.std.specs.Prelude.{◌≡◌, ◌<◌, ◌≤◌, ◌%◌, length, T};
 ghost use Rattle.nll_spec.specs.Syntax.{Job};
 ghost use Rattle.nll_spec.specs.WellFormed.{named, paths_fit};
 ghost use Rattle.nll_spec.specs.Graph.{graph_of};
 ghost use Rattle.nll_spec.specs.Loans.{loans_of};
 ghost use Rattle.record.specs.Layout.{Holds};
 ghost use Rattle.graph.specs.Search.{WalkedIn};
-ghost use Rattle.loans.specs.Table.{place_of, kind_from, entry_of, Put};
+ghost use Rattle.loans.specs.Table.{place_of, number_of, kind_from, entry_of, Put};
 ghost use Rattle.loans.specs.Loans.{LoansAt, Lends};
 
 use env::Shortest;
@@ -76,6 +76,12 @@ fn byte(x: u16) -> u8
     (x % 256) as u8
 }
 
+fn kind_number(kind: BorrowKind) -> u16
+    ensures { result ≡ number_of kind }
+{
+    kind as u16
+}
+
 fn kind_of(x: u16) -> BorrowKind
     ensures { result ≡ kind_from x }
 {
@@ -101,7 +107,7 @@ fn put(numbers: &mut [u16; 1024], i: usize, loan: Loan)
     let at = 8 * i;
     numbers[at] = loan.point as u16;
     numbers[at + 1] = u16::from(loan.region.0);
-    numbers[at + 2] = loan.kind as u16;
+    numbers[at + 2] = kind_number(loan.kind);
     numbers[at + 3] = u16::from(loan.path.base.0);
     numbers[at + 4] = u16::from(loan.path.steps);
     numbers[at + 5] = loan.path.from.at.min(65535) as u16;

@@ -1,7 +1,7 @@
 #![tactic(auto)]
 // Where the loans of a job are in scope: loan i at point p is number i of the four words from 4 * p on.
 // The points that follow point p are succ[first[p]..first[p + 1]]. Region r's set starts at word r * width.
-ghost use Rattle.std.specs.Prelude.{◌≡◌, ◌&&◌, not, ◌+◌, ◌*◌, ◌<◌, ◌≤◌, length};
+ghost use Rattle.std.specs.Prelude.{◌≡◌, ◌+◌, ◌*◌, ◌<◌, ◌≤◌, length};
 ghost use Rattle.nll_spec.specs.Syntax.{Job};
 ghost use Rattle.nll_spec.specs.Decode.{code_count};
 ghost use Rattle.nll_spec.specs.Graph.{graph_of, action_at};

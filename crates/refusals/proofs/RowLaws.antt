@@ -2,11 +2,9 @@
 use mathlib.Core.Path.{◌≡◌, refl, sym, ap, ◌∙◌}
 use mathlib.Core.Bool.{Bool, true, false, ◌&&◌, and-false}
 use mathlib.Core.List.{List, [], ◌∷◌}
-use Prim.Native.Nat.{ℕ, zero, suc, ◌+◌, ◌-◌, ◌≤◌, ◌<◌}
+use Prim.Native.Nat.{ℕ, zero, suc, ◌+◌, ◌-◌, ◌<◌}
 use native.Mathlib.Omega.{arith}
-use native.Mathlib.Numerals.{add-one}
-use lib.ListN.{length, get_or, drop, drop_of_length-le}
-use lib.Seq.{drop-cons}
+use lib.ListN.{length, get_or, drop}
 use Rattle.nll_spec.specs.Lists.{every}
 use Rattle.nll_spec.specs.Syntax.{UnitTy, Field, StructDecl, Job}
 use Rattle.nll_spec.specs.Decode.{read, Reader, done, byte, items, counted, max_outlived, field, type, block}
@@ -20,8 +18,7 @@ use Rattle.record.specs.Access.{entry_in, Declared}
 use Rattle.record.specs.declared.Head.{Head}
 use Rattle.record.proofs.AccessLaws.{outlives-at, variable_at, block-at}
 use Rattle.repr.proofs.ItemLaws.{first_of, none_of}
-use Rattle.refusals.specs.Tests.{Sized, over, fails, pass, pass_says, Passes, Tested, no_block}
-pub use Rattle.refusals.specs.Tests.{ItemTested}
+use Rattle.refusals.specs.Tests.{Sized, over, fails, pass, pass_says, Passes, Tested, ItemTested, no_block}
 use Rattle.refusals.specs.Rows.{Along, none, more, stop}
 use Rattle.repr.specs.Reading.{rest}
 use native.Mathlib.Numerals.{sub-one}
@@ -93,26 +90,6 @@ module _ {Test : Cursor → Result Cursor Refusal → Type 0} {n over : ℕ} {fr
   going_end h = g.whole (Ok c) (let e : n - over ≡ 0 = omega arith in rw e none)
 
 -- ---- A row of the table
-
--- The test of all is that of the items from number i on.
-pub record Testing {A : Type 0} (f : A → Bool) (xs : List A) (i : ℕ) : Type 0 where
-  pub same : every f xs ≡ every f (drop i xs)
-
-pub testing_start : {A : Type 0} (f : A → Bool) (xs : List A) → Testing f xs 0
-testing_start f xs = record { same = refl }
-
-pub testing_end : {A : Type 0} {f : A → Bool} {xs : List A} {n i : ℕ} → length xs ≡ n → Testing f xs i → n ≤ i → true ≡ every f xs
-testing_end {xs = xs} {i = i} e g h = let l : length xs ≤ i = omega arith in rw (g.same, drop_of_length-le xs l)
-
-module _ {A : Type 0} {f : A → Bool} {xs : List A} {x : A} {n i : ℕ} {r : Bool} (c : length xs ≡ n) (g : Testing f xs i) (h : i < n) (e : ItemTested f xs x i r) where
-  from_item : every f (drop i xs) ≡ f (get_or xs i x) && every f (drop (suc i) xs)
-  from_item = rw (drop-cons xs i x (omega arith))
-
-  pub testing_fails : r ≡ false → false ≡ every f xs
-  testing_fails k = rw (g.same, from_item, ← e.says, k)
-
-  pub testing_more : r ≡ true → Testing f xs (i + 1)
-  testing_more k = record { same = rw add-one (g.same ∙ from_item ∙ rw (← e.says, k)) }
 
 -- `every` is what `all` of a chain answers
 pub list_every : {A : Type 0} (f : A → Bool) (xs : List A) → list_all f xs ≡ every f xs

@@ -1,43 +1,36 @@
 -- Paths, their types, and the paths of an action. Assumes nothing.
-use mathlib.Core.Path.{◌≡◌, refl, sym, ap, subst, ◌∙◌}
-use mathlib.Core.Bool.{Bool, true, false, ◌&&◌, and-true, and-false, and_comm, cond}
+use mathlib.Core.Path.{◌≡◌, refl, sym, ap, ◌∙◌}
+use mathlib.Core.Bool.{Bool, true, false, ◌&&◌, and-true, and-false, and_comm}
 use mathlib.Core.List.{List, []}
-use Prim.Native.Nat.{ℕ, ◌≤◌, ◌<◌}
+use Prim.Native.Nat.{ℕ, ◌<◌}
 use native.Mathlib.Omega.{arith}
-use lib.ListN.{length, drop}
-use borrow.Author.Tests.{lt-ltb, le-ltb}
+use lib.ListN.{length}
+use borrow.Author.Tests.{lt-ltb}
 use Rattle.nll_spec.specs.Lists.{every}
 use Rattle.nll_spec.specs.Syntax as syntax
 use Rattle.nll_spec.specs.Syntax.{Job}
 use Rattle.nll_spec.specs.Decode.{read, done, items, path}
 use Rattle.nll_spec.specs.Types.{path_type}
 use Rattle.nll_spec.specs.WellFormed.{path_fits, paths_of, same_shape, shape_fits}
-use Rattle.repr.specs.Reading.{rest, borrow_kind_of, path_of, says}
+use Rattle.repr.specs.Reading.{rest, path_of}
 use Rattle.repr.specs.Parts.{action_says, action_read, sources_of}
 use Rattle.repr.specs.declared.Cursor.{Cursor}
 use Rattle.repr.specs.declared.Path.{Path}
-use Rattle.repr.specs.declared.RegionName.{RegionName}
-use Rattle.repr.specs.declared.BorrowKind as repr_kind
 use Rattle.repr.specs.declared.Action.{Action}
 use Rattle.repr.specs.declared.Action.TheVariants.{Noop, Init, Borrow, Assign, Constraint, Use, Drop, StorageDead}
-use Rattle.repr.proofs.ReadLaws.{told}
 use Rattle.record.specs.Layout.{Layout, Holds}
 use Rattle.record.specs.declared.Head.{Head}
 use Rattle.record.specs.Access.{entry_in, Acts}
 use Rattle.record.specs.declared.Record.{Record}
-use Rattle.ty.specs.Shape.{SameShape, SameAsRef}
-use Rattle.repr.proofs.SpellLaws.{clash, carry, then}
-use Rattle.refusals.specs.Tests.{Passes, Tested}
-use Rattle.refusals.proofs.PartLaws.{none_passes, read-passes, read-fails}
-use Rattle.env.specs.Paths.{PathIs, PathResult}
+use Rattle.repr.proofs.SpellLaws.{carry, then}
+use Rattle.refusals.specs.Tests.{Tested}
+use Rattle.env.specs.Paths.{PathIs}
 use Rattle.env.proofs.PathLaws.{no_entries, stepless}
-use Rattle.env.specs.declared.paths.PathType.{PathType}
-use Rattle.env.specs.declared.paths.PathType.TheVariants as path_types
-use Rattle.well_formed.specs.Tests.{refusal_of, path_taken, TypeSays, action_taken, own_taken, own_shape, TypesFit, SecondSays, PairSays}
+use Rattle.well_formed.specs.Tests.{refusal_of, path_taken, action_taken, own_taken, own_shape, TypesFit, SecondSays, PairSays}
 use Rattle.well_formed.specs.declared.shapes.Wanted.{Wanted}
 use Rattle.well_formed.specs.declared.shapes.Wanted.TheVariants as wanted
 use Rattle.repr.specs.declared.refusal.Refusal.{Refusal}
-use Rattle.std.specs.Prelude.{Result, Ok, Err, Option, Some, None}
+use Rattle.std.specs.Prelude.{Result, Ok}
 
 -- ---- A path
 
@@ -58,15 +51,8 @@ module _ {input : Record} {p : Path} where
   pub typed_taken : {bytes : List ℕ} {at : ℕ} → Typed input p bytes at → (j : Job) → Holds input j → path_taken j (path_of input.bytes.now p) ≡ true
   typed_taken v j w = named-is p w v.named (v.is j w).fits
 
-  module _ (l : p.base.0 < input.head.variables) where
-    typed : {out : List ℕ} {d x : Option PathType} (m : TypeSays input p out d) → d ≡ x → (j : Job) → Holds input j → PathResult j (path_of input.bytes.now p) input.bytes.now out m.kinds m.names x
-    typed {out} m e j w = subst (λ (y : Option PathType). PathResult j (path_of input.bytes.now p) input.bytes.now out m.kinds m.names y) e (m.says.says j w (in_job w l))
-
-    pub inside_typed : {out : List ℕ} {d : Option PathType} {c : Cursor} → TypeSays input p out d → d ≡ Some (path_types.Inside c) → Typed input p input.bytes.now c.at
-    inside_typed m e = record { named = l; kinds = m.kinds; names = m.names; is = λ j w. typed m e j w }
-
 pub stepless_typed : {input : Record} (p : Path) → p.base.0 < input.head.variables → (c : Cursor) → p.steps ≡ 0 → c.at ≡ entry_in input.layout.now 32 64 p.base.0 → Typed input p input.bytes.now c.at
-stepless_typed p l c z e = inside_typed l (record { kinds = no_entries; names = no_entries; says = stepless p c z e }) refl
+stepless_typed {input} p l c z e = record { named = l; kinds = no_entries; names = no_entries; is = λ j w. (stepless {input = input} p c z e).says j w (in_job w l) }
 
 pub stepless_taken : (input : Record) (p : Path) → p.base.0 < input.head.variables → p.steps ≡ 0 → (j : Job) → Holds input j → true ≡ path_taken j (path_of input.bytes.now p)
 stepless_taken input p l z j w = sym (typed_taken (stepless_typed {input = input} p l (record { at = entry_in input.layout.now 32 64 p.base.0 }) z refl) j w)

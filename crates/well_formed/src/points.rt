@@ -29,13 +29,14 @@ fn own_refusal(input: &Record<'_>, a: Action) -> Result<(), Refusal>
     ensures { (j : Job) → Holds input.now j → number_in result ≡ refusal_of (own_taken j input.now.bytes.now a) (own_shape j input.now.bytes.now a) }
 {
     match a {
-        Action::Init { dest, .. } => path_refusal(input, dest),
+        Action::Init { dest: p, .. } | Action::Use(p) | Action::Drop(p) => path_refusal(input, p),
         Action::Borrow {
-            dest, kind, source, ..
+            dest,
+            kind,
+            source,
+            ..
         } => pair_refusal(Wanted::RefTo(kind), input, dest, source),
         Action::Assign { dest, source } => pair_refusal(Wanted::Same, input, source, dest),
-        Action::Use(p) => path_refusal(input, p),
-        Action::Drop(p) => path_refusal(input, p),
         _ => Ok(()),
     }
 }
@@ -62,7 +63,7 @@ pub fn points_refusal(input: &Record<'_>) -> Result<(), Refusal>
         if found == Err(Refusal::Path) {
             return found;
         }
-        fits = fits & found.is_ok();
+        fits &= found.is_ok();
     }
     if fits { Ok(()) } else { Err(Refusal::Shape) }
 }

@@ -1,7 +1,5 @@
 // The refusal of two paths: 8 where one may not be taken, 9 where their types do not fit, none where they do.
-ghost use Rattle.std.specs.Prelude.{◌≡◌, cond, ◌<◌};
-ghost use Rattle.repr.specs.declared.Path.{Path};
-ghost use Rattle.well_formed.specs.Tests.{number_in, TypeSays, TypesFit, SecondSays, PairSays};
+ghost use Rattle.well_formed.specs.Tests.{number_in, TypesFit, SecondSays, PairSays};
 
 use super::paths::type_of;
 use env::paths::PathType;
@@ -17,13 +15,7 @@ pub enum Wanted {
 }
 
 // Two types where they stand.
-fn types_refusal(
-    wanted: Wanted,
-    a: &[u8],
-    x: Cursor,
-    b: &[u8],
-    y: Cursor,
-) -> Result<(), Refusal>
+fn types_refusal(wanted: Wanted, a: &[u8], x: Cursor, b: &[u8], y: Cursor) -> Result<(), Refusal>
     ensures { TypesFit wanted a.now x.at b.now y.at (number_in result) }
 {
     let fits = match wanted {
@@ -31,26 +23,6 @@ fn types_refusal(
         Wanted::RefTo(kind) => same_shape_ref(kind, a, x, b, y),
     };
     if fits { Ok(()) } else { Err(Refusal::Shape) }
-}
-
-// The type at x, and the type of a path that was found in the record or in b.
-fn second_found(
-    wanted: Wanted,
-    a: &[u8],
-    x: Cursor,
-    input: &Record<'_>,
-    b: &[u8; 512],
-    found: Option<PathType>,
-) -> Result<(), Refusal>
-    ensures { (q : Path) → q.base.0 < input.now.head.variables → TypeSays input.now q b.now found → SecondSays wanted input.now a.now x.at q (number_in result) }
-{
-    let Some(second) = found else {
-        return Err(Refusal::Path);
-    };
-    match second {
-        PathType::Inside(y) => types_refusal(wanted, a, x, input.bytes, y),
-        PathType::Written(y) => types_refusal(wanted, a, x, b, y),
-    }
 }
 
 // The type at x, and that of a path.
@@ -70,26 +42,10 @@ fn second_refusal(
         return types_refusal(wanted, a, x, input.bytes, input.variable_at(q.base));
     }
     let mut b = [0; 512];
-    let found = type_of(input, q, &mut b);
-    second_found(wanted, a, x, input, &b, found)
-}
-
-// The type of a path that was found in the record or in a, and that of another.
-fn pair_found(
-    wanted: Wanted,
-    input: &Record<'_>,
-    a: &[u8; 512],
-    found: Option<PathType>,
-    q: Path,
-) -> Result<(), Refusal>
-    ensures { (p : Path) → p.base.0 < input.now.head.variables → TypeSays input.now p a.now found → PairSays wanted input.now p q (number_in result) }
-{
-    let Some(first) = found else {
-        return Err(Refusal::Path);
-    };
-    match first {
-        PathType::Inside(x) => second_refusal(wanted, input, input.bytes, x, q),
-        PathType::Written(x) => second_refusal(wanted, input, a, x, q),
+    match type_of(input, q, &mut b) {
+        Some(PathType::Inside(y)) => types_refusal(wanted, a, x, input.bytes, y),
+        Some(PathType::Written(y)) => types_refusal(wanted, a, x, &b, y),
+        None => Err(Refusal::Path),
     }
 }
 
@@ -105,6 +61,9 @@ pub fn pair_refusal(wanted: Wanted, input: &Record<'_>, p: Path, q: Path) -> Res
         return second_refusal(wanted, input, input.bytes, x, q);
     }
     let mut a = [0; 512];
-    let found = type_of(input, p, &mut a);
-    pair_found(wanted, input, &a, found, q)
+    match type_of(input, p, &mut a) {
+        Some(PathType::Inside(x)) => second_refusal(wanted, input, input.bytes, x, q),
+        Some(PathType::Written(x)) => second_refusal(wanted, input, &a, x, q),
+        None => Err(Refusal::Path),
+    }
 }

@@ -11,4 +11,4 @@ pub loop-p-preserved : goal.loop-p-preserved
 loop-p-preserved c = lending-more c.loop-p.invariant c.lend-n.ensures
 
 pub returns : goal.returns
-returns c = ?
+returns c = lending-all c.loop-p.invariant c.loop-p.auto.p-end c.loop-p-test.false (λ few. omega (arith, few, c.min-code.ensures, c.from.ensures))
