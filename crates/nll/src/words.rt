@@ -41,25 +41,11 @@ fn with_rows<const N: usize>(
 {
     let mut used = [0; N];
     let mut dropped = [0; N];
-    by_rows(
-        input,
-        graph,
-        walked,
-        width,
-        &mut used,
-        &mut dropped,
-        words,
-    );
+    by_rows(input, graph, walked, width, &mut used, &mut dropped, words);
 }
 
 // The same with rows of a size for sets of so many words.
-fn seed(
-    input: &Record<'_>,
-    graph: &FuncGraph,
-    walked: &[u32; 32],
-    width: usize,
-    words: &mut [u32],
-)
+fn seed(input: &Record<'_>, graph: &FuncGraph, walked: &[u32; 32], width: usize, words: &mut [u32])
     ensures { Seeds input.now graph.now.first graph.now.succ walked.now width words.old words.new }
 {
     if width <= 1 {
@@ -83,13 +69,5 @@ pub fn solve(
 {
     let shape = shape_of(input.head);
     seed(input, graph, walked, shape.width, words);
-    regionck(
-        input,
-        graph,
-        walked,
-        shape,
-        EndRule::EveryEnd,
-        words,
-        grown,
-    );
+    regionck(input, graph, walked, shape, EndRule::EveryEnd, words, grown);
 }

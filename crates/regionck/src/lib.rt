@@ -80,7 +80,8 @@ fn with_tables<const LIST: usize, const RECENT: usize, const ABSENT: usize, cons
     let mut absent = [0; ABSENT];
     let mut before = [0; BEFORE];
     solve(
-        input, walked,
+        input,
+        walked,
         setup,
         words,
         grown,

@@ -15,12 +15,7 @@ use rerun::{make_room, repeat};
 const MOST: usize = 264;
 
 // Puts the constraints of the first points into the list, of as many as it has room for whatever a point makes. Returns the first point left out.
-pub fn collect(
-    input: &Record<'_>,
-    walked: &[u32; 32],
-    code: usize,
-    list: &mut [u32],
-) -> usize
+pub fn collect(input: &Record<'_>, walked: &[u32; 32], code: usize, list: &mut [u32]) -> usize
     ensures { Holding input.now walked.now code list.new 0 result }
 {
     constraint_list::clear(list);
@@ -84,9 +79,7 @@ fn rest(
         × Sound input.now walked.now setup.now.shape.code absent.new }
 {
     for p in from..setup.shape.code {
-        visit(
-            input, walked, setup, words, last, grew, recent, absent, p,
-        );
+        visit(input, walked, setup, words, last, grew, recent, absent, p);
     }
 }
 
@@ -138,9 +131,7 @@ pub fn round(
         × OwnKept input.now walked.now setup.now.shape.code recent.old recent.new
         × Sound input.now walked.now setup.now.shape.code absent.new }
 {
-    let mut grew = sweep(
-        input, walked, setup, words, last, recent, absent, list, to,
-    );
+    let mut grew = sweep(input, walked, setup, words, last, recent, absent, list, to);
     repeat(
         input, walked, setup, words, &mut grew, recent, before, absent, list, to,
     );
