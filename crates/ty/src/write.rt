@@ -30,6 +30,16 @@ fn put(out: &mut [u8], at: usize, bytes: &[u8])
     out[at..at + bytes.len()].copy_from_slice(bytes);
 }
 
+// The same of a run of any length. A library's copy of it would call memmove, and the C library needs memcpy and memset alone.
+fn put_run(out: &mut [u8], at: usize, bytes: &[u8])
+    requires { at + length bytes.now ≤ length out.old }
+    ensures { take (at + length bytes.now) out.new ≡ take at out.old ++ bytes.now }
+{
+    for i in 0..bytes.len() {
+        out[at + i] = bytes[i];
+    }
+}
+
 // The tag and the number of a region.
 fn spelled(r: Region) -> [u8; 2]
     ensures { result ≡ region_tag (region_of r) ∷ region_number (region_of r) ∷ [] }
@@ -76,7 +86,7 @@ fn put_type(
 {
     let rest = item.nodes(s, left).ok()?;
     let bytes = &s[item.at..rest.next.at.min(s.len())];
-    put(out, at, bytes);
+    put_run(out, at, bytes);
     Some(Wrote {
         next,
         at: at + bytes.len(),

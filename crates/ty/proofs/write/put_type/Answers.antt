@@ -15,8 +15,8 @@ slice_bounds-bytes-count c = (laws.lies c.nodes.ensures (got c.ok.ensures.value 
 pub slice_bounds-bytes-start : goal.slice_bounds-bytes-start
 slice_bounds-bytes-start c = (laws.lies c.nodes.ensures (got c.ok.ensures.value c.in_ok-rest.was) c.min.ensures).ordered
 
-pub put-requires : goal.put-requires
-put-requires c =
+pub put_run-requires : goal.put_run-requires
+put_run-requires c =
     let w = laws.lies c.nodes.ensures (got c.ok.ensures.value c.in_ok-rest.was) c.min.ensures in
     let n = w.nodes in
     let o = w.room in
@@ -24,4 +24,4 @@ put-requires c =
     omega arith
 
 pub returns : goal.returns
-returns c = laws.copied c.nodes.ensures (got c.ok.ensures.value c.in_ok-rest.was) c.min.ensures c.put.ensures
+returns c = laws.copied c.nodes.ensures (got c.ok.ensures.value c.in_ok-rest.was) c.min.ensures c.put_run.ensures
