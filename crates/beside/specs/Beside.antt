@@ -1,5 +1,5 @@
 -- What two types that stand side by side begin with.
-use Rattle.std.specs.Prelude.{◌≡◌, false, cond, ℕ, ◌-◌, ◌≤◌, drop, eqb}
+use Rattle.std.specs.Prelude.{◌≡◌, false, cond, ℕ, ◌-◌, ◌≤◌, drop, eqb, Option, Some, None, Result, Ok, Err}
 use mathlib.Core.List.{List, tail}
 use Rattle.nll_spec.specs.Syntax as syntax
 use Rattle.nll_spec.specs.Syntax.{Ty, UnitTy, Args, RegionArg, TypeArg, Param}
@@ -12,10 +12,6 @@ use Rattle.repr.specs.declared.Cursor.{Cursor}
 use Rattle.repr.specs.declared.BorrowKind.{BorrowKind}
 use Rattle.repr.specs.declared.Region.{Region}
 use Rattle.repr.specs.declared.StructName.{StructName}
-use Rattle.repr.specs.declared.RegionStep.{RegionStep}
-use Rattle.repr.specs.declared.RegionStep.TheVariants as region_step
-use Rattle.repr.specs.declared.NodeStep.{NodeStep}
-use Rattle.repr.specs.declared.NodeStep.TheVariants as node_step
 use Rattle.repr.specs.Stands.{Stands, TypeTo, ArgsTo, FirstType}
 use Rattle.beside.specs.declared.Row.{Row}
 use Rattle.beside.specs.declared.Heads.{Heads}
@@ -25,37 +21,36 @@ use Rattle.beside.specs.declared.First.TheVariants as firsts
 use Rattle.beside.specs.declared.Pair.{Pair}
 use Rattle.beside.specs.declared.Pair.TheVariants as pairs
 use Rattle.beside.specs.declared.Parameter.{Parameter}
+use Rattle.repr.specs.declared.refusal.Refusal.{Refusal}
+use Rattle.repr.specs.declared.Node.{Node}
+use Rattle.repr.specs.declared.Node.TheVariants as nodes
 
 -- ---- Two nodes
 
--- a node of one kind, and any other
-abbrev pub unit_heads : Cursor → NodeStep → Heads
-unit_heads c (node_step.Unit d) = heads.Units c d
-unit_heads c (node_step.Ref k r d) = heads.Differ
-unit_heads c (node_step.Struct z n d) = heads.Differ
-unit_heads c (node_step.Bound i d) = heads.Differ
-unit_heads c (node_step.Refused i) = heads.Differ
+-- nodes of one kind are alike, Refs where their own kinds are one, and structs where their names are
+abbrev pub alike : Node → Node → Option Heads
+alike (nodes.Unit c) (nodes.Unit d) = Some (heads.Units c d)
+alike (nodes.Unit c) (nodes.Ref k r d) = None
+alike (nodes.Unit c) (nodes.Struct z n d) = None
+alike (nodes.Unit c) (nodes.Bound i d) = None
+alike (nodes.Ref k r c) (nodes.Unit d) = None
+alike (nodes.Ref k r c) (nodes.Ref j o d) = cond {A = Option Heads} (same_kind (borrow_kind_of k) (borrow_kind_of j)) (Some (heads.Refs k r c o d)) None
+alike (nodes.Ref k r c) (nodes.Struct z n d) = None
+alike (nodes.Ref k r c) (nodes.Bound i d) = None
+alike (nodes.Struct s m c) (nodes.Unit d) = None
+alike (nodes.Struct s m c) (nodes.Ref k r d) = None
+alike (nodes.Struct s m c) (nodes.Struct z n d) = cond {A = Option Heads} (eqb s.0 z.0) (Some (heads.Structs s (record { from = c; count = m }) (record { from = d; count = n }))) None
+alike (nodes.Struct s m c) (nodes.Bound i d) = None
+alike (nodes.Bound i c) (nodes.Unit d) = None
+alike (nodes.Bound i c) (nodes.Ref k r d) = None
+alike (nodes.Bound i c) (nodes.Struct z n d) = None
+alike (nodes.Bound i c) (nodes.Bound k d) = None
 
-abbrev pub ref_heads : BorrowKind → Region → Cursor → NodeStep → Heads
-ref_heads k r c (node_step.Unit d) = heads.Differ
-ref_heads k r c (node_step.Ref j o d) = cond (same_kind (borrow_kind_of k) (borrow_kind_of j)) (heads.Refs k r c o d) heads.Differ
-ref_heads k r c (node_step.Struct z n d) = heads.Differ
-ref_heads k r c (node_step.Bound i d) = heads.Differ
-ref_heads k r c (node_step.Refused i) = heads.Differ
-
-abbrev pub struct_heads : StructName → Row → NodeStep → Heads
-struct_heads s g (node_step.Unit d) = heads.Differ
-struct_heads s g (node_step.Ref k r d) = heads.Differ
-struct_heads s g (node_step.Struct z n d) = cond (eqb s.0 z.0) (heads.Structs s g (record { from = d; count = n })) heads.Differ
-struct_heads s g (node_step.Bound i d) = heads.Differ
-struct_heads s g (node_step.Refused i) = heads.Differ
-
-abbrev pub heads_of : NodeStep → NodeStep → Heads
-heads_of (node_step.Unit c) other = unit_heads c other
-heads_of (node_step.Ref k r c) other = ref_heads k r c other
-heads_of (node_step.Struct s m c) other = struct_heads s (record { from = c; count = m }) other
-heads_of (node_step.Bound i c) other = heads.Differ
-heads_of (node_step.Refused i) other = heads.Differ
+abbrev pub heads_of : Result Node Refusal → Result Node Refusal → Option Heads
+heads_of (Ok x) (Ok y) = alike x y
+heads_of (Ok x) (Err k) = None
+heads_of (Err k) (Ok y) = None
+heads_of (Err k) (Err i) = None
 
 -- ---- The first parameter, and the others
 
@@ -73,11 +68,11 @@ pub record RegionBeside (bs : List ℕ) (n : ℕ) (h : Args) (over : List ℕ) (
   pub region : head_region h ≡ r
   pub others : ArgsTo bs n (tail_args h) over
 
-abbrev pub RegionIs : List ℕ → ℕ → Args → List ℕ → RegionStep → Type 0
-RegionIs s n h over (region_step.Region r c) = RegionBeside (rest s c) (n - 1) h over (region_of r)
-RegionIs s n h over (region_step.Refused k) = ⊥
+abbrev pub RegionIs : List ℕ → ℕ → Args → List ℕ → Result (Region × Cursor) Refusal → Type 0
+RegionIs s n h over (Ok r) = RegionBeside (rest s r.1) (n - 1) h over (region_of r.0)
+RegionIs s n h over (Err k) = ⊥
 
-pub record RegionSays (s : List ℕ) (row : Row) (r : RegionStep) : Type 0 where
+pub record RegionSays (s : List ℕ) (row : Row) (r : Result (Region × Cursor) Refusal) : Type 0 where
   pub says : (h : Args) (over : List ℕ) → ArgsTo (rest s row.from) row.count h over → arg_nodes h ≤ max_nodes → RegionIs s row.count h over r
 
 -- It is a region, or there is none.
@@ -85,12 +80,12 @@ pub record NoType (bs : List ℕ) (n : ℕ) (h : Args) (over : List ℕ) : Type 
   pub unit : head_type h ≡ UnitTy
   pub others : ArgsTo bs n (tail_args h) over
 
-abbrev pub TypeIs : List ℕ → ℕ → Args → List ℕ → First → Type 0
-TypeIs s n h over (firsts.Type c) = FirstType (rest s c) (n - 1) h over
-TypeIs s n h over (firsts.Other c) = NoType (rest s c) (n - 1) h over
-TypeIs s n h over firsts.Refused = ⊥
+abbrev pub TypeIs : List ℕ → ℕ → Args → List ℕ → Result First Refusal → Type 0
+TypeIs s n h over (Ok (firsts.Type c)) = FirstType (rest s c) (n - 1) h over
+TypeIs s n h over (Ok (firsts.Other c)) = NoType (rest s c) (n - 1) h over
+TypeIs s n h over (Err k) = ⊥
 
-pub record TypeSays (s : List ℕ) (row : Row) (r : First) : Type 0 where
+pub record TypeSays (s : List ℕ) (row : Row) (r : Result First Refusal) : Type 0 where
   pub says : (h : Args) (over : List ℕ) → ArgsTo (rest s row.from) row.count h over → TypeIs s row.count h over r
 
 -- ---- A type beside Unit
@@ -100,13 +95,13 @@ pub record IsUnit (bs : List ℕ) (t : Ty) (over : List ℕ) (c d : Cursor) : Ty
   pub ends : bs ≡ over
   pub next : c ≡ d
 
-abbrev pub UnitIs : List ℕ → Ty → List ℕ → Cursor → Pair → Type 0
-UnitIs s t over b (pairs.Units c d) = IsUnit (rest s c) t over d b
-UnitIs s t over b (pairs.Regions r c o d) = ⊥
-UnitIs s t over b (pairs.Types c d) = ⊥
-UnitIs s t over b pairs.Differ = is_unit t ≡ false
+abbrev pub UnitIs : List ℕ → Ty → List ℕ → Cursor → Option Pair → Type 0
+UnitIs s t over b (Some (pairs.Units c d)) = IsUnit (rest s c) t over d b
+UnitIs s t over b (Some (pairs.Regions r c o d)) = ⊥
+UnitIs s t over b (Some (pairs.Types c d)) = ⊥
+UnitIs s t over b None = is_unit t ≡ false
 
-pub record UnitSays (s : List ℕ) (at : ℕ) (b : Cursor) (r : Pair) : Type 0 where
+pub record UnitSays (s : List ℕ) (at : ℕ) (b : Cursor) (r : Option Pair) : Type 0 where
   pub says : (t : Ty) (over : List ℕ) → TypeTo (drop at s) t over → UnitIs s t over b r
 
 -- ---- The first of m arguments g and of n arguments h
@@ -127,13 +122,13 @@ pub record TypesFirst (of-a : List ℕ) (m : ℕ) (of-b : List ℕ) (n : ℕ) (g
   pub first : FirstType of-a m g p
   pub second : FirstType of-b n h q
 
-abbrev pub PairIs : List ℕ → List ℕ → ℕ → ℕ → Args → Args → List ℕ → List ℕ → Pair → Type 0
-PairIs a b m n g h p q (pairs.Regions r c o d) = RegionsFirst (rest a c) (m - 1) (rest b d) (n - 1) g h p q (region_of r) (region_of o)
-PairIs a b m n g h p q (pairs.Types c d) = TypesFirst (rest a c) (m - 1) (rest b d) (n - 1) g h p q
-PairIs a b m n g h p q (pairs.Units c d) = UnitsFirst (rest a c) (m - 1) (rest b d) (n - 1) g h p q
-PairIs a b m n g h p q pairs.Differ = same_shapes g h ≡ false
+abbrev pub PairIs : List ℕ → List ℕ → ℕ → ℕ → Args → Args → List ℕ → List ℕ → Option Pair → Type 0
+PairIs a b m n g h p q (Some (pairs.Regions r c o d)) = RegionsFirst (rest a c) (m - 1) (rest b d) (n - 1) g h p q (region_of r) (region_of o)
+PairIs a b m n g h p q (Some (pairs.Types c d)) = TypesFirst (rest a c) (m - 1) (rest b d) (n - 1) g h p q
+PairIs a b m n g h p q (Some (pairs.Units c d)) = UnitsFirst (rest a c) (m - 1) (rest b d) (n - 1) g h p q
+PairIs a b m n g h p q None = same_shapes g h ≡ false
 
--- The answer is what two rows begin with; where it is Differ, their shapes differ.
-pub record FirstsSay (a : List ℕ) (x : ℕ) (b : List ℕ) (row : Row) (r : Pair) : Type 0 where
+-- The answer is what two rows begin with; where it is none, their shapes differ.
+pub record FirstsSay (a : List ℕ) (x : ℕ) (b : List ℕ) (row : Row) (r : Option Pair) : Type 0 where
   pub says : (m : ℕ) (g h : Args) (p q : List ℕ) → (m ≡ 0 → ⊥) → ArgsTo (drop x a) m g p → ArgsTo (rest b row.from) row.count h q → arg_nodes h ≤ max_nodes
       → PairIs a b m row.count g h p q r

@@ -1,13 +1,10 @@
 #![tactic(auto)]
 // Two types side by side where they lie: their first nodes, and the first of their arguments.
 ghost use Rattle.std.specs.Prelude.{◌≡◌, ◌-◌};
-ghost use Rattle.nll_spec.specs.Types.{same_kind};
-ghost use Rattle.repr.specs.Reading.{borrow_kind_of};
-ghost use Rattle.beside.specs.Beside.{unit_heads, ref_heads, struct_heads, heads_of, ParameterSays, RegionSays, TypeSays, UnitSays, FirstsSay};
+ghost use Rattle.beside.specs.Beside.{heads_of, ParameterSays, RegionSays, TypeSays, UnitSays, FirstsSay};
 
 use repr::{
-    ArgumentStep, BorrowKind, Cursor, NodeStep, NodesStep, ParameterStep, Region, RegionName,
-    RegionStep, StructName, Variance,
+    Argument, BorrowKind, Cursor, Node, Reading, Refusal, Region, RegionName, StructName, Variance,
 };
 
 // So many arguments or parameters, and where they begin.
@@ -17,7 +14,7 @@ pub struct Row {
     pub count: u8,
 }
 
-// What two types begin with: nodes that are alike, with their regions and where their parts begin, or not.
+// What two types begin with that begin alike: their first nodes, with their regions and where their parts begin.
 #[derive(Clone, Copy)]
 pub enum Heads {
     Units(Cursor, Cursor),
@@ -33,7 +30,6 @@ pub enum Heads {
         a: Row,
         b: Row,
     },
-    Differ,
 }
 
 // The first of some arguments: where its type begins, or, where it has none, what follows it.
@@ -41,7 +37,6 @@ pub enum Heads {
 pub enum First {
     Type(Cursor),
     Other(Cursor),
-    Refused,
 }
 
 // The first arguments of two rows: regions, and where the others begin; types; or Units, and where the others begin.
@@ -55,7 +50,6 @@ pub enum Pair {
     },
     Types(Cursor, Cursor),
     Units(Cursor, Cursor),
-    Differ,
 }
 
 // The first parameter's variance, and the others.
@@ -65,91 +59,49 @@ pub struct Parameter {
     pub others: Row,
 }
 
-// Whether two kinds are one.
-pub fn same_kind(j: BorrowKind, k: BorrowKind) -> bool
-    ensures { result ≡ same_kind (borrow_kind_of j) (borrow_kind_of k) }
-{
-    match j {
-        BorrowKind::Mut => match k {
-            BorrowKind::Mut => true,
-            BorrowKind::Shared => false,
-        },
-        BorrowKind::Shared => match k {
-            BorrowKind::Mut => false,
-            BorrowKind::Shared => true,
-        },
-    }
-}
-
-fn beside_unit(a: Cursor, other: NodeStep) -> Heads
-    ensures { result ≡ unit_heads a other }
-{
-    match other {
-        NodeStep::Unit(b) => Heads::Units(a, b),
-        _ => Heads::Differ,
-    }
-}
-
-fn beside_ref(kind: BorrowKind, r: Region, a: Cursor, other: NodeStep) -> Heads
-    ensures { result ≡ ref_heads kind r a other }
-{
-    match other {
-        NodeStep::Ref {
-            kind: k,
-            region: o,
-            referent: b,
-        } => {
-            if same_kind(kind, k) {
-                Heads::Refs { kind, r, a, o, b }
-            } else {
-                Heads::Differ
-            }
-        }
-        _ => Heads::Differ,
-    }
-}
-
-fn beside_struct(name: StructName, a: Row, other: NodeStep) -> Heads
-    ensures { result ≡ struct_heads name a other }
-{
-    match other {
-        NodeStep::Struct {
-            name: k,
-            count,
-            arguments: from,
-        } => {
-            if name.0 == k.0 {
-                Heads::Structs {
-                    name,
-                    a,
-                    b: Row { from, count },
-                }
-            } else {
-                Heads::Differ
-            }
-        }
-        _ => Heads::Differ,
-    }
-}
-
-// Two nodes side by side.
-pub fn beside(node: NodeStep, other: NodeStep) -> Heads
+// What two nodes begin alike, if they do.
+pub fn beside(node: Result<Node, Refusal>, other: Result<Node, Refusal>) -> Option<Heads>
     ensures { result ≡ heads_of node other }
 {
-    match node {
-        NodeStep::Unit(next) => beside_unit(next, other),
-        NodeStep::Ref {
-            kind,
-            region,
-            referent,
-        } => beside_ref(kind, region, referent, other),
-        NodeStep::Struct {
+    match (node, other) {
+        (Ok(Node::Unit(a)), Ok(Node::Unit(b))) => Some(Heads::Units(a, b)),
+        (
+            Ok(
+                Node::Ref {
+                    kind,
+                    region: r,
+                    referent: a,
+                },
+            ),
+            Ok(
+                Node::Ref {
+                    kind: k,
+                    region: o,
+                    referent: b,
+                },
+            ),
+        ) if kind == k => Some(Heads::Refs { kind, r, a, o, b }),
+        (
+            Ok(
+                Node::Struct {
+                    name,
+                    count: m,
+                    arguments: a,
+                },
+            ),
+            Ok(
+                Node::Struct {
+                    name: k,
+                    count: n,
+                    arguments: b,
+                },
+            ),
+        ) if name == k => Some(Heads::Structs {
             name,
-            count,
-            arguments: from,
-        } => beside_struct(name, Row { from, count }, other),
-        NodeStep::Bound(_, _) => Heads::Differ,
-        NodeStep::Refused(_) => Heads::Differ,
+            a: Row { from: a, count: m },
+            b: Row { from: b, count: n },
+        }),
+        _ => None,
     }
 }
 
@@ -157,10 +109,9 @@ pub fn beside(node: NodeStep, other: NodeStep) -> Heads
 pub fn after(row: Row, next: Cursor) -> Row
     ensures { (result.from ≡ next) × (result.count ≡ row.count - 1) }
 {
-    let n = row.count;
     Row {
         from: next,
-        count: if n == 0 { 0 } else { n - 1 },
+        count: row.count.saturating_sub(1),
     }
 }
 
@@ -175,78 +126,64 @@ pub fn first_parameter(s: &[u8], row: Row) -> Parameter
     if row.count == 0 {
         return none;
     }
-    let from = row.from;
-    match from.parameter(s) {
-        ParameterStep::Refused(_) => none,
-        ParameterStep::Parameter(p, next) => {
-            let variance = p.variance;
-            Parameter {
-                variance,
-                others: after(row, next),
-            }
-        }
+    match row.from.parameter(s) {
+        Ok((p, next)) => Parameter {
+            variance: p.variance,
+            others: after(row, next),
+        },
+        Err(_) => none,
     }
 }
 
 // The region of the first argument, and where the others begin. It is region 0 where the first is a type or there is none.
-fn first_region(s: &[u8], row: Row) -> RegionStep
+fn first_region(s: &[u8], row: Row) -> Reading<Region>
     ensures { RegionSays s.now row result }
 {
-    let from = row.from;
+    let region = Region::Free(RegionName(0));
     if row.count == 0 {
-        return RegionStep::Region(Region::Free(RegionName(0)), from);
+        return Ok((region, row.from));
     }
-    match from.argument(s) {
-        ArgumentStep::Refused(k) => RegionStep::Refused(k),
-        ArgumentStep::Region(r, next) => RegionStep::Region(r, next),
-        ArgumentStep::Type(ty) => match ty.nodes(s, 32) {
-            NodesStep::Refused(k) => RegionStep::Refused(k),
-            NodesStep::Ended { left: _, next } => {
-                RegionStep::Region(Region::Free(RegionName(0)), next)
-            }
-        },
+    match row.from.argument(s)? {
+        Argument::Region(r, next) => Ok((r, next)),
+        Argument::Type(ty) => Ok((region, ty.nodes(s, 32)?.next)),
     }
 }
 
 // The type of the first argument. A region, or none at all, counts as Unit.
-fn first_type(s: &[u8], row: Row) -> First
+fn first_type(s: &[u8], row: Row) -> Result<First, Refusal>
     ensures { TypeSays s.now row result }
 {
-    let from = row.from;
     if row.count == 0 {
-        return First::Other(from);
+        return Ok(First::Other(row.from));
     }
-    match from.argument(s) {
-        ArgumentStep::Refused(_) => First::Refused,
-        ArgumentStep::Region(_, next) => First::Other(next),
-        ArgumentStep::Type(ty) => First::Type(ty),
+    match row.from.argument(s)? {
+        Argument::Region(_, next) => Ok(First::Other(next)),
+        Argument::Type(ty) => Ok(First::Type(ty)),
     }
 }
 
-// A type beside Unit, after which the others begin at b.
-fn unit_first(s: &[u8], c: Cursor, b: Cursor) -> Pair
+// A type beside Unit, after which the others begin at b; none where it is not Unit.
+fn unit_first(s: &[u8], c: Cursor, b: Cursor) -> Option<Pair>
     ensures { UnitSays s.now c.at b result }
 {
-    match c.type_node(s) {
-        NodeStep::Unit(a) => Pair::Units(a, b),
-        _ => Pair::Differ,
+    match c.type_node(s).ok()? {
+        Node::Unit(a) => Some(Pair::Units(a, b)),
+        _ => None,
     }
 }
 
-// The first arguments of two rows; the first has one.
-pub fn first_pair(a: &[u8], x: Cursor, b: &[u8], row: Row) -> Pair
+// The first arguments of two rows, if they are alike; the first has one.
+pub fn first_pair(a: &[u8], x: Cursor, b: &[u8], row: Row) -> Option<Pair>
     ensures { FirstsSay a.now x.at b.now row result }
 {
-    match x.argument(a) {
-        ArgumentStep::Refused(_) => Pair::Differ,
-        ArgumentStep::Region(r, p) => match first_region(b, row) {
-            RegionStep::Refused(_) => Pair::Differ,
-            RegionStep::Region(o, q) => Pair::Regions { r, a: p, o, b: q },
-        },
-        ArgumentStep::Type(c) => match first_type(b, row) {
-            First::Refused => Pair::Differ,
+    match x.argument(a).ok()? {
+        Argument::Region(r, p) => {
+            let (o, q) = first_region(b, row).ok()?;
+            Some(Pair::Regions { r, a: p, o, b: q })
+        }
+        Argument::Type(c) => match first_type(b, row).ok()? {
             First::Other(q) => unit_first(a, c, q),
-            First::Type(d) => Pair::Types(c, d),
+            First::Type(d) => Some(Pair::Types(c, d)),
         },
     }
 }

@@ -4,11 +4,9 @@ use mathlib.Core.Bool.{Bool, true, false, ◌||◌}
 use mathlib.Core.List.{List, [], ◌∷◌, ◌++◌, map}
 use Prim.Native.Nat.{ℕ, zero, suc, ◌+◌, ◌-◌, ◌≤◌, ◌<◌, min}
 use native.Mathlib.Omega.{arith}
-use native.Mathlib.Decide.{dec_lt}
 use lib.ListN.{length, get_or}
 use lib.Seq.{get_or-take}
 use lib.Dec.{T}
-use borrow.Author.Tests.{le-leb, lt-leb}
 use Rattle.nll_spec.specs.Lists.{any}
 use Rattle.nll_spec.specs.Fixpoint.{Table}
 use Rattle.nll_spec.specs.Syntax.{Point, Job}
@@ -23,27 +21,27 @@ use Rattle.repr.specs.Reading.{path_of}
 use Rattle.repr.specs.Parts.{action_says}
 use Rattle.repr.specs.declared.Cursor.{Cursor}
 use Rattle.repr.specs.declared.Action.{Action}
-use Rattle.repr.specs.declared.ActionStep.{ActionStep}
-use Rattle.repr.specs.declared.ActionStep.TheVariants as action_step
-use Rattle.repr.proofs.SpellLaws.{clash}
-use Rattle.record.specs.Layout.{Layout}
+use Rattle.repr.specs.declared.refusal.Refusal.{Refusal}
+use Rattle.record.specs.Layout.{Holds}
 use Rattle.record.specs.Access.{Acts}
-use Rattle.record.specs.declared.Head.{Head}
+use Rattle.record.specs.declared.Record.{Record}
 use Rattle.env.specs.Prefixes.{ShortestOf}
 use Rattle.loans.specs.Table.{entry_of}
 use Rattle.loans.specs.Loans.{loan_of}
 use Rattle.loans.specs.declared.Loan.{Loan}
-use Rattle.borrowck.specs.Search.{meets, no_loan, nth_loan, FirstIs, FoundIn, nth_access, is_found, FirstIn}
-use Rattle.borrowck.specs.Accesses.{Means, accesses_in, Mean, none, more, AccessesOf}
+use Rattle.loans.specs.declared.LoanTable.{LoanTable}
+use Rattle.std.specs.Prelude.{Option, Some, None, Result, Ok}
+use Rattle.std.specs.Option.{unwrap_or}
+use Rattle.std.proofs.Common.{rules}
+use Rattle.borrowck.specs.Search.{meets, no_loan, nth_loan, FoundIn, nth_access, before_conflict, FirstIn}
+use Rattle.borrowck.specs.Accesses.{kind_number, Means, accesses_in, Mean, none, more, AccessesOf}
 use Rattle.borrowck.specs.Scope.{loans_in, is_in, held_loans, SomeIn, Gathered}
-use Rattle.borrowck.specs.Faults.{verdict_of, fault_at, Scoped, hits, Known, Checked}
+use Rattle.borrowck.specs.Faults.{verdict_of, Scoped, hits, Known, Checked}
 use Rattle.borrowck.proofs.FewLaws.{few-at}
 use Rattle.borrowck.proofs.ScopeLaws.{select-holds, scope_split, none-at, same_at, known_at}
 use Rattle.borrowck.specs.declared.Access as own
 use Rattle.borrowck.specs.declared.Conflict.{Conflict}
 use Rattle.borrowck.specs.declared.Fault.{Fault}
-use Rattle.borrowck.specs.declared.Found.{Found}
-use Rattle.borrowck.specs.declared.Found.TheVariants.{At, Nothing}
 use Rattle.borrowck.specs.declared.accesses.Accesses.{Accesses}
 use Rattle.borrowck.specs.declared.scope.Part.{Part}
 
@@ -77,20 +75,22 @@ module _ {A : Type 0} (f : A → Bool) (d : A) where
   any_nowhere xs h = is_false (any f xs) λ t. let x = any_element f xs t in let k = member_place d x.1 in subst T (sym (ap f k.2) ∙ h k.0 k.1) x.2
 
 -- what the search finds among the loans
-found-any : {s : List ℕ} {loans : List Loan} {x : own.Access} {r : Found} → FoundIn s x loans r → (j : Job) → ((i : ℕ) → i < length loans → ShortestOf j (path_of s (nth_loan loans i).path) (nth_loan loans i).shortest) → any (hits j s x) loans ≡ is_found r
-found-any {s} {loans} {x} {r} w j z = go r (w.says j z)
-  where
-    go : (y : Found) → FirstIs (λ i. hits j s x (nth_loan loans i)) (length loans) y → any (hits j s x) loans ≡ is_found y
-    go (At i) f = any_at (hits j s x) no_loan loans i f.0 f.1
-    go Nothing f = any_nowhere (hits j s x) no_loan loans f
+module _ {s : List ℕ} {loans : List Loan} {x : own.Access} where
+  found-some : {i : ℕ} → FoundIn s x loans (Some i) → (j : Job) → ((i : ℕ) → i < length loans → ShortestOf j (path_of s (nth_loan loans i).path) (nth_loan loans i).shortest) → any (hits j s x) loans ≡ true
+  found-some {i} w j z = let f = w.says j z in any_at (hits j s x) no_loan loans i f.0 f.1
+
+  found-none : FoundIn s x loans None → (j : Job) → ((i : ℕ) → i < length loans → ShortestOf j (path_of s (nth_loan loans i).path) (nth_loan loans i).shortest) → any (hits j s x) loans ≡ false
+  found-none w j z = any_nowhere (hits j s x) no_loan loans (w.says j z)
 
 -- ---- Part by part
 
 module _ {s table scope : List ℕ} {p : Point} {accs : Accesses} where
-  pub checked_none : Checked s table scope p accs 0 accs.count
-  checked_none = record { most = omega arith; before = λ j z k l. refl; here = λ j z l. absurd (omega arith) }
+  -- how many accesses there are before the one that was found
+  pub checked_most : {n : ℕ} (r : Option ℕ) → Checked s table scope p accs n r → unwrap_or r accs.count ≤ accs.count
+  checked_most (Some k) w = let l = w.most k refl in omega arith
+  checked_most None w = omega arith
 
-  module _ {many from first : ℕ} (w : Checked s table scope p accs from first) (l : from < many) {part : Part} (g : Gathered table many scope p from part) {c : Conflict} (v : FirstIn s accs.list first (loans_in part) c) where
+  module _ {many from : ℕ} (first : Option ℕ) (w : Checked s table scope p accs from first) (l : from < many) {part : Part} (g : Gathered table many scope p from part) {n : ℕ} (a : n ≡ unwrap_or first accs.count) {r : Option Conflict} (v : FirstIn s accs.list n (loans_in part) r) where
     low : from ≤ part.next
     low = let o = g.on l in omega arith
 
@@ -104,19 +104,23 @@ module _ {s table scope : List ℕ} {p : Point} {accs : Accesses} where
     shortest : (j : Job) → Known j s table part.next → (i : ℕ) → i < length (loans_in part) → ShortestOf j (path_of s (nth_loan (loans_in part) i).path) (nth_loan (loans_in part) i).shortest
     shortest j z = rw g.are (select-holds (λ x. ShortestOf j (path_of s x.path) x.shortest) no_loan (is_in scope p) (entry_of table) from (part.next - from) λ i h. z i (omega (arith, low)))
 
-    pub checked_more : Checked s table scope p accs part.next c.access
-    checked_more = record {
-      most = omega (arith, v.most, w.most);
-      before = λ j z k h. both j (nth_access accs.list k) ∙ rw (w.before j (fewer j z) k (omega (arith, v.most)), found-any (v.before k h) j (shortest j z));
-      here = λ j z h. both j (nth_access accs.list c.access) ∙ go j z h (dec_lt c.access first);
-    }
-      where
-        go : (j : Job) → Known j s table part.next → c.access < accs.count → Dec (c.access < first) → any (hits j s (nth_access accs.list c.access)) (held_loans table scope p 0 from) || any (hits j s (nth_access accs.list c.access)) (loans_in part) ≡ true
-        go j z h (yes o) = rw (found-any (v.here o) j (shortest j z), v.hit o) (or-true (any (hits j s (nth_access accs.list c.access)) (held_loans table scope p 0 from)))
-        go j z h (no o) = let e : c.access ≡ first = omega (arith, v.most) in rw (e, w.here j (fewer j z) (omega arith))
+    -- an access before that conflicts neither below the part nor in it
+    clear : (j : Job) → Known j s table part.next → (k : ℕ) → k < unwrap_or first accs.count → k < before_conflict n r → any (hits j s (nth_access accs.list k)) (held_loans table scope p 0 part.next) ≡ false
+    clear j z k h o = both j (nth_access accs.list k) ∙ rw (w.before j (fewer j z) k h, found-none (v.before k o) j (shortest j z))
 
-  pub checked_all : (count : ℕ) {from first : ℕ} → Checked s table scope p accs from first → from ≡ min count 128 → Checked s table scope p accs (min count 128) first
-  checked_all count {first = first} w e = subst (λ (n : ℕ). Checked s table scope p accs n first) e w
+    pub checked_pass : r ≡ None → Checked s table scope p accs part.next first
+    checked_pass e = record {
+      before = λ j z k h. clear j z k h (rw e (omega (arith, a)));
+      most = w.most;
+      here = λ k o j z. both j (nth_access accs.list k) ∙ rw (w.here k o j (fewer j z));
+    }
+
+    pub checked_more : {c : Conflict} → r ≡ Some c → Checked s table scope p accs part.next (Some c.access)
+    checked_more {c} e = record {
+      before = λ j z k h. clear j z k (let m = v.most c e in omega (arith, a)) (rw e h);
+      most = λ k o. let i : k ≡ c.access = search rules in let m = v.most c e in let o = checked_most first w in omega (arith, a);
+      here = λ k o j z. let i : k ≡ c.access = search rules in rw i (both j (nth_access accs.list c.access) ∙ rw (found-some (v.here c e) j (shortest j z)) (or-true (any (hits j s (nth_access accs.list c.access)) (held_loans table scope p 0 from))));
+    }
 
 -- ---- The first fault
 
@@ -150,7 +154,7 @@ module _ (s : List ℕ) (j : Job) (loans : List spec.Loan) where
   fault_none {xs = x ∷ xs} {bs = b ∷ bs} (more m w) i h = first_false j loans i b bs (some_is m ∙ h 0 (omega arith)) ∙ fault_none w (suc i) (λ k l. h (suc k) (omega arith))
 
   -- access k is the first that conflicts
-  fault_first : {xs : List own.Access} {bs : List Access} → Mean s xs bs → (i k : ℕ) → ((m : ℕ) → m < k → some (nth_access xs m) ≡ false) → k < length xs → some (nth_access xs k) ≡ true → first_fault j loans i bs ≡ record { kind = (nth_access xs k).fault; operand = i + k }
+  fault_first : {xs : List own.Access} {bs : List Access} → Mean s xs bs → (i k : ℕ) → ((m : ℕ) → m < k → some (nth_access xs m) ≡ false) → k < length xs → some (nth_access xs k) ≡ true → first_fault j loans i bs ≡ record { kind = kind_number (nth_access xs k).fault; operand = i + k }
   fault_first none i k h l e = absurd (omega arith)
   fault_first {xs = x ∷ xs} {bs = b ∷ bs} (more m w) i zero h l e = first_true j loans i b bs (some_is m ∙ e) ∙ (let o : i + 0 ≡ i = omega arith in rw (m.kind, o))
   fault_first {xs = x ∷ xs} {bs = b ∷ bs} (more m w) i (suc k) h l e =
@@ -160,43 +164,49 @@ module _ (s : List ℕ) (j : Job) (loans : List spec.Loan) where
 -- ---- The verdict at a point
 
 -- the accesses of the point's action
-mean_at : {s layout : List ℕ} {p : Point} {v : ActionStep} → ((h : Head) (j : Job) → Layout s layout h j → p < code_count j.blocks → Acts s (action_at (graph_of j) p) v) → {a : Action} {c : Cursor} → v ≡ action_step.Action a c → {accs : Accesses} → AccessesOf s a c accs → (h : Head) (j : Job) → Layout s layout h j → p < code_count j.blocks → Mean s (accesses_in accs) (accesses (action_at (graph_of j) p))
-mean_at {s} {p = p} m e o h j w l = o.says _ _ (sym (ap (action_says s) e) ∙ (m h j w l).reads) (few-at w p)
+mean_at : (input : Record) (p : Point) {v : Result (Action × Cursor) Refusal} → ((j : Job) → Holds input j → p < code_count j.blocks → Acts input.bytes.now (action_at (graph_of j) p) v) → {a : Action} {c : Cursor} → v ≡ Ok (a, c) → {accs : Accesses} → AccessesOf input.bytes.now a c accs → (j : Job) → Holds input j → p < code_count j.blocks → Mean input.bytes.now (accesses_in accs) (accesses (action_at (graph_of j) p))
+mean_at input p m e o j w l = o.says _ _ (sym (ap (action_says input.bytes.now) e) ∙ (m j w l).reads) (few-at w p)
 
-module _ {s layout table : List ℕ} {count : ℕ} {scope : List ℕ} {p : Point} where
-  pub verdict_free : {b : Bool} → SomeIn scope p b → b ≡ false → (h : Head) (j : Job) (t : Table) → Layout s layout h j → p < code_count j.blocks → Scoped s j table count scope p t → verdict_of (record { kind = 0; operand = 0 }) ≡ verdict_at j (graph_of j) t (loans_of (graph_of j)) p
+module _ (input : Record) (lent : LoanTable) (scope : List ℕ) (p : Point) where
+  -- The verdict at p, as `nll_spec` has it.
+  abbrev Says : Option Fault → Type 0
+  Says r = (j : Job) (t : Table) → Holds input j → p < code_count j.blocks → Scoped input.bytes.now j lent scope p t → verdict_of r ≡ verdict_at j (graph_of j) t (loans_of (graph_of j)) p
+
+  pub verdict_free : {b : Bool} → SomeIn scope p b → b ≡ false → Says None
   unfolding verdict_at
-  verdict_free o i h j t w l z = let xs = accesses (action_at (graph_of j) p) in sym (ap (λ (free : List spec.Loan). first_fault j free 0 xs) (none-at z o i (omega (arith, w.few))) ∙ first_free j 0 xs)
+  verdict_free o i j t w l z = let xs = accesses (action_at (graph_of j) p) in sym (ap (λ (free : List spec.Loan). first_fault j free 0 xs) (none-at z o i (omega (arith, w.few))) ∙ first_free j 0 xs)
 
-  module _ {v : ActionStep} (m : (h : Head) (j : Job) → Layout s layout h j → p < code_count j.blocks → Acts s (action_at (graph_of j) p) v) where
-    pub verdict_refused : {k : ℕ} {r : Fault} → v ≡ action_step.Refused k → (h : Head) (j : Job) (t : Table) → Layout s layout h j → p < code_count j.blocks → Scoped s j table count scope p t → verdict_of r ≡ verdict_at j (graph_of j) t (loans_of (graph_of j)) p
-    verdict_refused e h j t w l z = absurd (clash (sym (ap (action_says s) e) ∙ (m h j w l).reads))
-
-    module _ {a : Action} {c : Cursor} (e : v ≡ action_step.Action a c) {accs : Accesses} (o : AccessesOf s a c accs) where
-      pub verdict_idle : accs.count ≡ 0 → (h : Head) (j : Job) (t : Table) → Layout s layout h j → p < code_count j.blocks → Scoped s j table count scope p t → verdict_of (record { kind = 0; operand = 0 }) ≡ verdict_at j (graph_of j) t (loans_of (graph_of j)) p
+  module _ {v : Result (Action × Cursor) Refusal} (m : (j : Job) → Holds input j → p < code_count j.blocks → Acts input.bytes.now (action_at (graph_of j) p) v) where
+    module _ {a : Action} {c : Cursor} (e : v ≡ Ok (a, c)) {accs : Accesses} (o : AccessesOf input.bytes.now a c accs) where
+      pub verdict_idle : accs.count ≡ 0 → Says None
       unfolding verdict_at
-      verdict_idle i h j t w l z = sym (fault_none s j (in_scope_at t (loans_of (graph_of j)) p) (mean_at m e o h j w l) 0 (λ k n. absurd (omega (arith, i, o.all))))
+      verdict_idle i j t w l z = sym (fault_none input.bytes.now j (in_scope_at t (loans_of (graph_of j)) p) (mean_at input p m e o j w l) 0 (λ k n. absurd (omega (arith, i, o.all))))
 
-      pub verdict_there : {k : ℕ} {r : Fault} → Checked s table scope p accs (min count 128) k → r ≡ fault_at accs k → (h : Head) (j : Job) (t : Table) → Layout s layout h j → p < code_count j.blocks → Scoped s j table count scope p t → verdict_of r ≡ verdict_at j (graph_of j) t (loans_of (graph_of j)) p
-      unfolding verdict_at
-      verdict_there {k} {r} y i h j t w l z = ap verdict_of i ∙ go (dec_lt k accs.count)
-        where
-          given : List spec.Loan
+      module _ {r : Option ℕ} (y : Checked input.bytes.now lent.numbers scope p accs (min lent.count 128) r) where
+        module _ (j : Job) (t : Table) (z : Scoped input.bytes.now j lent scope p t) where
+          abbrev s : List ℕ
+          s = input.bytes.now
+
+          abbrev given : List spec.Loan
           given = in_scope_at t (loans_of (graph_of j)) p
 
           -- of the accesses, as the check has it
-          tested : (n : ℕ) → n < accs.count → some s j given (nth_access (accesses_in accs) n) ≡ any (hits j s (nth_access accs.list n)) (held_loans table scope p 0 (min count 128))
+          tested : (n : ℕ) → n < accs.count → some s j given (nth_access (accesses_in accs) n) ≡ any (hits j s (nth_access accs.list n)) (held_loans lent.numbers scope p 0 (min lent.count 128))
           tested n u =
               let f = z.loans.few in
-              let b : min count 128 ≡ count = omega arith in
-              rw (b, get_or-take accs.count accs.list n (nth_access [] 0) u, sym (same_at z)) (any-map (meets j (nth_access accs.list n).depth (nth_access accs.list n).mode (path_of s (nth_access accs.list n).path)) (loan_of s) (held_loans table scope p 0 count))
+              let b : min lent.count 128 ≡ lent.count = omega arith in
+              rw (b, get_or-take accs.count accs.list n (nth_access [] 0) u, sym (same_at z)) (any-map (meets j (nth_access accs.list n).depth (nth_access accs.list n).mode (path_of s (nth_access accs.list n).path)) (loan_of s) (held_loans lent.numbers scope p 0 lent.count))
 
-          known : Known j s table (min count 128)
+          known : Known j s lent.numbers (min lent.count 128)
           known n u = known_at z n (omega arith)
 
-          go : Dec (k < accs.count) → verdict_of (fault_at accs k) ≡ first_fault j given 0 (accesses (action_at (graph_of j) p))
-          go (yes u) =
-              let b : 0 + k ≡ k = omega arith in
-              rw (lt-leb accs.count k u)
-              (sym (rw (b, get_or-take accs.count accs.list k (nth_access [] 0) u) at (fault_first s j given (mean_at m e o h j w l) 0 k (λ n d. tested n (omega arith) ∙ y.before j known n d) (omega (arith, o.all)) (tested k u ∙ y.here j known u))))
-          go (no u) = rw (le-leb accs.count k (omega arith)) (sym (fault_none s j given (mean_at m e o h j w l) 0 (λ n d. let d' : n < accs.count = omega (arith, o.all) in tested n d' ∙ y.before j known n (omega (arith, y.most)))))
+        pub verdict_clear : r ≡ None → Says None
+        unfolding verdict_at
+        verdict_clear h j t w l z = sym (fault_none input.bytes.now j (given j t z) (mean_at input p m e o j w l) 0 (λ n d. let d' : n < accs.count = omega (arith, o.all) in tested j t z n d' ∙ y.before j (known j t z) n (rw h d')))
+
+        pub verdict_fault : {k : ℕ} → r ≡ Some k → Says (Some (record { kind = (nth_access accs.list k).fault; operand = k }))
+        unfolding verdict_at
+        verdict_fault {k} h j t w l z =
+            let u = y.most k h in
+            let b : 0 + k ≡ k = omega arith in
+            sym (rw (b, get_or-take accs.count accs.list k (nth_access [] 0) u) at (fault_first input.bytes.now j (given j t z) (mean_at input p m e o j w l) 0 k (λ n d. tested j t z n (omega arith) ∙ y.before j (known j t z) n (rw h d)) (omega (arith, o.all)) (tested j t z k u ∙ y.here k h j (known j t z))))

@@ -7,7 +7,6 @@ use native.Mathlib.Omega.{arith}
 use native.Mathlib.Numerals.{add-one}
 use lib.ListN.{length, get_or, set, take, length-set}
 use lib.Seq.{take-suc-set}
-use lib.Dec.{T}
 use Rattle.nll_spec.specs.Lists.{select, count_from}
 use Rattle.nll_spec.specs.Fixpoint.{Table, holds}
 use Rattle.nll_spec.specs.Syntax.{Point, Job}
@@ -17,17 +16,14 @@ use Rattle.nll_spec.specs.Loans.{loans_of, loan_number}
 use Rattle.nll_spec.specs.Access.{in_scope_at}
 use Rattle.nll_spec.specs.Output.{word_bits}
 use Rattle.bit_set.specs.Bits.{has}
-use Rattle.bit_slice.specs.Some.{SomeSet}
 use Rattle.env.specs.Prefixes.{ShortestOf}
 use Rattle.loans.specs.Table.{entry_of}
 use Rattle.loans.specs.Loans.{loan_of}
 use Rattle.loans.specs.declared.Loan.{Loan}
+use Rattle.loans.specs.declared.LoanTable.{LoanTable}
 use Rattle.loans.proofs.ListLaws.{count-split, select-append}
-use Rattle.borrowck.specs.Scope.{is_in, held_loans, SomeIn, Gathered}
+use Rattle.borrowck.specs.Scope.{is_in, held_loans, SomeIn}
 use Rattle.borrowck.specs.Faults.{Scoped, Known}
-
-pub apart : true ≡ false → ⊥
-apart e = subst T e tt
 
 -- ---- Selected numbers
 
@@ -73,16 +69,13 @@ module _ (table scope : List ℕ) (p : Point) where
       ∙ select-split (is_in scope p) (entry_of table) from (i - from) 1
       ∙ ap (λ (a : ℕ). held_loans table scope p from i ++ map (entry_of table) (select (is_in scope p) (count_from a 1))) o
 
-  scope_none : (from : ℕ) → held_loans table scope p from from ≡ []
-  scope_none from = let e : from - from ≡ 0 = omega arith in rw e
-
 -- ---- A part
 
 -- The first n loans are those from number `from` on and below i that are in scope.
 pub record Gathering (table : List ℕ) (many : ℕ) (scope : List ℕ) (p : Point) (from i n : ℕ) (loans : List Loan) : Type 0 where
   pub size : length loans ≡ 16
   pub low : from ≤ i
-  pub high : from ≤ many → i ≤ many
+  pub high : i - from ≤ many - from
   pub most : n ≤ i - from
   pub few : n ≤ 16
   pub are : take n loans ≡ held_loans table scope p from i
@@ -92,9 +85,6 @@ at-bit : (scope : List ℕ) (p i : ℕ) {b : Bool} → b ≡ has scope (word_bit
 at-bit scope p i e = let k : word_bits * (4 * p) + i ≡ 128 * p + i = omega arith in e ∙ ap (has scope) k
 
 module _ {table : List ℕ} {many : ℕ} {scope : List ℕ} {p : Point} {from : ℕ} where
-  pub gathering_none : {loans : List Loan} → length loans ≡ 16 → Gathering table many scope p from from 0 loans
-  gathering_none e = record { size = e; low = omega arith; high = λ l. l; most = omega arith; few = omega arith; are = sym (scope_none table scope p from) }
-
   module _ {i n : ℕ} {loans : List Loan} (g : Gathering table many scope p from i n loans) where
     module _ {b : Bool} (l : i < many) (e : b ≡ has scope (word_bits * (4 * p) + i)) where
       is_in_lem : b ≡ is_in scope p i
@@ -104,7 +94,7 @@ module _ {table : List ℕ} {many : ℕ} {scope : List ℕ} {p : Point} {from : 
       gathering_pass h = record {
         size = g.size;
         low = omega (arith, g.low);
-        high = λ o. omega arith;
+        high = omega (arith, g.low);
         most = omega (arith, g.most, g.low);
         few = g.few;
         are = rw (scope_more table scope p from i g.low, sym is_in_lem, h, append-nil (held_loans table scope p from i)) g.are;
@@ -114,7 +104,7 @@ module _ {table : List ℕ} {many : ℕ} {scope : List ℕ} {p : Point} {from : 
       gathering_more {x} h o z = record {
         size = length-set loans n x ∙ g.size;
         low = omega (arith, g.low);
-        high = λ o. omega arith;
+        high = omega (arith, g.low);
         most = omega (arith, g.most, g.low);
         few = omega (arith, g.few, z);
         are =
@@ -123,21 +113,6 @@ module _ {table : List ℕ} {many : ℕ} {scope : List ℕ} {p : Point} {from : 
             ∙ rw (g.are, o) (sym (rw (scope_more table scope p from i g.low, sym is_in_lem, h)));
       }
 
-    pub gathered_full : i < many → n ≡ 16 → Gathered table many scope p from (record { loans = loans; count = n; next = i })
-    gathered_full l e = record { few = g.few; most = g.high; on = λ o. omega (arith, g.most); are = g.are }
-
-    pub gathered_all : many ≤ i → Gathered table many scope p from (record { loans = loans; count = n; next = i })
-    gathered_all l = record { few = g.few; most = g.high; on = λ o. omega arith; are = g.are }
-
--- ---- Whether there is one
-
-module _ {scope : List ℕ} {p : Point} where
-  pub some_in : {b : Bool} → p < 1024 → SomeSet scope (4 * p) 4 b → SomeIn scope p b
-  some_in l w = record { here = λ e. l; none = λ e h i o. let k : word_bits * (4 * p) + i ≡ 128 * p + i = omega arith in subst (λ (m : ℕ). has scope m ≡ false) k (w.none e i (omega arith)) }
-
-  pub some_past : 1024 ≤ p → SomeIn scope p false
-  some_past l = record { here = λ e. absurd (apart (sym e)); none = λ e h i o. absurd (omega arith) }
-
 -- ---- The loans in scope of a job
 
 -- nothing is selected where nothing passes the test
@@ -145,17 +120,17 @@ select-none : (f : ℕ → Bool) (a n : ℕ) → ((i : ℕ) → i < a + n → f 
 select-none f a zero h = refl
 select-none f a (suc n) h = rw (h a (omega arith)) (select-none f (suc a) n (λ i l. h i (omega arith)))
 
-module _ {s : List ℕ} {j : Job} {table : List ℕ} {count : ℕ} {scope : List ℕ} {p : Point} {t : Table} (z : Scoped s j table count scope p t) where
-  pub same_at : map (loan_of s) (held_loans table scope p 0 count) ≡ in_scope_at t (loans_of (graph_of j)) p
+module _ {s : List ℕ} {j : Job} {lent : LoanTable} {scope : List ℕ} {p : Point} {t : Table} (z : Scoped s j lent scope p t) where
+  pub same_at : map (loan_of s) (held_loans lent.numbers scope p 0 lent.count) ≡ in_scope_at t (loans_of (graph_of j)) p
   unfolding in_scope_at
   same_at =
-      let e : count - 0 ≡ count = omega arith in
-      map-map (loan_of s) (entry_of table) (select (is_in scope p) (count_from 0 (count - 0)))
-      ∙ rw e (select-same (is_in scope p) (λ i. holds t i p) (λ i. loan_of s (entry_of table i)) (loan_number (loans_of (graph_of j))) 0 count (λ i o. z.bits i (omega arith)) (λ i o. z.loans.same i (omega arith)))
+      let e : lent.count - 0 ≡ lent.count = omega arith in
+      map-map (loan_of s) (entry_of lent.numbers) (select (is_in scope p) (count_from 0 (lent.count - 0)))
+      ∙ rw e (select-same (is_in scope p) (λ i. holds t i p) (λ i. loan_of s (entry_of lent.numbers i)) (loan_number (loans_of (graph_of j))) 0 lent.count (λ i o. z.bits i (omega arith)) (λ i o. z.loans.same i (omega arith)))
       ∙ ap (λ n. map (loan_number (loans_of (graph_of j))) (select (λ i. holds t i p) (count_from 0 n))) z.loans.count
 
   pub none-at : {b : Bool} → SomeIn scope p b → b ≡ false → p < 1024 → in_scope_at t (loans_of (graph_of j)) p ≡ []
-  none-at w e l = sym same_at ∙ ap (λ (ns : List ℕ). map (loan_of s) (map (entry_of table) ns)) (select-none (is_in scope p) 0 (count - 0) λ i o. let f = z.loans.few in w.none e l i (omega arith))
+  none-at w e l = sym same_at ∙ ap (λ (ns : List ℕ). map (loan_of s) (map (entry_of lent.numbers) ns)) (select-none (is_in scope p) 0 (lent.count - 0) λ i o. let f = z.loans.few in w.none e l i (omega arith))
 
-  pub known_at : Known j s table count
-  known_at i l = subst (λ (x : spec.Loan). ShortestOf j x.path (entry_of table i).shortest) (sym (z.loans.same i l)) (z.loans.shortest i l)
+  pub known_at : Known j s lent.numbers lent.count
+  known_at i l = subst (λ (x : spec.Loan). ShortestOf j x.path (entry_of lent.numbers i).shortest) (sym (z.loans.same i l)) (z.loans.shortest i l)

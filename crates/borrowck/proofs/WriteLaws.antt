@@ -14,12 +14,14 @@ use Rattle.nll_spec.specs.Loans.{loans_of}
 use Rattle.nll_spec.specs.Access.{Verdict, no_fault, accesses, first_fault, in_scope_at, verdict_at}
 use Rattle.nll_spec.specs.Output.{overwrite}
 use Rattle.nll_spec.proofs.GraphLaws.{code-count}
-use Rattle.record.specs.Layout.{Layout}
-use Rattle.record.specs.declared.Head.{Head}
+use Rattle.record.specs.Layout.{Holds}
+use Rattle.record.specs.declared.Record.{Record}
 use Rattle.bit_set.specs.Bits.{has}
 use Rattle.loans.specs.Loans.{LoansAt}
+use Rattle.loans.specs.declared.LoanTable.{LoanTable}
+use Rattle.std.specs.Prelude.{Option, None}
 use Rattle.loans.proofs.ListLaws.{count-split, gather_append}
-use Rattle.borrowck.specs.Faults.{verdict_of, Scoped, Judged, bytes_to}
+use Rattle.borrowck.specs.Faults.{verdict_of, Judged, bytes_to}
 use Rattle.borrowck.specs.declared.Fault.{Fault}
 
 -- ---- A point that does nothing
@@ -32,12 +34,9 @@ idle : (j : Job) (t : Table) (p : Point) → code_count j.blocks ≤ p → verdi
 unfolding verdict_at first_fault accesses
 idle j t p h = ap (λ (a : Action). first_fault j (in_scope_at t (loans_of (graph_of j)) p) 0 (accesses a)) (no_action j p h)
 
-module _ {s layout : List ℕ} {h : Head} {table : List ℕ} {count : ℕ} {scope : List ℕ} {p : Point} {w : ℕ} (same : w ≡ h.code) where
-  pub judged_idle : w ≤ p → Judged s layout h table count scope p (record { kind = 0; operand = 0 })
-  judged_idle l = record { says = λ j t z b. sym (idle j t p (omega (arith, same, z.code))) }
-
-  pub judged-there : {r : Fault} → p < w → ((k : Head) (j : Job) (t : Table) → Layout s layout k j → p < code_count j.blocks → Scoped s j table count scope p t → verdict_of r ≡ verdict_at j (graph_of j) t (loans_of (graph_of j)) p) → Judged s layout h table count scope p r
-  judged-there l f = record { says = λ j t z b. let i : p < code_count j.blocks = omega (arith, same, z.code) in f h j t z i (b i) }
+module _ {input : Record} {lent : LoanTable} {scope : List ℕ} {p : Point} where
+  pub judged_idle : input.head.code ≤ p → Judged input lent scope p None
+  judged_idle l = record { says = λ j t z b. sym (idle j t p (omega (arith, z.code))) }
 
 -- ---- Two bytes more
 
@@ -66,36 +65,33 @@ overwrite-two xs old n a b e h =
 
 -- ---- What the loop keeps
 
-pub record Writing (s layout : List ℕ) (h : Head) (table : List ℕ) (count : ℕ) (scope old : List ℕ) (p : Point) (new : List ℕ) : Type 0 where
+pub record Writing (input : Record) (lent : LoanTable) (scope old : List ℕ) (p : Point) (new : List ℕ) : Type 0 where
   pub size : length new ≡ length old
-  pub is : (j : Job) (t : Table) → Layout s layout h j → LoansAt s j table count → ((q : Point) → q < code_count j.blocks → (i : Point) → i < count → has scope (128 * q + i) ≡ holds t i q) → new ≡ overwrite (bytes_to (verdict_at j (graph_of j) t (loans_of (graph_of j))) p) old
+  pub is : (j : Job) (t : Table) → Holds input j → LoansAt input.bytes.now j lent.numbers lent.count → ((q : Point) → q < code_count j.blocks → (i : Point) → i < lent.count → has scope (128 * q + i) ≡ holds t i q) → new ≡ overwrite (bytes_to (verdict_at j (graph_of j) t (loans_of (graph_of j))) p) old
 
-module _ {s layout : List ℕ} {h : Head} {table : List ℕ} {count : ℕ} {scope old : List ℕ} where
-  pub writing-none : Writing s layout h table count scope old 0 old
-  writing-none = record { size = refl; is = λ j t w l b. refl }
-
-  pub writing_more : {p : Point} {new : List ℕ} {f : Fault} → Writing s layout h table count scope old p new → Judged s layout h table count scope p f → 2 * p + 2 ≤ length old
-      → Writing s layout h table count scope old (p + 1) (set (set new (2 * p) f.kind) (2 * p + 1) f.operand)
-  writing_more {p} {new} {f} g v room = record {
-    size = length-set (set new (2 * p) f.kind) (2 * p + 1) f.operand ∙ length-set new (2 * p) f.kind ∙ g.size;
-    is = λ j t w l b.
+module _ {input : Record} {lent : LoanTable} {scope old : List ℕ} where
+  pub writing_more : {p : Point} {new : List ℕ} {r : Option Fault} {a b : ℕ} → Writing input lent scope old p new → Judged input lent scope p r → (a ≡ (verdict_of r).kind) × (b ≡ (verdict_of r).operand) → 2 * p + 2 ≤ length old
+      → Writing input lent scope old (p + 1) (set (set new (2 * p) a) (2 * p + 1) b)
+  writing_more {p} {new} {r} {a} {b} g v m room = record {
+    size = length-set (set new (2 * p) a) (2 * p + 1) b ∙ length-set new (2 * p) a ∙ g.size;
+    is = λ j t w l h.
         let verdicts = verdict_at j (graph_of j) t (loans_of (graph_of j)) in
-        let e : verdict_of f ≡ verdicts p = v.says j t w (λ i. record { loans = l; bits = b p i }) in
-        ap (λ (x : List ℕ). set (set x (2 * p) f.kind) (2 * p + 1) f.operand) (g.is j t w l b)
-        ∙ overwrite-two (bytes_to verdicts p) old (2 * p) f.kind f.operand (bytes-length verdicts 0 p) room
-        ∙ ap (λ (x : Verdict). overwrite (bytes_to verdicts p ++ (x.kind ∷ x.operand ∷ [])) old) e
+        let e : verdict_of r ≡ verdicts p = v.says j t w (λ i. record { loans = l; bits = h p i }) in
+        ap (λ (x : List ℕ). set (set x (2 * p) a) (2 * p + 1) b) (g.is j t w l h)
+        ∙ overwrite-two (bytes_to verdicts p) old (2 * p) a b (bytes-length verdicts 0 p) room
+        ∙ rw (m.0, m.1) (ap (λ (x : Verdict). overwrite (bytes_to verdicts p ++ (x.kind ∷ x.operand ∷ [])) old) e)
         ∙ ap (λ (x : List ℕ). overwrite x old) (sym (bytes-more verdicts p));
   }
 
-module _ {s layout : List ℕ} {h : Head} {points a b : ℕ} (code : a ≡ h.code) (declared : b ≡ h.declared) (sum : points ≡ a + b) where
-  count-is : (j : Job) → Layout s layout h j → point_count j ≡ points
+module _ (input : Record) where
+  count-is : (j : Job) → Holds input j → point_count j ≡ input.head.code + input.head.declared
   unfolding point_count
-  count-is j w = omega (arith, code, declared, sum, w.code, w.declared_count)
+  count-is j w = omega (arith, w.code, w.declared_count)
 
-  module _ {table : List ℕ} {count : ℕ} (scope old : List ℕ) where
+  module _ (lent : LoanTable) (scope old : List ℕ) where
     -- there is no room
-    pub written_nothing : {new : List ℕ} → length old < 2 * points → (j : Job) (t : Table) → Layout s layout h j → LoansAt s j table count → ((q : Point) → q < code_count j.blocks → (i : Point) → i < count → has scope (128 * q + i) ≡ holds t i q) → 2 * point_count j ≤ length old → new ≡ overwrite (bytes_to (verdict_at j (graph_of j) t (loans_of (graph_of j))) (point_count j)) old
+    pub written_nothing : {new : List ℕ} → length old < 2 * (input.head.code + input.head.declared) → (j : Job) (t : Table) → Holds input j → LoansAt input.bytes.now j lent.numbers lent.count → ((q : Point) → q < code_count j.blocks → (i : Point) → i < lent.count → has scope (128 * q + i) ≡ holds t i q) → 2 * point_count j ≤ length old → new ≡ overwrite (bytes_to (verdict_at j (graph_of j) t (loans_of (graph_of j))) (point_count j)) old
     written_nothing l j t w z k m = absurd (omega (arith, count-is j w))
 
-    pub written_all : {p : Point} {new : List ℕ} → Writing s layout h table count scope old p new → p ≤ points → points ≤ p → (j : Job) (t : Table) → Layout s layout h j → LoansAt s j table count → ((q : Point) → q < code_count j.blocks → (i : Point) → i < count → has scope (128 * q + i) ≡ holds t i q) → 2 * point_count j ≤ length old → new ≡ overwrite (bytes_to (verdict_at j (graph_of j) t (loans_of (graph_of j))) (point_count j)) old
-    written_all {p} {new} g x y j t w z k m = let e : p ≡ point_count j = omega (arith, count-is j w) in subst (λ (n : ℕ). new ≡ overwrite (bytes_to (verdict_at j (graph_of j) t (loans_of (graph_of j))) n) old) e (g.is j t w z k)
+    pub written_all : {p : Point} {new : List ℕ} → Writing input lent scope old p new → p ≡ input.head.code + input.head.declared → (j : Job) (t : Table) → Holds input j → LoansAt input.bytes.now j lent.numbers lent.count → ((q : Point) → q < code_count j.blocks → (i : Point) → i < lent.count → has scope (128 * q + i) ≡ holds t i q) → 2 * point_count j ≤ length old → new ≡ overwrite (bytes_to (verdict_at j (graph_of j) t (loans_of (graph_of j))) (point_count j)) old
+    written_all {p} {new} g x j t w z k m = let e : p ≡ point_count j = x ∙ sym (count-is j w) in subst (λ (n : ℕ). new ≡ overwrite (bytes_to (verdict_at j (graph_of j) t (loans_of (graph_of j))) n) old) e (g.is j t w z k)

@@ -1,5 +1,5 @@
 -- The accesses of an action, as `nll_spec` has them.
-use Rattle.std.specs.Prelude.{◌≡◌, List, [], ◌∷◌, map, ℕ, ◌≤◌, length, take, drop}
+use Rattle.std.specs.Prelude.{◌≡◌, List, [], ◌∷◌, map, ℕ, ◌≤◌, length, take, drop, Ok}
 use Rattle.nll_spec.specs.Syntax as syntax
 use Rattle.nll_spec.specs.Syntax.{Path, Job}
 use Rattle.nll_spec.specs.Decode.{read, items, path}
@@ -13,29 +13,37 @@ use Rattle.repr.specs.declared.BorrowKind.{BorrowKind}
 use Rattle.repr.specs.declared.BorrowKind.TheVariants as kinds
 use Rattle.repr.specs.declared.Path as repr
 use Rattle.repr.specs.declared.Action.{Action}
-use Rattle.repr.specs.declared.ActionStep.TheVariants as action_step
 use Rattle.borrowck.specs.Search.{meets}
 use Rattle.borrowck.specs.declared.Access as own
 use Rattle.borrowck.specs.declared.accesses.Accesses.{Accesses}
 use Rattle.borrowck.specs.declared.Depth.TheVariants.{Shallow, Deep}
 use Rattle.borrowck.specs.declared.Mode.TheVariants as modes
+use Rattle.borrowck.specs.declared.FaultKind.{FaultKind}
+use Rattle.borrowck.specs.declared.FaultKind.TheVariants as faults
 
 -- ---- One access
 
+-- the number of a kind of fault
+abbrev pub kind_number : FaultKind → ℕ
+kind_number faults.Read = 1
+kind_number faults.Write = 2
+kind_number faults.Move = 3
+kind_number faults.StorageDead = 4
+
 abbrev pub reading : repr.Path → own.Access
-reading q = record { depth = Deep; mode = modes.Read; path = q; fault = 1 }
+reading q = record { depth = Deep; mode = modes.Read; path = q; fault = faults.Read }
 
 abbrev pub writing : repr.Path → own.Access
-writing q = record { depth = Shallow; mode = modes.Write; path = q; fault = 2 }
+writing q = record { depth = Shallow; mode = modes.Write; path = q; fault = faults.Write }
 
 abbrev pub borrowing : repr.Path → own.Access
-borrowing q = record { depth = Deep; mode = modes.Write; path = q; fault = 2 }
+borrowing q = record { depth = Deep; mode = modes.Write; path = q; fault = faults.Write }
 
 abbrev pub moving : repr.Path → own.Access
-moving q = record { depth = Deep; mode = modes.Write; path = q; fault = 3 }
+moving q = record { depth = Deep; mode = modes.Write; path = q; fault = faults.Move }
 
 abbrev pub dying : Variable → own.Access
-dying v = record { depth = Shallow; mode = modes.Write; path = record { base = v; steps = 0; from = record { at = 0 } }; fault = 4 }
+dying v = record { depth = Shallow; mode = modes.Write; path = record { base = v; steps = 0; from = record { at = 0 } }; fault = faults.StorageDead }
 
 -- what a Borrow does to its source
 abbrev pub lending : BorrowKind → repr.Path → own.Access
@@ -45,7 +53,7 @@ lending kinds.Shared q = reading q
 -- The access is this one of `nll_spec`: it conflicts with the same loans, as the same kind of fault.
 pub record Means (s : List ℕ) (x : own.Access) (a : Access) : Type 0 where
   pub same : (j : Job) (loan : spec.Loan) → conflicts j a loan ≡ meets j x.depth x.mode (path_of s x.path) loan
-  pub kind : x.fault ≡ fault_kind a
+  pub kind : kind_number x.fault ≡ fault_kind a
 
 -- ---- All accesses
 
@@ -67,4 +75,4 @@ pub record WithSources (s : List ℕ) (dest : repr.Path) (from many : ℕ) (r : 
 pub record AccessesOf (s : List ℕ) (a : Action) (next : Cursor) (r : Accesses) : Type 0 where
   pub few : r.count ≤ 9
   pub all : length (accesses_in r) ≡ r.count
-  pub says : (x : syntax.Action) (over : List ℕ) → action_says s (action_step.Action a next) ≡ read x over → length (accesses x) ≤ 9 → Mean s (accesses_in r) (accesses x)
+  pub says : (x : syntax.Action) (over : List ℕ) → action_says s (Ok (a, next)) ≡ read x over → length (accesses x) ≤ 9 → Mean s (accesses_in r) (accesses x)

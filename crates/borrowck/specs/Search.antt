@@ -1,5 +1,5 @@
 -- The search for a loan that conflicts with an access.
-use Rattle.std.specs.Prelude.{◌≡◌, Bool, true, false, ◌&&◌, ◌||◌, List, ℕ, ◌≤◌, ◌<◌, length, get_or, eqb}
+use Rattle.std.specs.Prelude.{◌≡◌, Bool, true, false, ◌&&◌, ◌||◌, List, ℕ, ◌≤◌, ◌<◌, length, get_or, eqb, Option, Some, None}
 use Rattle.nll_spec.specs.Syntax.{BorrowKind, Path, Job}
 use Rattle.nll_spec.specs.Syntax as syntax
 use Rattle.nll_spec.specs.Types.{is_prefix, is_supporting, is_frozen, same_kind}
@@ -16,8 +16,7 @@ use Rattle.borrowck.specs.declared.Depth.{Depth}
 use Rattle.borrowck.specs.declared.Depth.TheVariants.{Shallow, Deep}
 use Rattle.borrowck.specs.declared.Mode.{Mode}
 use Rattle.borrowck.specs.declared.Mode.TheVariants.{Read, Write}
-use Rattle.borrowck.specs.declared.Found.{Found}
-use Rattle.borrowck.specs.declared.Found.TheVariants.{At, Nothing}
+use Rattle.borrowck.specs.declared.FaultKind.TheVariants as fault_kinds
 
 -- ---- One loan
 
@@ -57,10 +56,10 @@ pub record Prefixes (loan : Loan) (x : Access) (n : ℕ) : Type 0 where
 
 -- ---- All loans
 
--- the first number below n that passes the test, or nothing
-abbrev pub FirstIs : (ℕ → Bool) → ℕ → Found → Type 0
-FirstIs f n (At i) = (i < n) × (f i ≡ true) × ((k : ℕ) → k < i → f k ≡ false)
-FirstIs f n Nothing = (k : ℕ) → k < n → f k ≡ false
+-- the first number below n that passes the test, or none
+abbrev pub FirstIs : (ℕ → Bool) → ℕ → Option ℕ → Type 0
+FirstIs f n (Some i) = (i < n) × (f i ≡ true) × ((k : ℕ) → k < i → f k ≡ false)
+FirstIs f n None = (k : ℕ) → k < n → f k ≡ false
 
 -- what is read past the end of a list of loans
 abbrev pub no_loan : Loan
@@ -78,7 +77,7 @@ abbrev pub nth_loan : List Loan → ℕ → Loan
 nth_loan loans i = get_or loans i no_loan
 
 -- The answer is the first of the loans that conflicts with the access, where each loan's shortest prefixes are known.
-pub record FoundIn (s : List ℕ) (x : Access) (loans : List Loan) (r : Found) : Type 0 where
+pub record FoundIn (s : List ℕ) (x : Access) (loans : List Loan) (r : Option ℕ) : Type 0 where
   pub says : (j : Job) → ((i : ℕ) → i < length loans → ShortestOf j (path_of s (nth_loan loans i).path) (nth_loan loans i).shortest)
       → FirstIs (λ i. meets j x.depth x.mode (path_of s x.path) (loan_of s (nth_loan loans i))) (length loans) r
 
@@ -86,20 +85,19 @@ pub record FoundIn (s : List ℕ) (x : Access) (loans : List Loan) (r : Found) :
 
 -- what is read past the end of a list of accesses
 abbrev pub no_access : Access
-no_access = record { depth = Shallow; mode = Read; path = no_loan.path; fault = 0 }
+no_access = record { depth = Shallow; mode = Read; path = no_loan.path; fault = fault_kinds.Read }
 
 -- access number k of a list
 abbrev pub nth_access : List Access → ℕ → Access
 nth_access accesses k = get_or accesses k no_access
 
--- a loan conflicts
-abbrev pub is_found : Found → Bool
-is_found (At i) = true
-is_found Nothing = false
+-- how many accesses there are before the one that conflicts; all where none does
+abbrev pub before_conflict : ℕ → Option Conflict → ℕ
+before_conflict many (Some c) = c.access
+before_conflict many None = many
 
 -- The answer is the first of so many accesses that conflicts with one of the loans, and the first loan that it conflicts with; or there is none.
-pub record FirstIn (s : List ℕ) (accesses : List Access) (many : ℕ) (loans : List Loan) (r : Conflict) : Type 0 where
-  pub most : r.access ≤ many
-  pub before : (k : ℕ) → k < r.access → FoundIn s (nth_access accesses k) loans Nothing
-  pub here : r.access < many → FoundIn s (nth_access accesses r.access) loans r.loan
-  pub hit : r.access < many → is_found r.loan ≡ true
+pub record FirstIn (s : List ℕ) (accesses : List Access) (many : ℕ) (loans : List Loan) (r : Option Conflict) : Type 0 where
+  pub before : (k : ℕ) → k < before_conflict many r → FoundIn s (nth_access accesses k) loans None
+  pub most : (c : Conflict) → r ≡ Some c → c.access < many
+  pub here : (c : Conflict) → r ≡ Some c → FoundIn s (nth_access accesses c.access) loans (Some c.loan)

@@ -2,8 +2,8 @@
 ghost use Rattle.std.specs.Prelude.{◌≡◌, [], ◌∷◌};
 ghost use Rattle.borrowck.specs.Accesses.{reading, writing, borrowing, moving, dying, lending, accesses_in, WithSources, AccessesOf};
 
-use super::{Access, Depth, Mode};
-use repr::{Action, BorrowKind, Cursor, Path, PathStep, Variable};
+use super::{Access, Depth, FaultKind, Mode};
+use repr::{Action, BorrowKind, Cursor, Path, Variable};
 
 // So many accesses, the first `count` of the list.
 #[derive(Clone, Copy)]
@@ -19,7 +19,7 @@ fn read(path: Path) -> Access
         depth: Depth::Deep,
         mode: Mode::Read,
         path,
-        fault: 1,
+        fault: FaultKind::Read,
     }
 }
 
@@ -31,7 +31,7 @@ fn shallow_write(path: Path) -> Access
         depth: Depth::Shallow,
         mode: Mode::Write,
         path,
-        fault: 2,
+        fault: FaultKind::Write,
     }
 }
 
@@ -43,7 +43,7 @@ fn mut_borrow(path: Path) -> Access
         depth: Depth::Deep,
         mode: Mode::Write,
         path,
-        fault: 2,
+        fault: FaultKind::Write,
     }
 }
 
@@ -54,7 +54,7 @@ fn move_out(path: Path) -> Access
         depth: Depth::Deep,
         mode: Mode::Write,
         path,
-        fault: 3,
+        fault: FaultKind::Move,
     }
 }
 
@@ -71,7 +71,7 @@ fn storage_dead(v: Variable) -> Access
         depth: Depth::Shallow,
         mode: Mode::Write,
         path,
-        fault: 4,
+        fault: FaultKind::StorageDead,
     }
 }
 
@@ -82,6 +82,16 @@ fn source_of(kind: BorrowKind, source: Path) -> Access
     match kind {
         BorrowKind::Mut => mut_borrow(source),
         BorrowKind::Shared => read(source),
+    }
+}
+
+// No access.
+fn none() -> Accesses
+    ensures { (result.count ≡ 0) × (accesses_in result ≡ []) }
+{
+    Accesses {
+        list: [storage_dead(Variable(0)); 9],
+        count: 0,
     }
 }
 
@@ -109,22 +119,19 @@ fn with_sources(s: &[u8], dest: Path, from: Cursor, many: u8) -> Accesses
     ensures { WithSources s.now dest from.at many result }
 {
     let mut list = [shallow_write(dest); 9];
-    let mut n = 1;
     let mut c = from;
-    let mut left = many;
-    while left != 0 {
-        let PathStep::Path(q, next) = c.path(s) else {
-            return Accesses { list, count: n };
+    let sources = usize::from(many.min(8));
+    for i in 0..sources {
+        let Ok((q, next)) = c.path(s) else {
+            return Accesses { list, count: i + 1 };
         };
-        if n == 9 {
-            return Accesses { list, count: n };
-        }
-        list[n] = read(q);
-        n += 1;
+        list[i + 1] = read(q);
         c = next;
-        left -= 1;
     }
-    Accesses { list, count: n }
+    Accesses {
+        list,
+        count: sources + 1,
+    }
 }
 
 // The accesses of an action; an Init's sources stand at the cursor.
@@ -132,20 +139,17 @@ pub fn accesses_of(s: &[u8], a: Action, next: Cursor) -> Accesses
     ensures { AccessesOf s.now a next result }
 {
     match a {
-        Action::Init { dest, count: many } => with_sources(s, dest, next, many),
+        Action::Init { dest, count } => with_sources(s, dest, next, count),
         Action::Borrow {
             dest,
-            region: _,
             kind,
             source,
+            ..
         } => two(shallow_write(dest), source_of(kind, source)),
         Action::Assign { dest, source } => two(shallow_write(dest), read(source)),
         Action::Use(q) => one(read(q)),
         Action::Drop(q) => one(move_out(q)),
         Action::StorageDead(v) => one(storage_dead(v)),
-        _ => Accesses {
-            list: [storage_dead(Variable(0)); 9],
-            count: 0,
-        },
+        Action::Noop | Action::Constraint { .. } => none(),
     }
 }

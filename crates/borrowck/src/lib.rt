@@ -13,17 +13,16 @@ ghost use Rattle.nll_spec.specs.Graph.{graph_of};
 ghost use Rattle.nll_spec.specs.Loans.{loans_of};
 ghost use Rattle.nll_spec.specs.Access.{verdict_at};
 ghost use Rattle.nll_spec.specs.Output.{overwrite};
-ghost use Rattle.record.specs.Layout.{Layout};
+ghost use Rattle.record.specs.Layout.{Holds};
 ghost use Rattle.bit_set.specs.Bits.{has};
 ghost use Rattle.loans.specs.Loans.{LoansAt};
 ghost use Rattle.borrowck.specs.Faults.{verdict_of, Scoped, bytes_to, Judged};
-ghost use Rattle.record.specs.declared.Head as heads;
 
 use accesses::accesses_of;
-use checks::{check_accesses, fault_at};
-use record::Head;
-use record::access::action_at;
-use repr::{ActionStep, Path};
+use checks::check_accesses;
+use loans::LoanTable;
+use record::Record;
+use repr::Path;
 use scope::some_in_scope;
 
 // How far an access reaches: the path itself, or all that it leads to.
@@ -33,10 +32,19 @@ pub enum Depth {
     Deep,
 }
 
-#[derive(Clone, Copy)]
+#[derive(Clone, Copy, PartialEq, Eq)]
 pub enum Mode {
     Read,
     Write,
+}
+
+// The kind of a fault, by its number.
+#[derive(Clone, Copy, PartialEq, Eq)]
+pub enum FaultKind {
+    Read = 1,
+    Write = 2,
+    Move = 3,
+    StorageDead = 4,
 }
 
 // What is done to a path: how far it reaches, whether it reads or writes, and the kind of the fault that it is where it conflicts.
@@ -45,122 +53,75 @@ pub struct Access {
     pub depth: Depth,
     pub mode: Mode,
     pub path: Path,
-    pub fault: u8,
+    pub fault: FaultKind,
 }
 
-// The first loan that conflicts, if one does.
-#[derive(Clone, Copy)]
-pub enum Found {
-    At(usize),
-    Nothing,
-}
-
-// The first access that conflicts, and the first loan that it conflicts with; past the accesses where none does.
+// An access that conflicts, and the first loan that it conflicts with, by their numbers.
 #[derive(Clone, Copy)]
 pub struct Conflict {
     pub access: usize,
-    pub loan: Found,
+    pub loan: usize,
 }
 
-// The kind of a fault (1 read, 2 write, 3 move, 4 storage dead) and its operand; both 0 without a fault.
+// The access of an operand conflicts with a loan.
 #[derive(Clone, Copy)]
 pub struct Fault {
-    pub kind: u8,
+    pub kind: FaultKind,
     pub operand: u8,
 }
 
-fn wide(x: u8) -> usize
-    ensures { (result ≡ x) × (result ≤ 255) }
-{
-    x as usize
-}
-
-fn wide16(x: u16) -> usize
-    ensures { (result ≡ x) × (result ≤ 65535) }
-{
-    x as usize
-}
-
 // The verdict at a point of the blocks.
-pub fn verdict(
-    s: &[u8],
-    layout: &[u16; 1280],
-    table: &[u16; 1024],
-    count: usize,
-    scope: &[u32],
-    p: usize,
-) -> Fault
-    requires { (length layout.now ≡ 1280) × (length table.now ≡ 1024) }
-    ensures { (h : heads.Head) (j : Job) (t : Table) → Layout s.now layout.now h j → p < code_count j.blocks → Scoped s.now j table.now count scope.now p t → verdict_of result ≡ verdict_at j (graph_of j) t (loans_of (graph_of j)) p }
+pub fn verdict(input: &Record<'_>, loans: &LoanTable, scope: &[u32], p: usize) -> Option<Fault>
+    ensures { (j : Job) (t : Table) → Holds input.now j → p < code_count j.blocks → Scoped input.now.bytes.now j loans.now scope.now p t → verdict_of result ≡ verdict_at j (graph_of j) t (loans_of (graph_of j)) p }
 {
-    let none = Fault {
-        kind: 0,
-        operand: 0,
-    };
     if !some_in_scope(scope, p) {
-        return none;
+        return None;
     }
-    match action_at(s, layout, p) {
-        ActionStep::Refused(_) => none,
-        ActionStep::Action(a, next) => {
-            let accesses = accesses_of(s, a, next);
-            if accesses.count == 0 {
-                return none;
-            }
-            let k = check_accesses(s, table, count, scope, p, accesses);
-            fault_at(accesses, k)
-        }
+    let (a, next) = input.action_at(p).ok()?;
+    let accesses = accesses_of(input.bytes, a, next);
+    if accesses.count == 0 {
+        return None;
     }
+    let k = check_accesses(input.bytes, loans, scope, p, accesses)?;
+    Some(Fault {
+        kind: accesses.list[k].fault,
+        operand: k as u8,
+    })
 }
 
 // The verdict at any point; the ends of declared regions do nothing.
-fn verdict_at(
-    s: &[u8],
-    layout: &[u16; 1280],
-    head: Head,
-    table: &[u16; 1024],
-    count: usize,
-    scope: &[u32],
-    p: usize,
-) -> Fault
-    requires { (length layout.now ≡ 1280) × (length table.now ≡ 1024) }
-    ensures { Judged s.now layout.now head table.now count scope.now p result }
+fn verdict_at(input: &Record<'_>, loans: &LoanTable, scope: &[u32], p: usize) -> Option<Fault>
+    ensures { Judged input.now loans.now scope.now p result }
 {
-    if wide16(head.code) <= p {
-        return Fault {
-            kind: 0,
-            operand: 0,
-        };
+    if usize::from(input.head.code) <= p {
+        return None;
     }
-    verdict(s, layout, table, count, scope, p)
+    verdict(input, loans, scope, p)
+}
+
+// The two bytes of a verdict; both 0 without a fault.
+fn bytes_of(verdict: Option<Fault>) -> (u8, u8)
+    ensures { (result.0 ≡ (verdict_of verdict).kind) × (result.1 ≡ (verdict_of verdict).operand) }
+{
+    match verdict {
+        Some(fault) => (fault.kind as u8, fault.operand),
+        None => (0, 0),
+    }
 }
 
 // Writes the verdicts of all points, two bytes each, where there is room for them.
-pub fn borrow_check(
-    s: &[u8],
-    layout: &[u16; 1280],
-    head: Head,
-    table: &[u16; 1024],
-    count: usize,
-    scope: &[u32],
-    bytes: &mut [u8],
-)
-    requires { (length layout.now ≡ 1280) × (length table.now ≡ 1024) }
+pub fn borrow_check(input: &Record<'_>, loans: &LoanTable, scope: &[u32], bytes: &mut [u8])
     ensures { (length bytes.new ≡ length bytes.old)
-        × ((j : Job) (t : Table) → Layout s.now layout.now head j → LoansAt s.now j table.now count
-        → ((p : Point) → p < code_count j.blocks → (i : Point) → i < count → has scope.now (128 * p + i) ≡ holds t i p)
+        × ((j : Job) (t : Table) → Holds input.now j → LoansAt input.now.bytes.now j loans.now.numbers loans.now.count
+        → ((p : Point) → p < code_count j.blocks → (i : Point) → i < loans.now.count → has scope.now (128 * p + i) ≡ holds t i p)
         → 2 * point_count j ≤ length bytes.old
         → bytes.new ≡ overwrite (bytes_to (verdict_at j (graph_of j) t (loans_of (graph_of j))) (point_count j)) bytes.old) }
 {
-    let points = wide16(head.code) + wide(head.declared);
+    let points = usize::from(input.head.code) + usize::from(input.head.declared);
     if bytes.len() < 2 * points {
         return;
     }
-    let mut p = 0;
-    while p < points {
-        let f = verdict_at(s, layout, head, table, count, scope, p);
-        bytes[2 * p] = f.kind;
-        bytes[2 * p + 1] = f.operand;
-        p += 1;
+    for p in 0..points {
+        (bytes[2 * p], bytes[2 * p + 1]) = bytes_of(verdict_at(input, loans, scope, p));
     }
 }

@@ -3,9 +3,9 @@ ghost use Rattle.std.specs.Prelude.{◌≡◌, ◌≤◌, ◌<◌, take};
 ghost use Rattle.nll_spec.specs.Syntax.{Job};
 ghost use Rattle.repr.specs.Reading.{borrow_kind_of, path_of};
 ghost use Rattle.env.specs.Prefixes.{ShortestOf};
-ghost use Rattle.borrowck.specs.Search.{counts, near, lent_at, own_at, Touches, Prefixes, FoundIn, nth_access, is_found, FirstIn};
+ghost use Rattle.borrowck.specs.Search.{counts, near, lent_at, own_at, Touches, Prefixes, FoundIn, FirstIn};
 
-use super::{Access, Conflict, Depth, Found, Mode, wide};
+use super::{Access, Conflict, Depth, Mode};
 use env::prefixes::{is_frozen, is_prefix, is_supporting};
 use loans::Loan;
 use repr::{BorrowKind, Path};
@@ -14,24 +14,16 @@ use repr::{BorrowKind, Path};
 fn minds(mode: Mode, kind: BorrowKind) -> bool
     ensures { result ≡ counts mode (borrow_kind_of kind) }
 {
-    match mode {
-        Mode::Write => true,
-        Mode::Read => match kind {
-            BorrowKind::Mut => true,
-            BorrowKind::Shared => false,
-        },
-    }
+    mode == Mode::Write || kind == BorrowKind::Mut
 }
 
 // Whether q is a supporting prefix of the loan's path, or for a shallow access a frozen one.
 fn leads_to(s: &[u8], depth: Depth, q: Path, loan: Loan) -> bool
     ensures { (j : Job) → ShortestOf j (path_of s.now loan.path) loan.shortest → result ≡ near j depth (path_of s.now q) (path_of s.now loan.path) }
 {
-    let path = loan.path;
-    let shortest = loan.shortest;
     match depth {
-        Depth::Deep => is_supporting(s, q, path, shortest),
-        Depth::Shallow => is_frozen(s, q, path, shortest),
+        Depth::Deep => is_supporting(s, q, loan.path, loan.shortest),
+        Depth::Shallow => is_frozen(s, q, loan.path, loan.shortest),
     }
 }
 
@@ -39,86 +31,46 @@ fn leads_to(s: &[u8], depth: Depth, q: Path, loan: Loan) -> bool
 fn is_lent(s: &[u8], loan: Loan, path: Path, k: usize) -> bool
     ensures { (j : Job) → result ≡ lent_at j s.now loan path k }
 {
-    let lent = loan.path;
-    if k != wide(lent.steps) {
-        return false;
-    }
-    is_prefix(s, lent, path)
+    k == usize::from(loan.path.steps) && is_prefix(s, loan.path, path)
 }
 
 // Whether the prefix of k steps of the loan's path is the path, and leads to the loan.
 fn is_own(s: &[u8], depth: Depth, loan: Loan, path: Path, k: usize) -> bool
     ensures { (j : Job) → ShortestOf j (path_of s.now loan.path) loan.shortest → result ≡ own_at j s.now depth loan path k }
 {
-    if k != wide(path.steps) {
-        return false;
-    }
-    leads_to(s, depth, path, loan)
+    k == usize::from(path.steps) && leads_to(s, depth, path, loan)
 }
 
 // Whether the prefix of k steps of the path is the loan's, or that of the loan's path is the path and leads to the loan.
 fn touches(s: &[u8], loan: Loan, access: Access, k: usize) -> bool
     ensures { Touches s.now loan access k result }
 {
-    let depth = access.depth;
-    let path = access.path;
-    is_lent(s, loan, path, k) | is_own(s, depth, loan, path, k)
+    is_lent(s, loan, access.path, k) || is_own(s, access.depth, loan, access.path, k)
 }
 
 // How many prefixes the longer of the two paths has; none where the access does not mind the loan, or the paths have different bases.
 fn prefixes(loan: Loan, access: Access) -> usize
     ensures { Prefixes loan access result }
 {
-    let mode = access.mode;
-    let kind = loan.kind;
-    if !minds(mode, kind) {
+    if !minds(access.mode, loan.kind) || loan.path.base != access.path.base {
         return 0;
     }
-    let lent = loan.path;
-    let path = access.path;
-    if lent.base.0 != path.base.0 {
-        return 0;
-    }
-    let m = wide(lent.steps);
-    let n = wide(path.steps);
-    if m < n { n + 1 } else { m + 1 }
+    usize::from(loan.path.steps.max(access.path.steps)) + 1
 }
 
 // The first of the loans that conflicts with the access.
-pub fn search(s: &[u8], loans: &[Loan], access: Access) -> Found
+pub fn search(s: &[u8], loans: &[Loan], access: Access) -> Option<usize>
     ensures { FoundIn s.now access loans.now result }
 {
-    let mut i = 0;
-    'search: loop {
-        if loans.len() <= i {
-            break 'search Found::Nothing;
-        }
-        let loan = loans[i];
-        let many = prefixes(loan, access);
-        let mut k = 0;
-        while k < many {
-            if touches(s, loan, access, k) {
-                break 'search Found::At(i);
+    'search: {
+        for (i, &loan) in loans.iter().enumerate() {
+            for k in 0..prefixes(loan, access) {
+                if touches(s, loan, access, k) {
+                    break 'search Some(i);
+                }
             }
-            k += 1;
         }
-        i += 1;
-    }
-}
-
-fn access_at(accesses: [Access; 9], k: usize) -> Access
-    requires { k < 9 }
-    ensures { result ≡ nth_access accesses k }
-{
-    accesses[k]
-}
-
-fn is_found(found: Found) -> bool
-    ensures { result ≡ is_found found }
-{
-    match found {
-        Found::At(_) => true,
-        Found::Nothing => false,
+        None
     }
 }
 
@@ -129,27 +81,15 @@ pub fn search_in(
     n: usize,
     accesses: [Access; 9],
     many: usize,
-) -> Conflict
+) -> Option<Conflict>
     requires { (n ≤ 16) × (many ≤ 9) }
     ensures { FirstIn s.now accesses many (take n loans) result }
 {
     let lent = &loans[..n];
-    let mut k = 0;
-    'first: loop {
-        if many <= k {
-            break 'first Conflict {
-                access: many,
-                loan: Found::Nothing,
-            };
+    for (k, &access) in accesses[..many].iter().enumerate() {
+        if let Some(loan) = search(s, lent, access) {
+            return Some(Conflict { access: k, loan });
         }
-        let access = access_at(accesses, k);
-        let found = search(s, lent, access);
-        if is_found(found) {
-            break 'first Conflict {
-                access: k,
-                loan: found,
-            };
-        }
-        k += 1;
     }
+    None
 }

@@ -11,23 +11,18 @@ use Rattle.nll_spec.specs.Constraints.{Outlives, require_outlives, relate, relat
 use Rattle.repr.specs.Reading.{path_of}
 use Rattle.repr.specs.declared.Path.{Path}
 use Rattle.repr.specs.declared.RegionName as repr
-use Rattle.record.specs.Layout.{Layout}
-use Rattle.record.specs.declared.Head.{Head}
+use Rattle.record.specs.Layout.{Holds}
+use Rattle.record.specs.declared.Record.{Record}
 use Rattle.repr.specs.Stands.{TypeAt}
 use Rattle.env.specs.Paths.{PathSays}
 use Rattle.env.specs.Prefixes.{ShortestIn}
 use Rattle.env.specs.declared.Shortest.{Shortest}
 use Rattle.constraint_list.specs.Listed.{Adds}
-use Rattle.relate.specs.declared.Site.{Site}
 use Rattle.constraints.specs.declared.Source.{Source}
 use Rattle.constraints.specs.declared.PathTypes.{PathTypes}
 use Rattle.constraints.specs.declared.Pair.{Pair}
 use Rattle.constraints.specs.declared.Related.{Related}
 use Rattle.constraints.specs.declared.Related.TheVariants.{Assigned, Borrowed}
-
--- the same head, at the next point
-abbrev pub after : Site → Site
-after site = record { head = site.head; at = site.at + 1 }
 
 -- Step i of a borrow's source leaves a Ref, and the prefix that it ends has at least as many steps as the shortest supporting one: that Ref's region
 -- outlives the borrow's.
@@ -62,11 +57,11 @@ pub record SourceSays (s : List ℕ) (p : Path) (how : Related) (kinds : List �
   pub says : SourceIs s p how kinds r
 
 -- The types of two paths, with what the steps of the second leave.
-pub record PathTypesSay (s t : List ℕ) (h : Head) (p q : Path) (a b kinds names : List ℕ) (r : PathTypes) : Type 0 where
+pub record PathTypesSay (input : Record) (p q : Path) (a b kinds names : List ℕ) (r : PathTypes) : Type 0 where
   pub first_kinds : List ℕ
   pub first_names : List ℕ
-  pub first : PathSays s t h p a first_kinds first_names r.p
-  pub second : PathSays s t h q b kinds names r.q
+  pub first : PathSays input p a first_kinds first_names r.p
+  pub second : PathSays input q b kinds names r.q
 
 -- ---- Two types that are related
 
@@ -85,34 +80,37 @@ abbrev pub along_source : Related → Point → Job → syntax.Path → List Out
 along_source Assigned at j q = []
 along_source (Borrowed r) at j q = relate_source at j.structs (Free r.0) (variable_type j q.base) q.steps
 
-module _ (s t : List ℕ) (site : Site) where
+module _ (input : Record) (at : Point) where
+  abbrev s : List ℕ
+  s = input.bytes.now
+
   -- The constraints of the two types that stand there are added, if the types have one shape.
   pub record TypesAdd (how : Related) (a : List ℕ) (x : ℕ) (b : List ℕ) (y : ℕ) (ls ls' : List ℕ) : Type 0 where
-    pub adds : (j : Job) → Layout s t site.head j → (m n : Ty) (k : BorrowKind) → TypeAt a x m → TypeAt b y n → type_nodes m ≤ max_nodes → type_nodes n ≤ max_nodes → T (same_shape m (against how k n))
-        → Adds (relate site.at j.structs m (under how) (against how k n)) ls ls'
+    pub adds : (j : Job) → Holds input j → (m n : Ty) (k : BorrowKind) → TypeAt a x m → TypeAt b y n → type_nodes m ≤ max_nodes → type_nodes n ≤ max_nodes → T (same_shape m (against how k n))
+        → Adds (relate at j.structs m (under how) (against how k n)) ls ls'
 
   -- The same for the type that stands there and that of a path.
   pub record SecondAdds (how : Related) (a : List ℕ) (x : ℕ) (q : Path) (ls ls' : List ℕ) : Type 0 where
-    pub adds : (j : Job) → Layout s t site.head j → Takes s j q → (m : Ty) (k : BorrowKind) → TypeAt a x m → type_nodes m ≤ max_nodes → T (same_shape m (against how k (path_type j (path_of s q))))
-        → Adds (relate site.at j.structs m (under how) (against how k (path_type j (path_of s q)))) ls ls'
+    pub adds : (j : Job) → Holds input j → Takes s j q → (m : Ty) (k : BorrowKind) → TypeAt a x m → type_nodes m ≤ max_nodes → T (same_shape m (against how k (path_type j (path_of s q))))
+        → Adds (relate at j.structs m (under how) (against how k (path_type j (path_of s q)))) ls ls'
 
   -- The same for the types of two paths.
   pub record PathsAdd (how : Related) (p q : Path) (ls ls' : List ℕ) : Type 0 where
-    pub adds : (j : Job) → Layout s t site.head j → Takes s j p → Takes s j q → (k : BorrowKind) → T (same_shape (path_type j (path_of s p)) (against how k (path_type j (path_of s q))))
-        → Adds (relate site.at j.structs (path_type j (path_of s p)) (under how) (against how k (path_type j (path_of s q)))) ls ls'
+    pub adds : (j : Job) → Holds input j → Takes s j p → Takes s j q → (k : BorrowKind) → T (same_shape (path_type j (path_of s p)) (against how k (path_type j (path_of s q))))
+        → Adds (relate at j.structs (path_type j (path_of s p)) (under how) (against how k (path_type j (path_of s q)))) ls ls'
 
   -- ---- The constraints of an action
 
-  -- The constraints of an assignment or a borrow are added, at the site's point.
+  -- The constraints of an assignment or a borrow are added, at the point.
   pub record PairAdds (pair : Pair) (ls ls' : List ℕ) : Type 0 where
-    pub adds : (j : Job) → Layout s t site.head j → refusal j ≡ 0 → Takes s j pair.p → Takes s j pair.q → (k : BorrowKind)
+    pub adds : (j : Job) → Holds input j → refusal j ≡ 0 → Takes s j pair.p → Takes s j pair.q → (k : BorrowKind)
         → T (same_shape (path_type j (path_of s pair.p)) (against pair.how k (path_type j (path_of s pair.q))))
         → Adds
-        (relate site.at j.structs (path_type j (path_of s pair.p)) (under pair.how) (against pair.how k (path_type j (path_of s pair.q)))
-        ++ along_source pair.how site.at j (path_of s pair.q))
+        (relate at j.structs (path_type j (path_of s pair.p)) (under pair.how) (against pair.how k (path_type j (path_of s pair.q)))
+        ++ along_source pair.how at j (path_of s pair.q))
         ls ls'
 
-  -- The constraints of the action at the site's point, which is one of the blocks.
+  -- The constraints of the action at the point, which is one of the blocks.
   pub record Constrains (ls ls' : List ℕ) : Type 0 where
-    pub adds : (j : Job) → Layout s t site.head j → refusal j ≡ 0 → site.at < (graph_of j).code
-        → Adds (constraints_at j site.at (action_at (graph_of j) site.at)) ls ls'
+    pub adds : (j : Job) → Holds input j → refusal j ≡ 0 → at < (graph_of j).code
+        → Adds (constraints_at j at (action_at (graph_of j) at)) ls ls'

@@ -1,41 +1,18 @@
 #![tactic(auto)]
 // The constraints of an action.
-ghost use Rattle.std.specs.Prelude.{◌≡◌, List, ℕ, ◌≤◌, length};
+ghost use Rattle.std.specs.Prelude.{◌≡◌, List, ℕ, ◌≤◌};
 ghost use Rattle.repr.specs.declared.Path.{Path};
+ghost use Rattle.env.specs.Steps.{kinds_of, names_of};
 ghost use Rattle.env.specs.Paths.{PathSays};
 ghost use Rattle.constraint_list.specs.Listed.{Adds};
-ghost use Rattle.constraints.specs.Constraining.{after, step_constraints, source_constraints, SourceSays, PathTypesSay, TypesAdd, SecondAdds, PathsAdd, PairAdds, Constrains};
+ghost use Rattle.constraints.specs.Constraining.{step_constraints, source_constraints, SourceSays, PathTypesSay, TypesAdd, SecondAdds, PathsAdd, PairAdds, Constrains};
 
+use env::Step;
 use env::paths::{PathType, path_type};
 use env::prefixes::{shortest, steps_of};
-use record::Head;
-use record::access::{action_at, variable_at};
-use relate::Site;
-use repr::{Action, ActionStep, Cursor, Path, Region, RegionName, Variance};
-
-fn wide(x: u8) -> usize
-    ensures { (result ≡ x) × (result ≤ 255) }
-{
-    x as usize
-}
-
-fn wide16(x: u16) -> usize
-    ensures { result ≡ x }
-{
-    x as usize
-}
-
-// The same head, at the next point.
-fn after(site: Site) -> Site
-    requires { site.at ≤ 1024 }
-    ensures { result ≡ after site }
-{
-    let head = site.head;
-    Site {
-        head,
-        at: site.at + 1,
-    }
-}
+use record::Record;
+use relate::{relate, relate_ref, require_outlives};
+use repr::{Action, Cursor, Path, Region, RegionName, Variance};
 
 // How two types are related: as an assignment's source to its destination, or as a borrow's destination to a Ref of a region to its source.
 #[derive(Clone, Copy)]
@@ -52,11 +29,11 @@ struct Pair {
     q: Path,
 }
 
-// The types of two paths.
+// The types of two paths, of those that may be taken.
 #[derive(Clone, Copy)]
 struct PathTypes {
-    p: PathType,
-    q: PathType,
+    p: Option<PathType>,
+    q: Option<PathType>,
 }
 
 // A borrow's region, and how many steps its source has and the source's shortest supporting prefix.
@@ -68,44 +45,36 @@ struct Source {
 }
 
 // Step i of a borrow's source: if it leaves a Ref and ends a supporting prefix, that Ref's region outlives the borrow's.
-fn relate_step(of: Source, kinds: &[u8; 8], names: &[u8; 8], i: usize, site: Site, list: &mut [u32])
-    requires { (length kinds.now ≡ 8) × (length names.now ≡ 8) }
-    ensures { Adds (step_constraints site.at kinds.now names.now of.supporting of.region.0 i)
+fn relate_step(of: Source, taken: &[Step; 8], i: usize, at: u16, list: &mut [u32])
+    ensures { Adds (step_constraints at (kinds_of taken.now) (names_of taken.now) of.supporting of.region.0 i)
         list.old list.new }
 {
     if 8 <= i {
         return;
     }
-    if kinds[i] == 0 {
+    let Step::Ref { region, .. } = taken[i] else {
+        return;
+    };
+    if i + 1 < of.supporting {
         return;
     }
-    let supporting = of.supporting;
-    if i + 1 < supporting {
-        return;
-    }
-    let region = of.region;
-    let left = Region::Free(RegionName(names[i]));
-    let right = Region::Free(region);
-    relate::require_outlives(left, right, site, list);
+    require_outlives(Region::Free(region), Region::Free(of.region), at, list);
 }
 
 // The steps of a borrow's source.
-fn relate_source(of: Source, kinds: &[u8; 8], names: &[u8; 8], site: Site, list: &mut [u32])
-    requires { (length kinds.now ≡ 8) × (length names.now ≡ 8) }
-    ensures { Adds (source_constraints site.at kinds.now names.now of.supporting of.region.0 of.steps)
+#[tactic(auto, using(crate::proofs::ConstrainLaws::source_more))]
+fn relate_source(of: Source, taken: &[Step; 8], at: u16, list: &mut [u32])
+    ensures { Adds (source_constraints at (kinds_of taken.now) (names_of taken.now) of.supporting of.region.0 of.steps)
         list.old list.new }
 {
-    let mut i = 0;
-    while i < of.steps {
-        relate_step(of, kinds, names, i, site, list);
-        i += 1;
+    for i in 0..of.steps {
+        relate_step(of, taken, i, at, list);
     }
 }
 
-// The source of a borrow, or one without steps for an assignment. The kinds say what its steps leave.
-fn source_of(s: &[u8], p: Path, how: Related, kinds: &[u8; 8]) -> Source
-    requires { length kinds.now ≡ 8 }
-    ensures { SourceSays s.now p how kinds.now result }
+// The source of a borrow, or one without steps for an assignment.
+fn source_of(s: &[u8], p: Path, how: Related, taken: &[Step; 8]) -> Source
+    ensures { SourceSays s.now p how (kinds_of taken.now) result }
 {
     let Related::Borrowed(region) = how else {
         return Source {
@@ -115,169 +84,141 @@ fn source_of(s: &[u8], p: Path, how: Related, kinds: &[u8; 8]) -> Source
         };
     };
     let steps = steps_of(s, p);
-    let of = shortest(kinds, steps);
+    let of = shortest(taken, steps);
     Source {
         region,
-        supporting: wide(of.supporting),
-        steps: wide(steps),
+        supporting: usize::from(of.supporting),
+        steps: usize::from(steps),
     }
 }
 
 // The types of two paths, in the record, in a or in b, and what the steps of the second leave.
 fn path_types(
-    s: &[u8],
-    layout: &[u16; 1280],
-    head: Head,
+    input: &Record<'_>,
     p: Path,
     q: Path,
     a: &mut [u8; 512],
     b: &mut [u8; 512],
-    kinds: &mut [u8; 8],
-    names: &mut [u8; 8],
+    taken: &mut [Step; 8],
 ) -> PathTypes
-    requires { (length layout.now ≡ 1280) × (length kinds.old ≡ 8) × (length names.old ≡ 8) }
-    ensures { PathTypesSay s.now layout.now head p q a.new b.new kinds.new names.new result }
+    ensures { PathTypesSay input.now p q a.new b.new (kinds_of taken.new) (names_of taken.new) result }
 {
     let mut spare = [0; 512];
-    let x = path_type(s, layout, head, p, a, &mut spare, kinds, names);
-    let y = path_type(s, layout, head, q, b, &mut spare, kinds, names);
+    let x = path_type(input, p, a, &mut spare, taken);
+    let y = path_type(input, q, b, &mut spare, taken);
     PathTypes { p: x, q: y }
 }
 
 // Relates the types at x of a and at y of b.
 fn relate_types(
     how: Related,
-    s: &[u8],
-    layout: &[u16; 1280],
+    input: &Record<'_>,
     a: &[u8],
     x: Cursor,
     b: &[u8],
     y: Cursor,
-    site: Site,
+    at: u16,
     list: &mut [u32],
 )
-    requires { length layout.now ≡ 1280 }
-    ensures { TypesAdd s.now layout.now site how a.now x.at b.now y.at
+    ensures { TypesAdd input.now at how a.now x.at b.now y.at
         list.old list.new }
 {
     match how {
-        Related::Assigned => relate::relate(s, layout, a, x, b, y, Variance::Co, site, list),
-        Related::Borrowed(region) => relate::relate_ref(
-            s,
-            layout,
-            a,
-            x,
-            region,
-            b,
-            y,
-            Variance::Contra,
-            site,
-            list,
-        ),
+        Related::Assigned => relate(input, a, x, b, y, Variance::Co, at, list),
+        Related::Borrowed(region) => {
+            relate_ref(input, a, x, region, b, y, Variance::Contra, at, list)
+        }
     }
 }
 
 // The type at x of a, and a path's, which stands in the record or in b.
 fn relate_second(
     how: Related,
-    s: &[u8],
-    layout: &[u16; 1280],
+    input: &Record<'_>,
     a: &[u8],
     x: Cursor,
     b: &[u8; 512],
-    found: PathType,
-    site: Site,
+    found: Option<PathType>,
+    at: u16,
     list: &mut [u32],
 )
-    requires { length layout.now ≡ 1280 }
-    ensures { (q : Path) (kinds names : List ℕ) → PathSays s.now layout.now site.head q b.now kinds names found
-        → SecondAdds s.now layout.now site how a.now x.at q
+    ensures { (q : Path) (kinds names : List ℕ) → PathSays input.now q b.now kinds names found
+        → SecondAdds input.now at how a.now x.at q
         list.old list.new }
 {
     match found {
-        PathType::Refused => {}
-        PathType::Inside(y) => relate_types(how, s, layout, a, x, s, y, site, list),
-        PathType::Written(y) => relate_types(how, s, layout, a, x, b, y, site, list),
+        Some(PathType::Inside(y)) => relate_types(how, input, a, x, input.bytes, y, at, list),
+        Some(PathType::Written(y)) => relate_types(how, input, a, x, b, y, at, list),
+        None => {}
     }
 }
 
 // The types of two paths, which stand in the record, in a or in b.
 fn relate_found(
     how: Related,
-    s: &[u8],
-    layout: &[u16; 1280],
+    input: &Record<'_>,
     a: &[u8; 512],
     b: &[u8; 512],
     found: PathTypes,
-    site: Site,
+    at: u16,
     list: &mut [u32],
 )
-    requires { length layout.now ≡ 1280 }
-    ensures { (p q : Path) (kinds names : List ℕ) → PathTypesSay s.now layout.now site.head p q a.now b.now kinds names found
-        → PathsAdd s.now layout.now site how p q
+    ensures { (p q : Path) (kinds names : List ℕ) → PathTypesSay input.now p q a.now b.now kinds names found
+        → PathsAdd input.now at how p q
         list.old list.new }
 {
-    let first_type = found.p;
-    let second_type = found.q;
-    match first_type {
-        PathType::Refused => {}
-        PathType::Inside(x) => relate_second(how, s, layout, s, x, b, second_type, site, list),
-        PathType::Written(x) => relate_second(how, s, layout, a, x, b, second_type, site, list),
+    let Some(first) = found.p else {
+        return;
+    };
+    match first {
+        PathType::Inside(x) => relate_second(how, input, input.bytes, x, b, found.q, at, list),
+        PathType::Written(x) => relate_second(how, input, a, x, b, found.q, at, list),
     }
 }
 
 // Two paths, of which one has steps, and the steps of a borrow's source.
-fn relate_stepped(pair: Pair, s: &[u8], layout: &[u16; 1280], site: Site, list: &mut [u32])
-    requires { length layout.now ≡ 1280 }
-    ensures { PairAdds s.now layout.now site pair
+fn relate_stepped(pair: Pair, input: &Record<'_>, at: u16, list: &mut [u32])
+    ensures { PairAdds input.now at pair
         list.old list.new }
 {
-    let how = pair.how;
-    let head = site.head;
-    let p = pair.p;
-    let q = pair.q;
     let mut a = [0; 512];
     let mut b = [0; 512];
-    let mut kind = [0; 8];
-    let mut name = [0; 8];
-    let found = path_types(s, layout, head, p, q, &mut a, &mut b, &mut kind, &mut name);
-    relate_found(how, s, layout, &a, &b, found, site, list);
-    let of = source_of(s, q, how, &kind);
-    relate_source(of, &kind, &name, site, list);
+    let mut taken = [Step::Owned; 8];
+    let found = path_types(input, pair.p, pair.q, &mut a, &mut b, &mut taken);
+    relate_found(pair.how, input, &a, &b, found, at, list);
+    let of = source_of(input.bytes, pair.q, pair.how, &taken);
+    relate_source(of, &taken, at, list);
 }
 
-// The constraints of an assignment or a borrow, at the site's point.
-fn relate_paths(pair: Pair, s: &[u8], layout: &[u16; 1280], site: Site, list: &mut [u32])
-    requires { length layout.now ≡ 1280 }
-    ensures { PairAdds s.now layout.now site pair
+// The constraints of an assignment or a borrow, at the point.
+#[tactic(auto, using(crate::proofs::ConstrainLaws::pair_stepless))]
+fn relate_paths(pair: Pair, input: &Record<'_>, at: u16, list: &mut [u32])
+    ensures { PairAdds input.now at pair
         list.old list.new }
 {
-    let how = pair.how;
     let p = pair.p;
     let q = pair.q;
-    if (p.steps != 0) | (q.steps != 0) {
-        relate_stepped(pair, s, layout, site, list);
+    if p.steps != 0 || q.steps != 0 {
+        relate_stepped(pair, input, at, list);
         return;
     }
-    let x = variable_at(layout, p.base);
-    let y = variable_at(layout, q.base);
-    relate_types(how, s, layout, s, x, s, y, site, list);
+    let x = input.variable_at(p.base);
+    let y = input.variable_at(q.base);
+    relate_types(pair.how, input, input.bytes, x, input.bytes, y, at, list);
 }
 
 // Adds the constraints of the action at a point of the blocks. A Constraint's is at that point, all others at the next one.
-pub fn constrain(s: &[u8], layout: &[u16; 1280], site: Site, list: &mut [u32])
-    requires { length layout.now ≡ 1280 }
-    ensures { Constrains s.now layout.now site
+pub fn constrain(input: &Record<'_>, at: u16, list: &mut [u32])
+    ensures { Constrains input.now at
         list.old list.new }
 {
-    let p = site.at;
-    if 1024 < p {
+    if 1024 < at {
         return;
     }
-    let ActionStep::Action(a, _) = action_at(s, layout, wide16(p)) else {
+    let Ok((a, _)) = input.action_at(usize::from(at)) else {
         return;
     };
-    let next = after(site);
+    let next = at + 1;
     match a {
         Action::Borrow {
             dest,
@@ -290,7 +231,7 @@ pub fn constrain(s: &[u8], layout: &[u16; 1280], site: Site, list: &mut [u32])
                 p: dest,
                 q: source,
             };
-            relate_paths(pair, s, layout, next, list)
+            relate_paths(pair, input, next, list)
         }
         Action::Assign { dest, source } => {
             let pair = Pair {
@@ -298,12 +239,10 @@ pub fn constrain(s: &[u8], layout: &[u16; 1280], site: Site, list: &mut [u32])
                 p: source,
                 q: dest,
             };
-            relate_paths(pair, s, layout, next, list)
+            relate_paths(pair, input, next, list)
         }
         Action::Constraint { sup, sub } => {
-            let left = Region::Free(sup);
-            let right = Region::Free(sub);
-            relate::require_outlives(left, right, site, list)
+            require_outlives(Region::Free(sup), Region::Free(sub), at, list)
         }
         _ => {}
     }

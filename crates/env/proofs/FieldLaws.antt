@@ -1,6 +1,8 @@
 -- The fields of a struct, one after the other. Assumes nothing.
 use mathlib.Core.Path.{◌≡◌, refl, sym, ap, ◌∙◌}
+use mathlib.Core.Bool.{false, true≢false}
 use mathlib.Core.List.{List, ◌∷◌}
+use lib.Dec.{eqb}
 use mathlib.Core.Option.{Option, none, some}
 use Prim.Native.Nat.{ℕ, suc, ◌-◌, ◌≤◌}
 use native.Mathlib.Omega.{arith}
@@ -13,16 +15,17 @@ use Rattle.repr.specs.Reading.{rest, ended, end_says}
 use Rattle.repr.specs.Parts.{field_says}
 use Rattle.repr.specs.declared.Cursor.{Cursor}
 use Rattle.repr.specs.declared.FieldName.{FieldName}
-use Rattle.repr.specs.declared.EndStep.{EndStep}
-use Rattle.repr.specs.declared.EndStep.TheVariants as end_step
-use Rattle.repr.specs.declared.FieldStep.{FieldStep}
-use Rattle.repr.specs.declared.FieldStep.TheVariants as field_step
+use Rattle.repr.specs.declared.refusal.Refusal.{Refusal}
+use Rattle.std.specs.Prelude.{Result, Ok, Err}
 use Rattle.repr.proofs.ReadLaws.{told}
 use Rattle.repr.specs.Stands.{Stands}
 use Rattle.repr.proofs.SpellLaws.{clash, carry, then, type_spelt}
 use Rattle.repr.proofs.ItemLaws.{first_of, none_of}
 use Rattle.repr.proofs.StandLaws.{type-stands}
 use Rattle.env.specs.Fields.{TypeThere}
+
+pub differ : {n f : ℕ} → false ≡ eqb n f → n ≡ f → ⊥
+differ {n} {f} e h = true≢false (sym (eq-eqb n f h) ∙ sym e)
 
 -- a type that is read has no more nodes than it may have
 pub type-few : (bs : List ℕ) {t : Ty} {over : List ℕ} → type bs ≡ read t over → type_nodes t ≤ max_nodes
@@ -66,11 +69,11 @@ module _ {s : List ℕ} {from n f at left : ℕ} (g : Seeking s from n f at left
   unfolding field_type
   seeking_end z xs w = let a = g.goes xs w in a.same ∙ rw (none_of field left (drop at s) z a.reads).0
 
-  module _ (z : left ≡ 0 → ⊥) {v : FieldStep} (m : field_says s v ≡ field (drop at s)) where
-    pub seeking_refused : {k : ℕ} → v ≡ field_step.Refused k → (xs : List Field) → Stands (items n field) xs (drop from s) → field_type xs f ≡ none
+  module _ (z : left ≡ 0 → ⊥) {v : Result (FieldName × Cursor) Refusal} (m : field_says s v ≡ field (drop at s)) where
+    pub seeking_refused : {k : Refusal} → v ≡ Err k → (xs : List Field) → Stands (items n field) xs (drop from s) → field_type xs f ≡ none
     seeking_refused e xs w = let o = first_of field left (drop at s) z (g.goes xs w).reads in absurd (clash (sym (told (field_says s) m e) ∙ o.first))
 
-    module _ {name : FieldName} {c : Cursor} (e : v ≡ field_step.Field name c) where
+    module _ {name : FieldName} {c : Cursor} (e : v ≡ Ok (name, c)) where
       parts : {x : Field} {over : List ℕ} → field (drop at s) ≡ read x over → Parts s name.0 c x over
       unfolding done
       parts i =
@@ -89,14 +92,14 @@ module _ {s : List ℕ} {from n f at left : ℕ} (g : Seeking s from n f at left
             few = type-few (rest s c) p.reads;
           }
 
-      module _ (h : name.0 ≡ f → ⊥) {r : EndStep} (q : end_says s r ≡ ended (type (rest s c))) where
-        pub seeking_short : {k : ℕ} → r ≡ end_step.Refused k → (xs : List Field) → Stands (items n field) xs (drop from s) → field_type xs f ≡ none
+      module _ (h : name.0 ≡ f → ⊥) {r : Result Cursor Refusal} (q : end_says s r ≡ ended (type (rest s c))) where
+        pub seeking_short : {k : Refusal} → r ≡ Err k → (xs : List Field) → Stands (items n field) xs (drop from s) → field_type xs f ≡ none
         seeking_short i xs w =
             let o = first_of field left (drop at s) z (g.goes xs w).reads in
             let p = parts o.first in
             absurd (clash (sym (ap (end_says s) i) ∙ q ∙ ap ended p.reads))
 
-        pub seeking_more : {next : Cursor} → r ≡ end_step.Ended next → Seeking s from n f next.at (left - 1)
+        pub seeking_more : {next : Cursor} → r ≡ Ok next → Seeking s from n f next.at (left - 1)
         seeking_more {next} i = record {
           goes = λ xs w.
               let a = g.goes xs w in

@@ -15,35 +15,36 @@ use Rattle.nll_spec.specs.Syntax as syntax
 use Rattle.nll_spec.specs.Decode.{byte, max_nodes}
 use Rattle.nll_spec.specs.Types.{is_ref, ref_region, type_nodes, arg_nodes, struct_of, subst, field_type, step_type, step, type_after, variable_type, path_type}
 use Rattle.nll_spec.specs.WellFormed.{steps_fit, path_fits}
-use Rattle.repr.specs.Reading.{byte_says, borrow_kind_of, region_of, path_of}
+use Rattle.repr.specs.Reading.{says, itself, borrow_kind_of, region_of, path_of}
 use Rattle.repr.specs.Types.{node, NodeSays}
 use Rattle.repr.specs.declared.Cursor.{Cursor}
 use Rattle.repr.specs.declared.Path as repr
 use Rattle.repr.specs.declared.BorrowKind.{BorrowKind as Kind}
 use Rattle.repr.specs.declared.Region.{Region}
-use Rattle.repr.specs.declared.Region.TheVariants as regions
-use Rattle.repr.specs.declared.RegionName.{RegionName}
 use Rattle.repr.specs.declared.StructName.{StructName}
 use Rattle.repr.specs.declared.StructDecl as decl
-use Rattle.repr.specs.declared.NodeStep.{NodeStep}
-use Rattle.repr.specs.declared.NodeStep.TheVariants as node_step
-use Rattle.repr.specs.declared.ByteStep.{ByteStep}
-use Rattle.repr.specs.declared.ByteStep.TheVariants as byte_step
-use Rattle.record.specs.Layout.{Layout}
+use Rattle.repr.specs.declared.Node.{Node}
+use Rattle.repr.specs.declared.Node.TheVariants as nodes
+use Rattle.repr.specs.declared.refusal.Refusal.{Refusal}
+use Rattle.std.specs.Prelude.{Result, Ok, Err}
+use Rattle.std.specs.Prelude as std
+use Rattle.std.specs.Prelude.{Some, None}
+use Rattle.std.proofs.lemmas.List.{map-set, length-map}
+use Rattle.record.specs.Layout.{Holds}
+use Rattle.record.specs.declared.Record.{Record}
 use Rattle.record.specs.Access.{entry_in, Declared}
-use Rattle.record.specs.declared.Head.{Head}
 use Rattle.record.proofs.AccessLaws.{variable_at}
 use Rattle.repr.specs.Stands.{TypeAt}
-use Rattle.ty.specs.Written.{Stood, StoodBy, WholeSays}
+use Rattle.ty.specs.Written.{Given, Stood, StoodBy, WholeSays}
 use Rattle.ty.specs.Written as written
-use Rattle.ty.specs.declared.write.Whole.{Whole}
-use Rattle.ty.specs.declared.write.Whole.TheVariants as whole
-use Rattle.repr.proofs.StandLaws.{NodeIs, node-is, on-node, type-stands}
+use Rattle.ty.specs.declared.write.Arguments.{Arguments}
+use Rattle.repr.proofs.StandLaws.{NodeIs, on-node, type-stands}
 use Rattle.env.specs.Fields.{TypeThere, FieldIs, FieldSays}
 use Rattle.env.specs.Prefixes.{kind_code, Leaves}
-use Rattle.env.specs.Paths.{PathResult, PathSays, kind_number, Named, Noted, small, Moves, FieldStepSays, StepIs, StepSays, CopyIs, CopiedSays, Stage, Reached, AlongIs, AlongSays, OnwardIs, OnwardSays}
-use Rattle.env.specs.declared.fields.FieldType.{FieldType}
-use Rattle.env.specs.declared.fields.FieldType.TheVariants as field_types
+use Rattle.env.specs.Paths.{PathResult, PathSays, Named, Noted, small, Moves, FieldStepSays, StepIs, StepSays, CopyIs, CopiedSays, Stage, Reached, AlongIs, AlongSays, OnwardIs, OnwardSays}
+use Rattle.env.specs.Steps.{kind_number, kind_in, name_in, kinds_of, names_of}
+use Rattle.env.specs.declared.Step.{Step}
+use Rattle.env.specs.declared.paths.Ahead.{Ahead}
 use Rattle.env.specs.declared.paths.PathType.{PathType}
 use Rattle.env.specs.declared.paths.PathType.TheVariants as path_types
 use Rattle.env.specs.declared.paths.Along.{Along}
@@ -53,22 +54,11 @@ use Rattle.env.specs.declared.paths.Stepped.TheVariants as stepped
 use Rattle.env.proofs.FieldLaws.{type-few}
 use Rattle.env.proofs.StepLaws.{steps_out, steps_first}
 
--- ---- Regions
-
-pub named_free : {region : Region} {name : RegionName} → region ≡ regions.Free name → Named (region_of region) name.0
-named_free e = record { same = λ r i. let k = sym (ap region_of e) ∙ i in cc }
-
-pub named_bound : {region : Region} {b n : ℕ} → region ≡ regions.Bound b → Named (region_of region) n
-named_bound e = record { same = λ r i. let k = sym (ap region_of e) ∙ i in absurd (let z : ◌≡◌ {A = ℕ} 0 1 = cc in omega arith) }
-
 -- ---- A copy
 
-module _ {s : List ℕ} {at : ℕ} {out : List ℕ} {d : Whole} (v : written.CopiedSays s at out d) where
-  pub copy_large : d ≡ whole.TooLarge → CopiedSays s at out path_types.Refused
-  copy_large e = record { says = λ u p few. let h : max_nodes < type_nodes u = transport (λ (x : Whole). StoodBy out u x) e (v.says u p) in omega arith }
-
-  pub copy_written : {end : ℕ} → d ≡ whole.Written end → CopiedSays s at out (path_types.Written (record { at = 0 }))
-  copy_written {end} e = record { says = λ u p few. let h : Stood out u end = transport (λ (x : Whole). StoodBy out u x) e (v.says u p) in record { over = drop end out; stands = h.stands } }
+module _ {s : List ℕ} {at : ℕ} {out : List ℕ} {d : std.Option ℕ} (v : written.CopiedSays s at out d) where
+  pub copy_large : d ≡ None → CopiedSays s at out None
+  copy_large e = record { says = λ u p few. let h : max_nodes < type_nodes u = transport (λ (x : std.Option ℕ). StoodBy out u x) e (v.says u p) in omega arith }
 
 -- ---- A field
 
@@ -81,41 +71,48 @@ module _ (ss : List StructDecl) (name f : ℕ) (g : Args) where
   unfolding step_type
   a_field e = ap (λ (o : Option Ty). elim o as (λ x. Option Ty) [ none ↦ none | some t ↦ some (subst t g) ]) e
 
-module _ {s t : List ℕ} {h : Head} {name f : ℕ} {from : List ℕ} {at count : ℕ} {to : List ℕ} {d : decl.StructDecl} {v : FieldType}
-    (w : (j : Job) → Layout s t h j → Declared s (struct_of j.structs name) d) (m : FieldSays s d f v) where
-  pub field_absent : v ≡ field_types.Absent → FieldStepSays s t h name f from at count to stepped.Refused
+module _ (input : Record) {name f : ℕ} {a : Arguments} {to : List ℕ} {d : decl.StructDecl} {v : std.Option Cursor}
+    (w : (j : Job) → Holds input j → Declared input.bytes.now (struct_of j.structs name) d) (m : FieldSays input.bytes.now d f v) where
+  pub field_absent : v ≡ None → FieldStepSays input name f a to None
   field_absent e = record {
-    says = λ j l g a few.
-        let i : field_type (struct_of j.structs name).fields f ≡ none = transport (λ (x : FieldType). FieldIs s (field_type (struct_of j.structs name).fields f) x) e (m.says (struct_of j.structs name) (w j l)) in
+    says = λ j l g few.
+        let i : field_type (struct_of j.structs name).fields f ≡ none = transport (λ (x : std.Option Cursor). FieldIs input.bytes.now (field_type (struct_of j.structs name).fields f) x) e (m.says (struct_of j.structs name) (w j l)) in
         ap small (no_field j.structs name f g i);
   }
 
-  module _ {x : Cursor} (e : v ≡ field_types.At x) {q : Whole} (u : WholeSays s x.at from at count to q) where
-    there : (j : Job) → Layout s t h j → TypeThere s x.at (field_type (struct_of j.structs name).fields f)
-    there j l = transport (λ (y : FieldType). FieldIs s (field_type (struct_of j.structs name).fields f) y) e (m.says (struct_of j.structs name) (w j l))
+  module _ {x : Cursor} (e : v ≡ Some x) {q : std.Option ℕ} (u : WholeSays input.bytes.now x.at a to q) where
+    there : (j : Job) → Holds input j → TypeThere input.bytes.now x.at (field_type (struct_of j.structs name).fields f)
+    there j l = transport (λ (y : std.Option Cursor). FieldIs input.bytes.now (field_type (struct_of j.structs name).fields f) y) e (m.says (struct_of j.structs name) (w j l))
 
-    pub field_large : q ≡ whole.TooLarge → FieldStepSays s t h name f from at count to stepped.Refused
+    pub field_large : q ≡ None → FieldStepSays input name f a to None
     field_large i = record {
-      says = λ j l g a few.
+      says = λ j l g few.
           let y = there j l in
-          let k : max_nodes < type_nodes (subst y.type g) = transport (λ (z : Whole). StoodBy to (subst y.type g) z) i (u.says y.type g y.stands a few) in
+          let k : max_nodes < type_nodes (subst y.type g) = transport (λ (z : std.Option ℕ). StoodBy to (subst y.type g) z) i (u.says y.type g y.stands few) in
           ap small (a_field j.structs name f g y.same) ∙ lt-leb (type_nodes (subst y.type g)) max_nodes k;
     }
 
-    pub field_written : {end : ℕ} → q ≡ whole.Written end → FieldStepSays s t h name f from at count to stepped.Written
+    pub field_written : {end : ℕ} → q ≡ Some end → FieldStepSays input name f a to (Some stepped.Written)
     field_written {end} i = record {
-      says = λ j l g a few.
+      says = λ j l g few.
           let y = there j l in
-          let k : Stood to (subst y.type g) end = transport (λ (z : Whole). StoodBy to (subst y.type g) z) i (u.says y.type g y.stands a few) in
+          let k : Stood to (subst y.type g) end = transport (λ (z : std.Option ℕ). StoodBy to (subst y.type g) z) i (u.says y.type g y.stands few) in
           record { type = subst y.type g; same = a_field j.structs name f g y.same; stands = record { over = drop end to; stands = k.stands }; few = k.few };
     }
 
 -- ---- A step
 
-noting : (from to : List ℕ) (o : Option Ty) {noted : Type 0} → noted → (r : Stepped) → Moves from to o r → StepIs from to o noted r
-noting from to o n (stepped.Inside c) m = (m, n)
-noting from to o n stepped.Written m = (m, n)
-noting from to o n stepped.Refused m = m
+pub long : (taken : List Step) → length taken ≡ 8 → (length (kinds_of taken) ≡ 8) × (length (names_of taken) ≡ 8)
+long taken h = (length-map taken kind_in ∙ h, length-map taken name_in ∙ h)
+
+-- what is noted, by numbers
+pub noted : (taken : List Step) {taken' : List Step} (i : ℕ) (x : Step) → taken' ≡ set taken i x → (kinds_of taken' ≡ set (kinds_of taken) i (kind_in x)) × (names_of taken' ≡ set (names_of taken) i (name_in x))
+noted taken i x e = (rw e (map-set kind_in taken i x), rw e (map-set name_in taken i x))
+
+noting : (from to : List ℕ) (o : Option Ty) {noted : Type 0} → noted → (r : std.Option Stepped) → Moves from to o r → StepIs from to o noted r
+noting from to o n (Some (stepped.Inside c)) m = (m, n)
+noting from to o n (Some stepped.Written) m = (m, n)
+noting from to o n None m = m
 
 kind-of_ref : (k : BorrowKind) (r : syntax.Region) (t : Ty) → kind_number k ≡ kind_code (RefTy k r t)
 kind-of_ref Mut r t = refl
@@ -148,23 +145,25 @@ struct_few y z = let n = ap type_nodes y in omega arith
 not_ref_lem : {u : Ty} {n : ℕ} {g : Args} → u ≡ StructTy n g → is_ref u ≡ true → ⊥
 not_ref_lem y z = let a = sym (ap is_ref y) ∙ z in let b : ◌≡◌ {A = ℕ} 0 1 = cc in omega arith
 
-module _ {s t : List ℕ} {h : Head} {from : List ℕ} {at f i : ℕ} {to kinds names : List ℕ} {d : NodeStep} (v : NodeSays node from at d) where
+module _ {input : Record} {from : List ℕ} {at f i : ℕ} {to kinds names : List ℕ} {d : Result Node Refusal} (v : NodeSays node from at d) where
   -- a type with no steps
-  pub step-leaf : ((k : Kind) (r : Region) (c : Cursor) → d ≡ node_step.Ref k r c → ⊥) → ((n : StructName) (m : ℕ) (c : Cursor) → d ≡ node_step.Struct n m c → ⊥) → StepSays s t h from at f i to kinds names kinds names stepped.Refused
-  step-leaf e g = record { says = λ j l u p few. go j.structs u p.over d e g (node-is v p.stands); kind_size = refl; name_size = refl }
+  pub step-leaf : {n : Node} → d ≡ Ok n → ((k : Kind) (r : Region) (c : Cursor) → n ≡ nodes.Ref k r c → ⊥) → ((z : StructName) (m : ℕ) (c : Cursor) → n ≡ nodes.Struct z m c → ⊥) → StepSays input from at f i to kinds names kinds names None
+  step-leaf {n} o e g = record { says = λ j l u p few. go j.structs u p.over n e g (on-node v o p.stands); kind_size = refl; name_size = refl }
     where
-      go : (ss : List StructDecl) (u : Ty) (over : List ℕ) (x : NodeStep) → ((k : Kind) (r : Region) (c : Cursor) → x ≡ node_step.Ref k r c → ⊥) → ((n : StructName) (m : ℕ) (c : Cursor) → x ≡ node_step.Struct n m c → ⊥) → NodeIs from u over x → small (step_type ss u f) ≡ false
-      go ss u over (node_step.Unit c) o i w = ap (λ (y : Ty). small (step_type ss y f)) w.same ∙ no_unit ss f
-      go ss u over (node_step.Ref k r c) o i w = absurd (o k r c refl)
-      go ss u over (node_step.Struct n m c) o i w = absurd (i n m c refl)
-      go ss u over (node_step.Bound b c) o i w = ap (λ (y : Ty). small (step_type ss y f)) w.same ∙ no_bound ss b f
-      go ss u over (node_step.Refused k) o i w = absurd w
+      go : (ss : List StructDecl) (u : Ty) (over : List ℕ) (x : Node) → ((k : Kind) (r : Region) (c : Cursor) → x ≡ nodes.Ref k r c → ⊥) → ((n : StructName) (m : ℕ) (c : Cursor) → x ≡ nodes.Struct n m c → ⊥) → NodeIs from u over (Ok x) → small (step_type ss u f) ≡ false
+      go ss u over (nodes.Unit c) o i w = ap (λ (y : Ty). small (step_type ss y f)) w.same ∙ no_unit ss f
+      go ss u over (nodes.Ref k r c) o i w = absurd (o k r c refl)
+      go ss u over (nodes.Struct n m c) o i w = absurd (i n m c refl)
+      go ss u over (nodes.Bound b c) o i w = ap (λ (y : Ty). small (step_type ss y f)) w.same ∙ no_bound ss b f
 
-  module _ {k : Kind} {r : Region} {c : Cursor} (e : d ≡ node_step.Ref k r c) where
-    pub step_other : (f ≡ 0 → ⊥) → StepSays s t h from at f i to kinds names kinds names stepped.Refused
+  pub step-none : {k : Refusal} → d ≡ Err k → StepSays input from at f i to kinds names kinds names None
+  step-none e = record { says = λ j l u p few. absurd (on-node v e p.stands); kind_size = refl; name_size = refl }
+
+  module _ {k : Kind} {r : Region} {c : Cursor} (e : d ≡ Ok (nodes.Ref k r c)) where
+    pub step_other : (f ≡ 0 → ⊥) → StepSays input from at f i to kinds names kinds names None
     step_other z = record { says = λ j l u p few. let w = on-node v e p.stands in ap (λ (x : Ty). small (step_type j.structs x f)) w.same ∙ ap small (other_step j.structs (borrow_kind_of k) (region_of r) w.referent f z); kind_size = refl; name_size = refl }
 
-    pub step-star : {kinds' names' : List ℕ} {m n : ℕ} → f ≡ 0 → m ≡ kind_number (borrow_kind_of k) → Named (region_of r) n → (kinds' ≡ set kinds i m) × (names' ≡ set names i n) → StepSays s t h from at f i to kinds names kinds' names' (stepped.Inside c)
+    pub step-star : {kinds' names' : List ℕ} {m n : ℕ} → f ≡ 0 → m ≡ kind_number (borrow_kind_of k) → Named (region_of r) n → (kinds' ≡ set kinds i m) × (names' ≡ set names i n) → StepSays input from at f i to kinds names kinds' names' (Some (stepped.Inside c))
     step-star {m = m} {n = n} z a b o = record {
       says = λ j l u p few.
           let w = on-node v e p.stands in
@@ -176,18 +175,18 @@ module _ {s t : List ℕ} {h : Head} {from : List ℕ} {at f i : ℕ} {to kinds 
       name_size = ap length o.1 ∙ length-set names i n;
     }
 
-  pub step_struct : {kinds' names' : List ℕ} {name : StructName} {count : ℕ} {c : Cursor} {r : Stepped} → d ≡ node_step.Struct name count c → (kinds' ≡ set kinds i 0) × (names' ≡ set names i 0) → FieldStepSays s t h name.0 f from c.at count to r → StepSays s t h from at f i to kinds names kinds' names' r
-  step_struct {r = r} e o m = record {
+  pub step_struct : {kinds' names' : List ℕ} {name : StructName} {a : Arguments} {r : std.Option Stepped} → a.bytes.now ≡ from → d ≡ Ok (nodes.Struct name a.count a.from) → (kinds' ≡ set kinds i 0) × (names' ≡ set names i 0) → FieldStepSays input name.0 f a to r → StepSays input from at f i to kinds names kinds' names' r
+  step_struct {a = a} {r = r} y e o m = record {
     says = λ j l u p few.
         let w = on-node v e p.stands in
-        let q = m.says j l w.given (record { over = p.over; stands = w.stands }) (struct_few w.same few) in
-        noting from to (step_type j.structs u f) (record { kind = o.0 ∙ ap (λ (x : Ty). set kinds i (kind_code x)) (sym w.same); name = 0; named = o.1; same = λ y. absurd (not_ref_lem w.same y) }) r (rw w.same q);
+        let q = m.says j l w.given (record { over = p.over; stand = rw y w.stands; few = struct_few w.same few }) in
+        noting from to (step_type j.structs u f) (record { kind = o.0 ∙ ap (λ (x : Ty). set kinds i (kind_code x)) (sym w.same); name = 0; named = o.1; same = λ y. absurd (not_ref_lem w.same y) }) r (rw w.same (rw y at q));
     kind_size = ap length o.0 ∙ length-set kinds i 0;
     name_size = ap length o.1 ∙ length-set names i 0;
   }
 
-step_is : {s t : List ℕ} {h : Head} {from : List ℕ} {at f i : ℕ} {to kinds names kinds' names' : List ℕ} {d x : Stepped} → StepSays s t h from at f i to kinds names kinds' names' d → d ≡ x → (j : Job) → Layout s t h j → (u : Ty) → TypeAt from at u → type_nodes u ≤ max_nodes → StepIs from to (step_type j.structs u f) (Noted u i kinds names kinds' names') x
-step_is {from = from} {f = f} {i = i} {to = to} {kinds = kinds} {names = names} {kinds' = kinds'} {names' = names'} v e j l u p few = transport (λ (y : Stepped). StepIs from to (step_type j.structs u f) (Noted u i kinds names kinds' names') y) e (v.says j l u p few)
+step_is : {input : Record} {from : List ℕ} {at f i : ℕ} {to kinds names kinds' names' : List ℕ} {d x : std.Option Stepped} → StepSays input from at f i to kinds names kinds' names' d → d ≡ x → (j : Job) → Holds input j → (u : Ty) → TypeAt from at u → type_nodes u ≤ max_nodes → StepIs from to (step_type j.structs u f) (Noted u i kinds names kinds' names') x
+step_is {from = from} {f = f} {i = i} {to = to} {kinds = kinds} {names = names} {kinds' = kinds'} {names' = names'} v e j l u p few = transport (λ (y : std.Option Stepped). StepIs from to (step_type j.structs u f) (Noted u i kinds names kinds' names') y) e (v.says j l u p few)
 
 -- ---- The steps that are taken
 
@@ -272,100 +271,96 @@ module _ {ss : List StructDecl} {t : Ty} {all bytes : List ℕ} {at : ℕ} {kind
 -- ---- What the loops keep
 
 -- A stage at the start is one here.
-pub record Onward (s t : List ℕ) (h : Head) (bytes : List ℕ) (c : ℕ) (kinds names : List ℕ) (i at left : ℕ) (bytes' : List ℕ) (c' : ℕ) (kinds' names' : List ℕ) (i' at' left' : ℕ) : Type 0 where
-  pub goes : (j : Job) → Layout s t h j → (u : Ty) (all : List ℕ) → Stage j.structs u all bytes c kinds names i (take left (drop at s)) → Stage j.structs u all bytes' c' kinds' names' i' (take left' (drop at' s))
+pub record Onward (input : Record) (bytes : List ℕ) (c : ℕ) (kinds names : List ℕ) (i at left : ℕ) (bytes' : List ℕ) (c' : ℕ) (kinds' names' : List ℕ) (i' at' left' : ℕ) : Type 0 where
+  pub goes : (j : Job) → Holds input j → (u : Ty) (all : List ℕ) → Stage j.structs u all bytes c kinds names i (take left (drop at input.bytes.now)) → Stage j.structs u all bytes' c' kinds' names' i' (take left' (drop at' input.bytes.now))
 
-pub onward : (s t : List ℕ) (h : Head) (bytes : List ℕ) (c : ℕ) (kinds names : List ℕ) (i at left : ℕ) → Onward s t h bytes c kinds names i at left bytes c kinds names i at left
-onward s t h bytes c kinds names i at left = record { goes = λ j l u all g. g }
+pub onward : (input : Record) (bytes : List ℕ) (c : ℕ) (kinds names : List ℕ) (i at left : ℕ) → Onward input bytes c kinds names i at left bytes c kinds names i at left
+onward input bytes c kinds names i at left = record { goes = λ j l u all g. g }
 
 -- steps within the same bytes
-module _ {s t : List ℕ} {h : Head} {bytes : List ℕ} {c : ℕ} {kinds names : List ℕ} {i at left : ℕ} {c' : ℕ} {kinds' names' : List ℕ} {i' at' left' : ℕ}
-    (g : Onward s t h bytes c kinds names i at left bytes c' kinds' names' i' at' left') (size : (length kinds' ≡ 8) × (length names' ≡ 8)) where
-  pub along-end : {to : List ℕ} (x : Cursor) → x.at ≡ c' → left' ≡ 0 → AlongSays s t h bytes c kinds names i at left to kinds' names' (along.Inside x)
+module _ {input : Record} {bytes : List ℕ} {c : ℕ} {kinds names : List ℕ} {i at left : ℕ} {c' : ℕ} {kinds' names' : List ℕ} {i' at' left' : ℕ}
+    (g : Onward input bytes c kinds names i at left bytes c' kinds' names' i' at' left') (size : (length kinds' ≡ 8) × (length names' ≡ 8)) where
+  pub along-end : {to : List ℕ} (x : Cursor) → x.at ≡ c' → left' ≡ 0 → AlongSays input bytes c kinds names i at left to kinds' names' (Some (along.Inside x))
   along-end x o z = record { says = λ j l u all a. rw o (stage_end (g.goes j l u all a) (rw z)); sizes = size; taken = tt }
 
-  module _ {b : ByteStep} (m : byte_says s b ≡ byte (drop at' s)) where
-    pub along_out : {to : List ℕ} (x : Cursor) → x.at ≡ c' → {k : ℕ} → b ≡ byte_step.Refused k → AlongSays s t h bytes c kinds names i at left to kinds' names' (along.Inside x)
-    along_out x o e = record { says = λ j l u all a. rw o (stage_end (g.goes j l u all a) (steps_out s at' left' m e)); sizes = size; taken = tt }
+  module _ {b : Result (ℕ × Cursor) Refusal} (m : says itself input.bytes.now b ≡ byte (drop at' input.bytes.now)) where
+    pub along_out : {to : List ℕ} (x : Cursor) → x.at ≡ c' → {k : Refusal} → b ≡ Err k → AlongSays input bytes c kinds names i at left to kinds' names' (Some (along.Inside x))
+    along_out x o e = record { says = λ j l u all a. rw o (stage_end (g.goes j l u all a) (steps_out input.bytes.now at' left' m e)); sizes = size; taken = tt }
 
-    module _ {f : ℕ} {next : Cursor} (e : b ≡ byte_step.Byte f next) (z : left' ≡ 0 → ⊥) {to kinds'' names'' : List ℕ} {d : Stepped} (v : StepSays s t h bytes c' f i' to kinds' names' kinds'' names'' d) where
+    module _ {f : ℕ} {next : Cursor} (e : b ≡ Ok (f, next)) (z : left' ≡ 0 → ⊥) {to kinds'' names'' : List ℕ} {d : std.Option Stepped} (v : StepSays input bytes c' f i' to kinds' names' kinds'' names'' d) where
       sized : (length kinds'' ≡ 8) × (length names'' ≡ 8)
       sized = (v.kind_size ∙ size.0, v.name_size ∙ size.1)
 
-      pub along-refused : d ≡ stepped.Refused → AlongSays s t h bytes c kinds names i at left to kinds'' names'' along.Refused
-      along-refused o = record { says = λ j l u all a. let w = g.goes j l u all a in stage_fails w (steps_first s at' left' m e z) (step_is v o j l (type_after j.structs u w.taken) w.stands w.few); sizes = sized; taken = tt }
+      pub along-refused : d ≡ None → AlongSays input bytes c kinds names i at left to kinds'' names'' None
+      along-refused o = record { says = λ j l u all a. let w = g.goes j l u all a in stage_fails w (steps_first input.bytes.now at' left' m e z) (step_is v o j l (type_after j.structs u w.taken) w.stands w.few); sizes = sized; taken = tt }
 
-      pub along_written : d ≡ stepped.Written → left' ≤ left → i' + left' ≤ i + left → AlongSays s t h bytes c kinds names i at left to kinds'' names'' (along.Written next (left' - 1) (i' + 1))
+      pub along_written : d ≡ Some stepped.Written → left' ≤ left → i' + left' ≤ i + left → AlongSays input bytes c kinds names i at left to kinds'' names'' (Some (along.Written (record { at = next; left = left' - 1; i = i' + 1 })))
       along_written o p q = record {
-        says = λ j l u all a. let w = g.goes j l u all a in stage_more w (steps_first s at' left' m e z) size (step_is v o j l (type_after j.structs u w.taken) w.stands w.few);
+        says = λ j l u all a. let w = g.goes j l u all a in stage_more w (steps_first input.bytes.now at' left' m e z) size (step_is v o j l (type_after j.structs u w.taken) w.stands w.few);
         sizes = sized;
         taken = (omega (arith, p, z), omega (arith, q, z));
       }
 
-      pub onward-more : {y : Cursor} → d ≡ stepped.Inside y → Onward s t h bytes c kinds names i at left bytes y.at kinds'' names'' (i' + 1) next.at (left' - 1)
-      onward-more o = record { goes = λ j l u all a. let w = g.goes j l u all a in stage_more w (steps_first s at' left' m e z) size (step_is v o j l (type_after j.structs u w.taken) w.stands w.few) }
+      pub onward-more : {y : Cursor} → d ≡ Some (stepped.Inside y) → Onward input bytes c kinds names i at left bytes y.at kinds'' names'' (i' + 1) next.at (left' - 1)
+      onward-more o = record { goes = λ j l u all a. let w = g.goes j l u all a in stage_more w (steps_first input.bytes.now at' left' m e z) size (step_is v o j l (type_after j.structs u w.taken) w.stands w.few) }
 
-along-is : {s t : List ℕ} {h : Head} {from : List ℕ} {c : ℕ} {kinds names : List ℕ} {i at left : ℕ} {to kinds' names' : List ℕ} {r x : Along} → AlongSays s t h from c kinds names i at left to kinds' names' r → r ≡ x → AlongSays s t h from c kinds names i at left to kinds' names' x
-along-is {s} {t} {h} {from} {c} {kinds} {names} {i} {at} {left} {to} {kinds'} {names'} v e = transport (λ (y : Along). AlongSays s t h from c kinds names i at left to kinds' names' y) e v
-
--- steps that were written take one at least
-pub written_taken : {s t : List ℕ} {h : Head} {from : List ℕ} {c : ℕ} {kinds names : List ℕ} {i at left : ℕ} {to kinds' names' : List ℕ} {r : Along} {a : Cursor} {m k : ℕ} → AlongSays s t h from c kinds names i at left to kinds' names' r → r ≡ along.Written a m k → (m < left) × (k + m ≤ i + left)
-written_taken v e = (along-is v e).taken
+along-is : {input : Record} {from : List ℕ} {c : ℕ} {kinds names : List ℕ} {i at left : ℕ} {to kinds' names' : List ℕ} {r x : std.Option Along} → AlongSays input from c kinds names i at left to kinds' names' r → r ≡ x → AlongSays input from c kinds names i at left to kinds' names' x
+along-is {input} {from} {c} {kinds} {names} {i} {at} {left} {to} {kinds'} {names'} v e = transport (λ (y : std.Option Along). AlongSays input from c kinds names i at left to kinds' names' y) e v
 
 -- what was reached in the bytes `from` is reached where they were copied to
-copy_reached : (ss : List StructDecl) (t : Ty) (all s from out : List ℕ) {at : ℕ} {kinds names : List ℕ} → (m : Reached ss t all from at kinds names) (r : PathType) → CopyIs out (type_after ss t all) r → OnwardIs ss t all s out kinds names r
-copy_reached ss t all s from out m (path_types.Inside c) w = absurd w
-copy_reached ss t all s from out m (path_types.Written c) w = record { fits = m.fits; stands = w; few = m.few; leaves = m.leaves }
-copy_reached ss t all s from out m path_types.Refused w = absurd w
+copy_reached : (ss : List StructDecl) (t : Ty) (all s from out : List ℕ) {at : ℕ} {kinds names : List ℕ} → (m : Reached ss t all from at kinds names) (r : std.Option PathType) → CopyIs out (type_after ss t all) r → OnwardIs ss t all s out kinds names r
+copy_reached ss t all s from out m (Some (path_types.Inside c)) w = absurd w
+copy_reached ss t all s from out m (Some (path_types.Written c)) w = record { fits = m.fits; stands = w; few = m.few; leaves = m.leaves }
+copy_reached ss t all s from out m None w = absurd w
 
 -- then steps within the bytes that were written
-module _ {s t : List ℕ} {h : Head} {bytes : List ℕ} {c : ℕ} {kinds names : List ℕ} {i at left : ℕ} {bytes' : List ℕ} {c' : ℕ} {kinds' names' : List ℕ} {i' at' left' : ℕ}
-    (g : Onward s t h bytes c kinds names i at left bytes' c' kinds' names' i' at' left') where
-  pub onward-end : (length kinds' ≡ 8) × (length names' ≡ 8) → (x : Cursor) → x.at ≡ c' → left' ≡ 0 → OnwardSays s t h bytes c kinds names i at left bytes' kinds' names' (path_types.Written x)
+module _ {input : Record} {bytes : List ℕ} {c : ℕ} {kinds names : List ℕ} {i at left : ℕ} {bytes' : List ℕ} {c' : ℕ} {kinds' names' : List ℕ} {i' at' left' : ℕ}
+    (g : Onward input bytes c kinds names i at left bytes' c' kinds' names' i' at' left') where
+  pub onward-end : (length kinds' ≡ 8) × (length names' ≡ 8) → (x : Cursor) → x.at ≡ c' → left' ≡ 0 → OnwardSays input bytes c kinds names i at left bytes' kinds' names' (Some (path_types.Written x))
   onward-end size x o z = record { says = λ j l u all a. rw o (stage_end (g.goes j l u all a) (rw z)); sizes = size }
 
-  module _ {to kinds'' names'' : List ℕ} {r : Along} (v : AlongSays s t h bytes' c' kinds' names' i' at' left' to kinds'' names'' r) where
-    pub onward-refused : {end : List ℕ} → r ≡ along.Refused → OnwardSays s t h bytes c kinds names i at left end kinds'' names'' path_types.Refused
+  module _ {to kinds'' names'' : List ℕ} {r : std.Option Along} (v : AlongSays input bytes' c' kinds' names' i' at' left' to kinds'' names'' r) where
+    pub onward-refused : {end : List ℕ} → r ≡ None → OnwardSays input bytes c kinds names i at left end kinds'' names'' None
     onward-refused e = record { says = λ j l u all a. (along-is v e).says j l u all (g.goes j l u all a); sizes = v.sizes }
 
-    pub onward-inside : {x : Cursor} → r ≡ along.Inside x → OnwardSays s t h bytes c kinds names i at left bytes' kinds'' names'' (path_types.Written x)
+    pub onward-inside : {x : Cursor} → r ≡ Some (along.Inside x) → OnwardSays input bytes c kinds names i at left bytes' kinds'' names'' (Some (path_types.Written x))
     onward-inside e = record { says = λ j l u all a. (along-is v e).says j l u all (g.goes j l u all a); sizes = v.sizes }
 
-    pub onward_copied : {x : Cursor} {out : List ℕ} {q : PathType} → r ≡ along.Inside x → CopiedSays bytes' x.at out q → OnwardSays s t h bytes c kinds names i at left out kinds'' names'' q
+    pub onward_copied : {x : Cursor} {out : List ℕ} {q : std.Option PathType} → r ≡ Some (along.Inside x) → CopiedSays bytes' x.at out q → OnwardSays input bytes c kinds names i at left out kinds'' names'' q
     onward_copied {x} {out} {q} e w = record {
       says = λ j l u all a.
           let m = (along-is v e).says j l u all (g.goes j l u all a) in
-          copy_reached j.structs u all s bytes' out m q (w.says (type_after j.structs u all) m.stands m.few);
+          copy_reached j.structs u all input.bytes.now bytes' out m q (w.says (type_after j.structs u all) m.stands m.few);
       sizes = v.sizes;
     }
 
-    pub onward_written : {a : Cursor} {m k : ℕ} → r ≡ along.Written a m k → Onward s t h bytes c kinds names i at left to 0 kinds'' names'' k a.at m
+    pub onward_written : {a : Ahead} → r ≡ Some (along.Written a) → Onward input bytes c kinds names i at left to 0 kinds'' names'' a.i a.at.at a.left
     onward_written e = record { goes = λ j l u all o. (along-is v e).says j l u all (g.goes j l u all o) }
 
 -- ---- The whole path
 
-path-result : (j : Job) (p : syntax.Path) (s out kinds names : List ℕ) (r : PathType) → OnwardIs j.structs (variable_type j p.base) p.steps s out kinds names r → PathResult j p s out kinds names r
+path-result : (j : Job) (p : syntax.Path) (s out kinds names : List ℕ) (r : std.Option PathType) → OnwardIs j.structs (variable_type j p.base) p.steps s out kinds names r → PathResult j p s out kinds names r
 unfolding path_fits path_type
-path-result j p s out kinds names (path_types.Inside c) w = record { fits = w.fits; stands = w.stands; few = w.few; leaves = w.leaves }
-path-result j p s out kinds names (path_types.Written c) w = record { fits = w.fits; stands = w.stands; few = w.few; leaves = w.leaves }
-path-result j p s out kinds names path_types.Refused w = w
+path-result j p s out kinds names (Some (path_types.Inside c)) w = record { fits = w.fits; stands = w.stands; few = w.few; leaves = w.leaves }
+path-result j p s out kinds names (Some (path_types.Written c)) w = record { fits = w.fits; stands = w.stands; few = w.few; leaves = w.leaves }
+path-result j p s out kinds names None w = w
 
-module _ {s t : List ℕ} {h : Head} (p : repr.Path) {c : ℕ} {kinds names : List ℕ} {out kinds' names' : List ℕ} {r : Along} (v : c ≡ entry_in t 32 64 p.base.0)
-    (g : AlongSays s t h s c kinds names 0 p.from.at p.steps out kinds' names' r) where
-  reaches : (j : Job) → Layout s t h j → p.base.0 < length j.variables → {x : Along} → r ≡ x → AlongIs j.structs (variable_type j p.base.0) (path_of s p).steps s s out kinds' names' x
+module _ {input : Record} (p : repr.Path) {c : ℕ} {kinds names : List ℕ} {out kinds' names' : List ℕ} {r : std.Option Along} (v : c ≡ entry_in input.layout.now 32 64 p.base.0)
+    (g : AlongSays input input.bytes.now c kinds names 0 p.from.at p.steps out kinds' names' r) where
+  reaches : (j : Job) → Holds input j → p.base.0 < length j.variables → {x : std.Option Along} → r ≡ x → AlongIs j.structs (variable_type j p.base.0) (path_of input.bytes.now p).steps input.bytes.now input.bytes.now out kinds' names' x
   reaches j l o e =
       let w = variable_at l p.base.0 UnitTy o in
-      (along-is g e).says j l (variable_type j p.base.0) (path_of s p).steps (stage_start (rw v (type-stands w.reads)) (type-few (drop (entry_in t 32 64 p.base.0) s) w.reads))
+      (along-is g e).says j l (variable_type j p.base.0) (path_of input.bytes.now p).steps (stage_start (rw v (type-stands w.reads)) (type-few (drop (entry_in input.layout.now 32 64 p.base.0) input.bytes.now) w.reads))
 
-  pub path_inside : {x : Cursor} {end : List ℕ} → r ≡ along.Inside x → PathSays s t h p end kinds' names' (path_types.Inside x)
-  path_inside {x} {end} e = record { says = λ j l o. path-result j (path_of s p) s end kinds' names' (path_types.Inside x) (reaches j l o e); sizes = g.sizes }
+  pub path_inside : {x : Cursor} {end : List ℕ} → r ≡ Some (along.Inside x) → PathSays input p end kinds' names' (Some (path_types.Inside x))
+  path_inside {x} {end} e = record { says = λ j l o. path-result j (path_of input.bytes.now p) input.bytes.now end kinds' names' (Some (path_types.Inside x)) (reaches j l o e); sizes = g.sizes }
 
-  pub path-refused : {end : List ℕ} → r ≡ along.Refused → PathSays s t h p end kinds' names' path_types.Refused
-  path-refused {end} e = record { says = λ j l o. path-result j (path_of s p) s end kinds' names' path_types.Refused (reaches j l o e); sizes = g.sizes }
+  pub path-refused : {end : List ℕ} → r ≡ None → PathSays input p end kinds' names' None
+  path-refused {end} e = record { says = λ j l o. path-result j (path_of input.bytes.now p) input.bytes.now end kinds' names' None (reaches j l o e); sizes = g.sizes }
 
-  pub path-onward : {a : Cursor} {m k : ℕ} {end kinds'' names'' : List ℕ} {q : PathType} → r ≡ along.Written a m k → OnwardSays s t h out 0 kinds' names' k a.at m end kinds'' names'' q → PathSays s t h p end kinds'' names'' q
+  pub path-onward : {a : Ahead} {end kinds'' names'' : List ℕ} {q : std.Option PathType} → r ≡ Some (along.Written a) → OnwardSays input out 0 kinds' names' a.i a.at.at a.left end kinds'' names'' q → PathSays input p end kinds'' names'' q
   path-onward {end = end} {kinds'' = kinds''} {names'' = names''} {q = q} e u = record {
-    says = λ j l o. path-result j (path_of s p) s end kinds'' names'' q (u.says j l (variable_type j p.base.0) (path_of s p).steps (reaches j l o e));
+    says = λ j l o. path-result j (path_of input.bytes.now p) input.bytes.now end kinds'' names'' q (u.says j l (variable_type j p.base.0) (path_of input.bytes.now p).steps (reaches j l o e));
     sizes = u.sizes;
   }
 
@@ -376,5 +371,5 @@ abbrev pub no_entries : List ℕ
 no_entries = 0 ∷ 0 ∷ 0 ∷ 0 ∷ 0 ∷ 0 ∷ 0 ∷ 0 ∷ []
 
 -- its type stands where its variable's does
-pub stepless : {s t : List ℕ} {h : Head} (p : repr.Path) (x : Cursor) → p.steps ≡ 0 → x.at ≡ entry_in t 32 64 p.base.0 → PathSays s t h p [] no_entries no_entries (path_types.Inside x)
-stepless {s} {t} {h} p x z v = path_inside p v (along-end (onward s t h s x.at no_entries no_entries 0 p.from.at p.steps) (refl, refl) {to = []} x refl z) refl
+pub stepless : {input : Record} (p : repr.Path) (x : Cursor) → p.steps ≡ 0 → x.at ≡ entry_in input.layout.now 32 64 p.base.0 → PathSays input p [] no_entries no_entries (Some (path_types.Inside x))
+stepless {input} p x z v = path_inside p v (along-end (onward input input.bytes.now x.at no_entries no_entries 0 p.from.at p.steps) (refl, refl) {to = []} x refl z) refl

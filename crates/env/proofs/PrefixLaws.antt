@@ -2,18 +2,15 @@
 use mathlib.Core.Path.{◌≡◌, refl, sym, ap, ◌∙◌}
 use mathlib.Core.Bool.{Bool, true, false, ◌&&◌, not, cond, and-true, and-false, and_assoc}
 use mathlib.Core.List.{List, [], ◌∷◌, ◌++◌}
-use Prim.Native.Nat.{ℕ, zero, suc, ◌+◌, ◌-◌, ◌≤◌, ◌<◌}
+use Prim.Native.Nat.{ℕ, zero, suc, ◌+◌, ◌≤◌, ◌<◌}
 use native.Mathlib.Omega.{arith}
 use native.Mathlib.Numerals.{add-one}
 use native.Mathlib.Decide.{dec_lt}
-use lib.Seq.{drop-nil, take-suc, drop-append-le, length-take-le, take_all}
-use Rattle.nll_spec.specs.Decode.{byte}
-use Rattle.repr.specs.Reading.{rest, byte_says, path_of}
-use Rattle.repr.specs.declared.Cursor.{Cursor}
+use lib.Seq.{drop-nil, take-suc, drop-append-le, length-take-le}
+use Rattle.repr.specs.Reading.{path_of}
 use Rattle.repr.specs.declared.Path as repr
-use Rattle.repr.specs.declared.ByteStep.{ByteStep}
-use Rattle.repr.specs.declared.ByteStep.TheVariants as byte_step
-use Rattle.env.proofs.StepLaws.{steps_out, steps_first}
+use Rattle.std.specs.Prelude.{nat_eq}
+use Rattle.std.specs.List.{starts_with}
 use lib.Dec.{eqb, leb}
 use lib.ListN.{length, get_or, take, drop, length-take, drop_of_length-le}
 use borrow.Author.Tests.{eqb-true, eq-eqb, ne_eqb, le-leb, lt-leb}
@@ -74,40 +71,11 @@ module _ (ss : List StructDecl) (stop : Ty → Bool) (test : ℕ → Bool) (same
       go true e r = rw e (r (sym (eqb-true f g e)))
       go false e r = rw e
 
--- ---- What the loop over two rows of steps keeps
-
--- The answer for all steps is that for those that are left.
-pub record Starting (s : List ℕ) (q m p n c left d more : ℕ) : Type 0 where
-  pub same : starts (take m (drop q s)) (take n (drop p s)) ≡ starts (take left (drop c s)) (take more (drop d s))
-
-pub starting : (s : List ℕ) (q m p n : ℕ) → Starting s q m p n q m p n
-starting s q m p n = record { same = refl }
-
-module _ {s : List ℕ} {q m p n c left d more : ℕ} (g : Starting s q m p n c left d more) where
-  pub starting_end : left ≡ 0 → true ≡ starts (take m (drop q s)) (take n (drop p s))
-  starting_end z = rw (g.same, z)
-
-  module _ {x : ByteStep} (v : byte_says s x ≡ byte (drop c s)) where
-    pub starting_out : {k : ℕ} → x ≡ byte_step.Refused k → true ≡ starts (take m (drop q s)) (take n (drop p s))
-    starting_out e = rw (g.same, steps_out s c left v e)
-
-    module _ {f : ℕ} {next : Cursor} (e : x ≡ byte_step.Byte f next) (z : left ≡ 0 → ⊥) where
-      pub starting_short : more ≡ 0 → false ≡ starts (take m (drop q s)) (take n (drop p s))
-      starting_short i = rw (g.same, steps_first s c left v e z, i)
-
-      module _ {y : ByteStep} (u : byte_says s y ≡ byte (drop d s)) where
-        pub starting_past : {k : ℕ} → y ≡ byte_step.Refused k → false ≡ starts (take m (drop q s)) (take n (drop p s))
-        starting_past i = rw (g.same, steps_first s c left v e z, steps_out s d more u i)
-
-        module _ {h : ℕ} {after : Cursor} (i : y ≡ byte_step.Byte h after) (o : more ≡ 0 → ⊥) where
-          both : starts (take m (drop q s)) (take n (drop p s)) ≡ eqb f h && starts (take (left - 1) (rest s next)) (take (more - 1) (rest s after))
-          both = rw (g.same, steps_first s c left v e z, steps_first s d more u i o)
-
-          pub starting_differ : (f ≡ h → ⊥) → false ≡ starts (take m (drop q s)) (take n (drop p s))
-          starting_differ l = rw (both, ne_eqb f h l)
-
-          pub starting_more : f ≡ h → Starting s q m p n next.at (left - 1) after.at (more - 1)
-          starting_more l = record { same = rw (both, eq-eqb f h l) }
+-- as the test of slices has it
+pub starts-with : (fs gs : List ℕ) → starts_with nat_eq gs fs ≡ starts fs gs
+starts-with [] gs = refl
+starts-with (f ∷ fs) [] = refl
+starts-with (f ∷ fs) (g ∷ gs) = ap (λ (b : Bool). eqb f g && b) (starts-with fs gs)
 
 module _ (s : List ℕ) (q p : repr.Path) (j : Job) where
   pub prefix_other : (q.base.0 ≡ p.base.0 → ⊥) → false ≡ is_prefix j (path_of s q) (path_of s p)
@@ -158,27 +126,6 @@ shortest-none kinds = record { supporting = record { says = none not_shared }; f
 
 pub shortest-more : {kinds : List ℕ} {i k : ℕ} {r x : Shortest} → ShortestIn kinds i r → i < length kinds → k ≡ get_or kinds i 0 → x ≡ later_of r k (i + 1) → ShortestIn kinds (i + 1) x
 shortest-more {kinds} {i} {k = k} {r = r} g h e f = rw f (record { supporting = least_more g.supporting h (not_shared k) (ap not_shared (sym e)); frozen = least_more g.frozen h (not_ref k) (ap not_ref (sym e)) })
-
--- all that there are
-pub shortest-end : {kinds : List ℕ} {i n : ℕ} {r : Shortest} → ShortestIn kinds i r → length kinds ≡ 8 → i ≤ n → (i < 8 → n ≤ i) → ShortestIn kinds n r
-shortest-end {kinds} {i} {n} g size h k = record {
-  supporting = record { says = λ m. g.supporting.says m ∙ ap (λ (x : List ℕ). every not_shared (drop m x)) (same (dec_lt i 8)) };
-  frozen = record { says = λ m. g.frozen.says m ∙ ap (λ (x : List ℕ). every not_ref (drop m x)) (same (dec_lt i 8)) };
-}
-  where
-    same : Dec (i < 8) → take i kinds ≡ take n kinds
-    same (yes l) = let o = k l in let e : i ≡ n = omega arith in rw e
-    same (no l) = take_all i kinds (omega arith) ∙ sym (take_all n kinds (omega arith))
-
-module _ (r : Shortest) (k i : ℕ) where
-  pub later-none : k ≡ 0 → r ≡ later_of r k i
-  later-none e = rw e
-
-  pub later_both : k ≡ 2 → record { supporting = i; frozen = i } ≡ later_of r k i
-  later_both e = rw e
-
-  pub later-frozen : (k ≡ 0 → ⊥) → (k ≡ 2 → ⊥) → record { supporting = r.supporting; frozen = i } ≡ later_of r k i
-  later-frozen e f = rw (ne_eqb k 0 e, ne_eqb k 2 f)
 
 -- ---- The shortest prefixes of a path
 
@@ -239,18 +186,3 @@ later_never_stops j p {r} g i h = go (record { base = p.base; steps = take (i + 
         let l : length q.steps ≡ i + 1 = ap length e ∙ length-take-le (i + 1) p.steps (omega arith) in
         let k : is_prefix j q p ≡ true = prefix_starts j q p ∙ rw (eq-eqb q.base p.base b, e, starts-take (i + 1) p.steps) in
         sym (begins-take j.structs is_shared (variable_type j p.base) (i + 1) p.steps) ∙ supporting-begins j p q b e ∙ g.supporting q ∙ rw (k, l)
-
--- ---- Whether a path is such a prefix
-
-module _ {j : Job} {p : Path} {of : Shortest} (w : ShortestOf j p of) (q : Path) {n : ℕ} (e : n ≡ length q.steps) where
-  pub supporting-short : n < of.supporting → false ≡ is_supporting j q p
-  supporting-short h = sym (w.supporting q ∙ rw (← e, lt-leb of.supporting n h, and-false (is_prefix j q p)))
-
-  pub supporting_long : {r : Bool} → of.supporting ≤ n → r ≡ is_prefix j q p → r ≡ is_supporting j q p
-  supporting_long h i = i ∙ sym (w.supporting q ∙ rw (← e, le-leb of.supporting n h, and-true (is_prefix j q p)))
-
-  pub frozen-short : n < of.frozen → false ≡ is_frozen j q p
-  frozen-short h = sym (w.frozen q ∙ rw (← e, lt-leb of.frozen n h, and-false (is_prefix j q p)))
-
-  pub frozen_long : {r : Bool} → of.frozen ≤ n → r ≡ is_prefix j q p → r ≡ is_frozen j q p
-  frozen_long h i = i ∙ sym (w.frozen q ∙ rw (← e, le-leb of.frozen n h, and-true (is_prefix j q p)))

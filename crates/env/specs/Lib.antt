@@ -1,4 +1,5 @@
 -- What is said of the types and the prefixes of paths.
+pub mod Steps
 pub mod Fields
 pub mod Prefixes
 pub mod Paths

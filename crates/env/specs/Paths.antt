@@ -1,15 +1,18 @@
 -- What is said of the types along a path.
-use Rattle.std.specs.Prelude.{◌≡◌, Bool, true, false, List, ◌++◌, ℕ, ◌+◌, ◌≤◌, ◌<◌, length, take, drop, set, leb}
+use Rattle.std.specs.Prelude as std
+use Rattle.std.specs.Prelude.{Some, None, ◌≡◌, Bool, true, false, List, ◌++◌, ℕ, ◌+◌, ◌≤◌, ◌<◌, length, take, drop, set, leb}
 use Rattle.std.proofs.Math.Option.{Option, none, some}
-use Rattle.nll_spec.specs.Syntax.{BorrowKind, Mut, Shared, Region, Free, Ty, StructTy, Args, StructDecl, Path, Job}
+use Rattle.nll_spec.specs.Syntax.{Region, Free, Ty, StructTy, Args, StructDecl, Path, Job}
 use Rattle.nll_spec.specs.Decode.{max_nodes}
-use Rattle.nll_spec.specs.Types.{is_ref, ref_region, type_nodes, arg_nodes, step_type, type_after, variable_type, path_type}
+use Rattle.nll_spec.specs.Types.{is_ref, ref_region, type_nodes, step_type, type_after, variable_type, path_type}
 use Rattle.nll_spec.specs.WellFormed.{steps_fit, path_fits}
 use Rattle.repr.specs.Reading.{path_of}
 use Rattle.repr.specs.declared.Path as repr
-use Rattle.record.specs.Layout.{Layout}
-use Rattle.record.specs.declared.Head.{Head}
-use Rattle.repr.specs.Stands.{TypeAt, ArgsAt}
+use Rattle.record.specs.Layout.{Holds}
+use Rattle.record.specs.declared.Record.{Record}
+use Rattle.repr.specs.Stands.{TypeAt}
+use Rattle.ty.specs.Written.{Given}
+use Rattle.ty.specs.declared.write.Arguments.{Arguments}
 use Rattle.env.specs.Fields.{TypeThere}
 use Rattle.env.specs.Prefixes.{kind_code, Leaves}
 use Rattle.env.specs.declared.paths.PathType.{PathType}
@@ -29,21 +32,17 @@ pub record PathIs (j : Job) (p : Path) (bytes : List ℕ) (at : ℕ) (kinds name
   pub leaves : Leaves j.structs (variable_type j p.base) p.steps kinds names
 
 -- Its type stands in the record s or in the lent bytes, or it may not be taken.
-abbrev pub PathResult : Job → Path → List ℕ → List ℕ → List ℕ → List ℕ → PathType → Type 0
-PathResult j p s out kinds names (path_types.Inside c) = PathIs j p s c.at kinds names
-PathResult j p s out kinds names (path_types.Written c) = PathIs j p out c.at kinds names
-PathResult j p s out kinds names path_types.Refused = path_fits j p ≡ false
+abbrev pub PathResult : Job → Path → List ℕ → List ℕ → List ℕ → List ℕ → std.Option PathType → Type 0
+PathResult j p s out kinds names (Some (path_types.Inside c)) = PathIs j p s c.at kinds names
+PathResult j p s out kinds names (Some (path_types.Written c)) = PathIs j p out c.at kinds names
+PathResult j p s out kinds names None = path_fits j p ≡ false
 
 -- What `path_type` says of a path whose base the job has.
-pub record PathSays (s t : List ℕ) (h : Head) (p : repr.Path) (out kinds names : List ℕ) (r : PathType) : Type 0 where
-  pub says : (j : Job) → Layout s t h j → p.base.0 < length j.variables → PathResult j (path_of s p) s out kinds names r
+pub record PathSays (input : Record) (p : repr.Path) (out kinds names : List ℕ) (r : std.Option PathType) : Type 0 where
+  pub says : (j : Job) → Holds input j → p.base.0 < length j.variables → PathResult j (path_of input.bytes.now p) input.bytes.now out kinds names r
   pub sizes : (length kinds ≡ 8) × (length names ≡ 8)
 
 -- ---- A step
-
-abbrev pub kind_number : BorrowKind → ℕ
-kind_number Mut = 1
-kind_number Shared = 2
 
 -- n is the region's name, if the region has one.
 pub record Named (region : Region) (n : ℕ) : Type 0 where
@@ -62,35 +61,35 @@ small none = false
 small (some u) = leb (type_nodes u) max_nodes
 
 -- The step reaches a type of `from` or of `to`, or none that it may reach.
-abbrev pub Moves : List ℕ → List ℕ → Option Ty → Stepped → Type 0
-Moves from to o (stepped.Inside c) = TypeThere from c.at o
-Moves from to o stepped.Written = TypeThere to 0 o
-Moves from to o stepped.Refused = small o ≡ false
+abbrev pub Moves : List ℕ → List ℕ → Option Ty → std.Option Stepped → Type 0
+Moves from to o (Some (stepped.Inside c)) = TypeThere from c.at o
+Moves from to o (Some stepped.Written) = TypeThere to 0 o
+Moves from to o None = small o ≡ false
 
 -- The same for a field of a struct with the arguments that stand there.
-pub record FieldStepSays (s t : List ℕ) (h : Head) (name f : ℕ) (from : List ℕ) (at count : ℕ) (to : List ℕ) (r : Stepped) : Type 0 where
-  pub says : (j : Job) → Layout s t h j → (g : Args) → ArgsAt from at count g → arg_nodes g ≤ max_nodes → Moves from to (step_type j.structs (StructTy name g) f) r
+pub record FieldStepSays (input : Record) (name f : ℕ) (a : Arguments) (to : List ℕ) (r : std.Option Stepped) : Type 0 where
+  pub says : (j : Job) → Holds input j → (g : Args) → Given a g → Moves a.bytes.now to (step_type j.structs (StructTy name g) f) r
 
 -- The same, and what it leaves is noted.
-abbrev pub StepIs : List ℕ → List ℕ → Option Ty → Type 0 → Stepped → Type 0
-StepIs from to o noted (stepped.Inside c) = TypeThere from c.at o × noted
-StepIs from to o noted stepped.Written = TypeThere to 0 o × noted
-StepIs from to o noted stepped.Refused = small o ≡ false
+abbrev pub StepIs : List ℕ → List ℕ → Option Ty → Type 0 → std.Option Stepped → Type 0
+StepIs from to o noted (Some (stepped.Inside c)) = TypeThere from c.at o × noted
+StepIs from to o noted (Some stepped.Written) = TypeThere to 0 o × noted
+StepIs from to o noted None = small o ≡ false
 
-pub record StepSays (s t : List ℕ) (h : Head) (from : List ℕ) (at f i : ℕ) (to kinds names kinds' names' : List ℕ) (r : Stepped) : Type 0 where
-  pub says : (j : Job) → Layout s t h j → (u : Ty) → TypeAt from at u → type_nodes u ≤ max_nodes → StepIs from to (step_type j.structs u f) (Noted u i kinds names kinds' names') r
+pub record StepSays (input : Record) (from : List ℕ) (at f i : ℕ) (to kinds names kinds' names' : List ℕ) (r : std.Option Stepped) : Type 0 where
+  pub says : (j : Job) → Holds input j → (u : Ty) → TypeAt from at u → type_nodes u ≤ max_nodes → StepIs from to (step_type j.structs u f) (Noted u i kinds names kinds' names') r
   pub kind_size : length kinds' ≡ length kinds
   pub name_size : length names' ≡ length names
 
 -- ---- A copy
 
 -- the type u stands in the lent bytes
-abbrev pub CopyIs : List ℕ → Ty → PathType → Type 0
-CopyIs out u (path_types.Inside c) = ⊥
-CopyIs out u (path_types.Written c) = TypeAt out c.at u
-CopyIs out u path_types.Refused = ⊥
+abbrev pub CopyIs : List ℕ → Ty → std.Option PathType → Type 0
+CopyIs out u (Some (path_types.Inside c)) = ⊥
+CopyIs out u (Some (path_types.Written c)) = TypeAt out c.at u
+CopyIs out u None = ⊥
 
-pub record CopiedSays (s : List ℕ) (at : ℕ) (out : List ℕ) (r : PathType) : Type 0 where
+pub record CopiedSays (s : List ℕ) (at : ℕ) (out : List ℕ) (r : std.Option PathType) : Type 0 where
   pub says : (u : Ty) → TypeAt s at u → type_nodes u ≤ max_nodes → CopyIs out u r
 
 -- ---- The steps that are left
@@ -113,29 +112,29 @@ pub record Reached (ss : List StructDecl) (t : Ty) (all bytes : List ℕ) (at : 
   pub leaves : Leaves ss t all kinds names
 
 -- The steps end in the bytes `from`, or one is written into `to` with steps that are left, or they may not be taken.
-abbrev pub AlongIs : List StructDecl → Ty → List ℕ → List ℕ → List ℕ → List ℕ → List ℕ → List ℕ → Along → Type 0
-AlongIs ss t all s from to kinds names (along.Inside c) = Reached ss t all from c.at kinds names
-AlongIs ss t all s from to kinds names (along.Written at left i) = Stage ss t all to 0 kinds names i (take left (drop at.at s))
-AlongIs ss t all s from to kinds names along.Refused = steps_fit ss t all ≡ false
+abbrev pub AlongIs : List StructDecl → Ty → List ℕ → List ℕ → List ℕ → List ℕ → List ℕ → List ℕ → std.Option Along → Type 0
+AlongIs ss t all s from to kinds names (Some (along.Inside c)) = Reached ss t all from c.at kinds names
+AlongIs ss t all s from to kinds names (Some (along.Written a)) = Stage ss t all to 0 kinds names a.i (take a.left (drop a.at.at s))
+AlongIs ss t all s from to kinds names None = steps_fit ss t all ≡ false
 
 -- Where a type is written, fewer steps are left, and their numbers end no later.
-abbrev pub Taken : ℕ → ℕ → Along → Type 0
-Taken i left (along.Inside c) = Unit {0}
-Taken i left (along.Written at left' i') = (left' < left) × (i' + left' ≤ i + left)
-Taken i left along.Refused = Unit {0}
+abbrev pub Taken : ℕ → ℕ → std.Option Along → Type 0
+Taken i left (Some (along.Inside c)) = Unit {0}
+Taken i left (Some (along.Written a)) = (a.left < left) × (a.i + a.left ≤ i + left)
+Taken i left None = Unit {0}
 
 -- What steps from the type that stands there reach.
-pub record AlongSays (s t : List ℕ) (h : Head) (from : List ℕ) (c : ℕ) (kinds names : List ℕ) (i at left : ℕ) (to kinds' names' : List ℕ) (r : Along) : Type 0 where
-  pub says : (j : Job) → Layout s t h j → (u : Ty) (all : List ℕ) → Stage j.structs u all from c kinds names i (take left (drop at s)) → AlongIs j.structs u all s from to kinds' names' r
+pub record AlongSays (input : Record) (from : List ℕ) (c : ℕ) (kinds names : List ℕ) (i at left : ℕ) (to kinds' names' : List ℕ) (r : std.Option Along) : Type 0 where
+  pub says : (j : Job) → Holds input j → (u : Ty) (all : List ℕ) → Stage j.structs u all from c kinds names i (take left (drop at input.bytes.now)) → AlongIs j.structs u all input.bytes.now from to kinds' names' r
   pub sizes : (length kinds' ≡ 8) × (length names' ≡ 8)
   pub taken : Taken i left r
 
-abbrev pub OnwardIs : List StructDecl → Ty → List ℕ → List ℕ → List ℕ → List ℕ → List ℕ → PathType → Type 0
-OnwardIs ss t all s out kinds names (path_types.Inside c) = Reached ss t all s c.at kinds names
-OnwardIs ss t all s out kinds names (path_types.Written c) = Reached ss t all out c.at kinds names
-OnwardIs ss t all s out kinds names path_types.Refused = steps_fit ss t all ≡ false
+abbrev pub OnwardIs : List StructDecl → Ty → List ℕ → List ℕ → List ℕ → List ℕ → List ℕ → std.Option PathType → Type 0
+OnwardIs ss t all s out kinds names (Some (path_types.Inside c)) = Reached ss t all s c.at kinds names
+OnwardIs ss t all s out kinds names (Some (path_types.Written c)) = Reached ss t all out c.at kinds names
+OnwardIs ss t all s out kinds names None = steps_fit ss t all ≡ false
 
 -- The same, to the last step.
-pub record OnwardSays (s t : List ℕ) (h : Head) (bytes : List ℕ) (at : ℕ) (kinds names : List ℕ) (i from left : ℕ) (out kinds' names' : List ℕ) (r : PathType) : Type 0 where
-  pub says : (j : Job) → Layout s t h j → (u : Ty) (all : List ℕ) → Stage j.structs u all bytes at kinds names i (take left (drop from s)) → OnwardIs j.structs u all s out kinds' names' r
+pub record OnwardSays (input : Record) (bytes : List ℕ) (at : ℕ) (kinds names : List ℕ) (i from left : ℕ) (out kinds' names' : List ℕ) (r : std.Option PathType) : Type 0 where
+  pub says : (j : Job) → Holds input j → (u : Ty) (all : List ℕ) → Stage j.structs u all bytes at kinds names i (take left (drop from input.bytes.now)) → OnwardIs j.structs u all input.bytes.now out kinds' names' r
   pub sizes : (length kinds' ≡ 8) × (length names' ≡ 8)

@@ -1,115 +1,69 @@
 // Prefixes of paths: whether a path is one of another, and of which kinds.
-ghost use Rattle.std.specs.Prelude.{◌≡◌, true, min, ◌≤◌, ◌<◌, length, take, drop};
+ghost use Rattle.std.specs.Prelude.{◌≡◌, true, ◌≤◌, ◌<◌, length};
 ghost use Rattle.nll_spec.specs.Syntax.{Job};
 ghost use Rattle.nll_spec.specs.Types.{is_prefix, is_supporting, is_frozen};
 ghost use Rattle.nll_spec.specs.WellFormed.{path_fits};
 ghost use Rattle.repr.specs.Reading.{path_of};
-ghost use Rattle.record.specs.Layout.{Layout};
-ghost use Rattle.env.specs.Prefixes.{starts, later_of, ShortestIn, ShortestOf};
+ghost use Rattle.record.specs.Layout.{Holds};
+ghost use Rattle.env.specs.Steps.{kind_in, kinds_of};
+ghost use Rattle.env.specs.Prefixes.{later_of, ShortestIn, ShortestOf};
 
 use super::paths::path_type;
-use super::{Shortest, wide};
-use record::Head;
-use repr::{ByteStep, Cursor, Path};
+use super::{Shortest, Step};
+use record::Record;
+use repr::{BorrowKind, Path};
 
-// Whether m steps begin n others, as far as there are any.
-fn starts(s: &[u8], q: Cursor, m: u8, p: Cursor, n: u8) -> bool
-    ensures { result ≡ starts (take m (drop q.at s.now)) (take n (drop p.at s.now)) }
+// The steps of a path, as far as there are any.
+fn steps(s: &[u8], p: Path) -> &[u8]
+    ensures { result.now ≡ (path_of s.now p).steps }
 {
-    let mut c = q;
-    let mut left = m;
-    let mut d = p;
-    let mut more = n;
-    while left != 0 {
-        let ByteStep::Byte(f, next) = c.byte(s) else {
-            return true;
-        };
-        if more == 0 {
-            return false;
-        }
-        let ByteStep::Byte(g, after) = d.byte(s) else {
-            return false;
-        };
-        if f != g {
-            return false;
-        }
-        c = next;
-        left -= 1;
-        d = after;
-        more -= 1;
-    }
-    true
+    let from = p.from.at.min(s.len());
+    let rest = &s[from..];
+    &rest[..usize::from(p.steps).min(rest.len())]
 }
 
 // Whether q is a prefix of p.
 pub fn is_prefix(s: &[u8], q: Path, p: Path) -> bool
     ensures { (j : Job) → result ≡ is_prefix j (path_of s.now q) (path_of s.now p) }
 {
-    if q.base.0 != p.base.0 {
-        return false;
-    }
-    let c = q.from;
-    let d = p.from;
-    starts(s, c, q.steps, d, p.steps)
+    q.base == p.base && steps(s, p).starts_with(steps(s, q))
 }
 
 // How many steps a path has.
 pub fn steps_of(s: &[u8], p: Path) -> u8
     ensures { result ≡ length (path_of s.now p).steps }
 {
-    let from = p.from;
-    let at = from.at;
-    let many = wide(p.steps);
-    if s.len() <= at {
-        return 0;
-    }
-    let left = s.len() - at;
-    if many <= left {
-        return p.steps;
-    }
-    left as u8
+    steps(s, p).len() as u8
 }
 
-fn least(x: u8, y: u8) -> u8
-    ensures { result ≡ min x y }
+// The shortest prefixes with one step more, the i-th.
+fn later(r: Shortest, step: Step, i: u8) -> Shortest
+    ensures { result ≡ later_of r (kind_in step) i }
 {
-    if x < y { x } else { y }
-}
-
-// The shortest prefixes with one step more, the i-th, which leaves a type of this kind.
-fn later(r: Shortest, kind: u8, i: u8) -> Shortest
-    ensures { result ≡ later_of r kind i }
-{
-    if kind == 0 {
+    let Step::Ref { kind, .. } = step else {
         return r;
-    }
-    if kind == 2 {
-        return Shortest {
-            supporting: i,
-            frozen: i,
-        };
-    }
+    };
+    let supporting = if kind == BorrowKind::Shared {
+        i
+    } else {
+        r.supporting
+    };
     Shortest {
-        supporting: r.supporting,
+        supporting,
         frozen: i,
     }
 }
 
-// The shortest prefixes of a path of so many steps, by the kinds of the types that they leave.
-pub fn shortest(kinds: &[u8; 8], steps: u8) -> Shortest
-    requires { length kinds.now ≡ 8 }
-    ensures { ShortestIn kinds.now steps result }
+// The shortest prefixes of a path of so many steps, by the types that they leave.
+pub fn shortest(taken: &[Step; 8], steps: u8) -> Shortest
+    ensures { ShortestIn (kinds_of taken.now) steps result }
 {
-    let n = least(steps, 8);
     let mut r = Shortest {
         supporting: 0,
         frozen: 0,
     };
-    let mut i: u8 = 0;
-    while i < n {
-        let kind = kinds[wide(i)];
-        i += 1;
-        r = later(r, kind, i);
+    for i in 0..steps.min(8) {
+        r = later(r, taken[usize::from(i)], i + 1);
     }
     r
 }
@@ -118,26 +72,19 @@ pub fn shortest(kinds: &[u8; 8], steps: u8) -> Shortest
 pub fn is_supporting(s: &[u8], q: Path, p: Path, of: Shortest) -> bool
     ensures { (j : Job) → ShortestOf j (path_of s.now p) of → result ≡ is_supporting j (path_of s.now q) (path_of s.now p) }
 {
-    if steps_of(s, q) < of.supporting {
-        return false;
-    }
-    is_prefix(s, q, p)
+    of.supporting <= steps_of(s, q) && is_prefix(s, q, p)
 }
 
 // Whether q is a frozen prefix of p, whose shortest prefixes are given.
 pub fn is_frozen(s: &[u8], q: Path, p: Path, of: Shortest) -> bool
     ensures { (j : Job) → ShortestOf j (path_of s.now p) of → result ≡ is_frozen j (path_of s.now q) (path_of s.now p) }
 {
-    if steps_of(s, q) < of.frozen {
-        return false;
-    }
-    is_prefix(s, q, p)
+    of.frozen <= steps_of(s, q) && is_prefix(s, q, p)
 }
 
 // The shortest prefixes of a path.
-pub fn shortest_of(s: &[u8], layout: &[u16; 1280], head: Head, p: Path) -> Shortest
-    requires { length layout.now ≡ 1280 }
-    ensures { (j : Job) → Layout s.now layout.now head j → p.base.0 < length j.variables → path_fits j (path_of s.now p) ≡ true → length (path_of s.now p).steps ≤ 8 → ShortestOf j (path_of s.now p) result }
+pub fn shortest_of(input: &Record<'_>, p: Path) -> Shortest
+    ensures { (j : Job) → Holds input.now j → p.base.0 < length j.variables → path_fits j (path_of input.now.bytes.now p) ≡ true → length (path_of input.now.bytes.now p).steps ≤ 8 → ShortestOf j (path_of input.now.bytes.now p) result }
 {
     if p.steps == 0 {
         return Shortest {
@@ -147,10 +94,7 @@ pub fn shortest_of(s: &[u8], layout: &[u16; 1280], head: Head, p: Path) -> Short
     }
     let mut out = [0; 512];
     let mut spare = [0; 512];
-    let mut kinds = [0; 8];
-    let mut names = [0; 8];
-    path_type(
-        s, layout, head, p, &mut out, &mut spare, &mut kinds, &mut names,
-    );
-    shortest(&kinds, steps_of(s, p))
+    let mut taken = [Step::Owned; 8];
+    path_type(input, p, &mut out, &mut spare, &mut taken);
+    shortest(&taken, steps_of(input.bytes, p))
 }

@@ -1,7 +1,7 @@
 -- What a block that is read says of its counts. Assumes nothing.
 use mathlib.Core.Path.{◌≡◌, sym, ap, subst, ◌∙◌}
 use mathlib.Core.List.{List}
-use Prim.Native.Nat.{ℕ, ◌-◌, ◌≤◌, ◌<◌}
+use Prim.Native.Nat.{ℕ, ◌-◌, ◌≤◌, ◌<◌, min}
 use native.Mathlib.Omega.{arith}
 use lib.ListN.{length, take, drop, length-take, length-drop, drop_of_length-le}
 use lib.Seq.{take_all, take-nil}
@@ -10,8 +10,6 @@ use Rattle.nll_spec.specs.Decode.{read, byte, count, items, counted, action, blo
 use Rattle.repr.specs.Reading.{rest}
 use Rattle.repr.specs.Parts.{block_of, block_says}
 use Rattle.repr.specs.declared.BasicBlockData.{BasicBlockData}
-use Rattle.repr.specs.declared.BlockStep.{BlockStep}
-use Rattle.repr.specs.declared.BlockStep.TheVariants as block_step
 use Rattle.repr.proofs.ReadLaws.{told}
 use Rattle.repr.proofs.SpellLaws.{clash, done_back, then}
 use Rattle.repr.proofs.ItemLaws.{items-length}
@@ -21,6 +19,9 @@ use Rattle.record.specs.declared.Head.{Head}
 use Rattle.record.proofs.LayoutLaws.{count_most}
 use Rattle.graph.specs.declared.Shape.{Shape}
 use Rattle.graph.specs.Shape.{Listed, Shaped, ShapeSays}
+use Rattle.repr.specs.declared.refusal.Refusal.{Refusal}
+use Rattle.std.specs.Prelude.{Result, Ok, Err}
+use native.Mathlib.Decide.{dec_lt}
 
 -- A job of the record has at most 64 blocks.
 pub few-blocks : {s t : List ℕ} {h : Head} {j : Job} → Layout s t h j → length j.blocks ≤ 64
@@ -37,7 +38,7 @@ module _ (s : List ℕ) (d : BasicBlockData) {many n : ℕ} (i : many ≡ d.acti
         row = rw (drop_of_length-le s k, take-nil);
       }
 
-  pub listed_cut : d.targets.at < length s → length s - d.targets.at < n → Listed s d (record { actions = many; count = length s - d.targets.at; from = d.targets.at })
+  listed_cut : d.targets.at < length s → length s - d.targets.at < n → Listed s d (record { actions = many; count = length s - d.targets.at; from = d.targets.at })
   listed_cut k m =
       let x = length-drop d.targets.at s in
       record {
@@ -46,8 +47,15 @@ module _ (s : List ℕ) (d : BasicBlockData) {many n : ℕ} (i : many ≡ d.acti
         row = take_all (length s - d.targets.at) (drop d.targets.at s) (omega arith) ∙ sym (take_all d.successors (drop d.targets.at s) (omega arith));
       }
 
-  pub listed_whole : d.targets.at < length s → n ≤ length s - d.targets.at → Listed s d (record { actions = many; count = n; from = d.targets.at })
+  listed_whole : d.targets.at < length s → n ≤ length s - d.targets.at → Listed s d (record { actions = many; count = n; from = d.targets.at })
   listed_whole k m = record { fits = record { inside = omega arith; few = h; actions = l }; many = i; row = rw e }
+
+  pub listed_within : d.targets.at < length s → {m : ℕ} → m ≡ min n (length s - d.targets.at) → Listed s d (record { actions = many; count = m; from = d.targets.at })
+  listed_within k {m} p = go (dec_lt (length s - d.targets.at) n)
+    where
+      go : Dec (length s - d.targets.at < n) → Listed s d (record { actions = many; count = m; from = d.targets.at })
+      go (yes h) = let q : m ≡ length s - d.targets.at = omega arith in rw q (listed_cut k h)
+      go (no h) = let q : m ≡ n = omega arith in rw q (listed_whole k (omega arith))
 
 -- ---- A block that was read
 
@@ -76,15 +84,15 @@ module _ (s : List ℕ) (d : BasicBlockData) {b : Block} {over : List ℕ} where
 
 -- ---- The answer
 
-module _ {s : List ℕ} {at : ℕ} {r : BlockStep} (e : block_says s r ≡ block (drop at s)) where
-  pub shape_none : {k : ℕ} → r ≡ block_step.Refused k → ShapeSays s at (record { actions = 0; count = 0; from = 0 })
+module _ {s : List ℕ} {at : ℕ} {r : Result BasicBlockData Refusal} (e : block_says s r ≡ block (drop at s)) where
+  pub shape_none : {k : Refusal} → r ≡ Err k → ShapeSays s at (record { actions = 0; count = 0; from = 0 })
   shape_none i =
       record {
         fits = record { inside = omega arith; few = omega arith; actions = omega arith };
         shaped = λ b h. absurd (clash (sym (told (block_says s) e i) ∙ h.reads));
       }
 
-  pub shape_block : {d : BasicBlockData} → r ≡ block_step.Block d → {x : Shape} → Listed s d x → ShapeSays s at x
+  pub shape_block : {d : BasicBlockData} → r ≡ Ok d → {x : Shape} → Listed s d x → ShapeSays s at x
   shape_block {d} i {x} l = record { fits = l.fits; shaped = shaped }
     where
       shaped : (b : Block) → Stands block b (drop at s) → Shaped s b x

@@ -3,13 +3,13 @@ ghost use Rattle.std.specs.Prelude.{◌≡◌, ◌+◌, ◌<◌, ◌≤◌, leng
 ghost use Rattle.nll_spec.specs.Syntax.{Job};
 ghost use Rattle.nll_spec.specs.Decode.{point_count};
 ghost use Rattle.nll_spec.specs.WellFormed.{successors_named};
-ghost use Rattle.record.specs.Layout.{Layout};
+ghost use Rattle.record.specs.Layout.{Holds};
 ghost use Rattle.graph.specs.Shape.{InRecord, row_of};
 ghost use Rattle.graph.specs.Search.{state_of, Popped, Roomy, visited, visits, WalkedBlocks, with_run, BlockPoints, WalkedIn};
 
 use super::Shape;
 use super::shapes::shape;
-use record::Head;
+use record::Record;
 use repr::BasicBlockIndex;
 
 // The marks of the blocks that were seen, and a stack of those whose successors are still to be visited.
@@ -62,9 +62,8 @@ impl Search {
 }
 
 // The walked blocks, as marks, of a job that starts at this block.
-pub fn blocks(s: &[u8], layout: &[u16; 1280], start: BasicBlockIndex) -> [u8; 64]
-    requires { length layout.now ≡ 1280 }
-    ensures { WalkedBlocks s.now layout.now start.0 result }
+pub fn blocks(input: &Record<'_>, start: BasicBlockIndex) -> [u8; 64]
+    ensures { WalkedBlocks input.now.bytes.now input.now.layout.now start.0 result }
 {
     let mut search = Search {
         seen: [0; 64],
@@ -73,8 +72,8 @@ pub fn blocks(s: &[u8], layout: &[u16; 1280], start: BasicBlockIndex) -> [u8; 64
     };
     search.visit(start.0);
     while let Some(b) = search.pop() {
-        let d = shape(s, layout, BasicBlockIndex(b));
-        search.visit_next(s, d);
+        let d = shape(input, BasicBlockIndex(b));
+        search.visit_next(input.bytes, d);
     }
     search.seen
 }
@@ -91,20 +90,19 @@ fn run(words: &mut [u32; 32], p: usize, n: usize)
 
 // Puts the points of block b, the first of which is p, into the set if the block is marked. Returns the next block's first point.
 fn block_points(
-    s: &[u8],
-    layout: &[u16; 1280],
+    input: &Record<'_>,
     seen: &[u8; 64],
     b: u8,
     p: usize,
     words: &mut [u32; 32],
 ) -> usize
-    requires { (length layout.now ≡ 1280) × (length seen.now ≡ 64) × (p ≤ 1024) × (length words.old ≡ 32) }
-    ensures { BlockPoints s.now layout.now seen.now b p result words.old words.new }
+    requires { p ≤ 1024 }
+    ensures { BlockPoints input.now.bytes.now input.now.layout.now seen.now b p result words.old words.new }
 {
     if 64 <= b {
         return p;
     }
-    let d = shape(s, layout, BasicBlockIndex(b));
+    let d = shape(input, BasicBlockIndex(b));
     let n = d.actions + 1;
     let next = p + n;
     if 1024 < next {
@@ -119,20 +117,13 @@ fn block_points(
 }
 
 // The points of the walked blocks of a job that starts at this block.
-pub fn walked(
-    s: &[u8],
-    layout: &[u16; 1280],
-    head: Head,
-    start: BasicBlockIndex,
-    words: &mut [u32; 32],
-)
-    requires { (length layout.now ≡ 1280) × (length words.old ≡ 32) }
-    ensures { (length words.new ≡ 32) × ((j : Job) → Layout s.now layout.now head j → T (successors_named j) → point_count j ≤ 1024 → j.start ≡ start.0 → T (ltb j.start (length j.blocks)) → WalkedIn j words.new) }
+pub fn walked(input: &Record<'_>, start: BasicBlockIndex, words: &mut [u32; 32])
+    ensures { (j : Job) → Holds input.now j → T (successors_named j) → point_count j ≤ 1024 → j.start ≡ start.0 → T (ltb j.start (length j.blocks)) → WalkedIn j words.new }
 {
-    let seen = blocks(s, layout, start);
+    let seen = blocks(input, start);
     bit_set::clear(words, 0, 32);
     let mut p = 0;
-    for b in 0..head.blocks {
-        p = block_points(s, layout, &seen, b, p, words);
+    for b in 0..input.head.blocks {
+        p = block_points(input, &seen, b, p, words);
     }
 }

@@ -16,8 +16,8 @@ use Rattle.nll_spec.specs.Output.{verdict_bytes}
 use Rattle.nll_spec.specs.Listing.{ascii, spaced, line}
 use Rattle.record.specs.Layout.{DecodedSays, Verdict}
 use Rattle.record.specs.declared.Head.{Head}
-use Rattle.record.specs.declared.Decoded.{Decoded}
-use Rattle.record.specs.declared.Decoded.TheVariants.{Job as Accept}
+use Rattle.repr.specs.declared.refusal.Refusal.{Refusal}
+use Rattle.std.specs.Prelude.{Result, Ok}
 use Rattle.listing.specs.Writing.{text_of, Puts}
 use Rattle.listing.specs.Places.{Counted, in_set, point_text, access_text, grown_text, text_from, region_text, grown_from, access_from, region_from, rest, left, Follows, Steps}
 use Rattle.listing.specs.declared.Counts.{Counts}
@@ -159,13 +159,13 @@ pub record Filling (n : Counts) (ws bs : List ℕ) (from place : Place) (steps :
 
 -- ---- The counts of a record's job
 
-module _ {s t : List ℕ} {r : Decoded} (d : DecodedSays (decode.decode s) s t r) where
-  pub count_job : {h : Head} {x : ℕ} → r ≡ Accept h → x ≡ h.declared → (j : Job) → decode.decode s ≡ decode.decoded j
+module _ {s t : List ℕ} {r : Result Head Refusal} (d : DecodedSays (decode.decode s) s t r) where
+  pub count_job : {h : Head} {x : ℕ} → r ≡ Ok h → x ≡ h.declared → (j : Job) → decode.decode s ≡ decode.decoded j
       → Counted j (record { points = h.code + x; regions = h.regions; declared = h.declared })
   unfolding decode.point_count
   count_job {h} {x} e ex j q = go (rw e at d.says)
     where
-      go : Verdict (decode.decode s) s t (Accept h) → Counted j (record { points = h.code + x; regions = h.regions; declared = h.declared })
+      go : Verdict (decode.decode s) s t (Ok h) → Counted j (record { points = h.code + x; regions = h.regions; declared = h.declared })
       go a =
           let same : a.job ≡ j = cc a.is in
           let points : h.code + x ≡ decode.point_count a.job = ap₂ (λ (y z : ℕ). y + z) a.layout.code (ex ∙ sym a.layout.declared_count) in

@@ -6,7 +6,6 @@ ghost use Rattle.listing.specs.Places.{in_set, is_done, Counted, Follows, Steps,
 
 use super::writer::Text;
 use super::{Counts, Place};
-use record::Decoded;
 
 // How many steps one text takes at most.
 const STEPS: usize = 4096;
@@ -155,15 +154,15 @@ pub fn count(s: &[u8]) -> Counts
 {
     let mut layout = [0u16; 1280];
     match record::read(s, &mut layout) {
-        Decoded::Refused(_) => Counts {
-            points: 0,
-            regions: 0,
-            declared: 0,
-        },
-        Decoded::Job(h) => Counts {
+        Ok(h) => Counts {
             points: h.code + u16::from(h.declared),
             regions: h.regions,
             declared: h.declared,
+        },
+        Err(_) => Counts {
+            points: 0,
+            regions: 0,
+            declared: 0,
         },
     }
 }

@@ -26,9 +26,6 @@ use Rattle.liveness.proofs.FillLaws.{one_more}
 row_room : (w v many : ℕ) → v < many → v * w + w ≤ many * w
 row_room w v many l = omega (arith, mul-le-mul_right w l, suc-mul v w)
 
-pub small-start : (w v : ℕ) → v ≤ 64 → w ≤ 32 → v * w ≤ 2048
-small-start w v l m = omega (arith, mul-le-mul_right w l, m)
-
 same_row_lem : (w v n p x : ℕ) → p < word_bits * w → x < word_bits * w → row_bit w v p ≡ row_bit w n x → v ≡ n
 same_row_lem w v n p x l m e = go (dec_lt v n) (dec_lt n v)
   where
@@ -106,9 +103,6 @@ module _ (w : ℕ) (f : ℕ → Bool) (x : ℕ) (rows : List ℕ) where
       same v (no m) =
           let z : f v ≡ false = h v (omega (arith, m)) in
           ap (λ (c : Bool). ltb v n && c) z ∙ and-false (ltb v n) ∙ sym (ap (λ (c : Bool). ltb v many && c) z ∙ and-false (ltb v many))
-
-  pub column_all : {n many : ℕ} {u : List ℕ} → Column w n f x rows u → n ≤ many → many ≤ n → Column w many f x rows u
-  column_all {n} {many} g l m = let e : many ≡ n = omega arith in rw e g
 
 -- ---- The bits of a word
 
@@ -196,6 +190,3 @@ module _ (w many from : ℕ) (small : many ≤ 64) (walked sets : List ℕ) wher
               ∙ sym (ap (λ (a : Bool). (ltb p n && (has walked p && has sets (bit_at p (from + v)))) || (eqb p n && a)) (said v e) ∙ ap (λ (a : Bool). (ltb p n && (has walked p && has sets (bit_at p (from + v)))) || a) (and-false (eqb p n)) ∙ or-false (ltb p n && (has walked p && has sets (bit_at p (from + v)))))
               ∙ one_more (λ q. has walked q && has sets (bit_at q (from + v))) p n;
         }
-
-  pub columns_all : {n code : ℕ} {u : List ℕ} → Columns w many n from walked sets u → n ≤ code → code ≤ n → Columns w many code from walked sets u
-  columns_all {n} {code} g l m = let e : code ≡ n = omega arith in rw e g

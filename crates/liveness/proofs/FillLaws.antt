@@ -1,5 +1,5 @@
 -- The points' sets, filled one by one. Assumes nothing.
-use mathlib.Core.Path.{◌≡◌, refl, sym, ap, ap₂, subst, ◌∙◌}
+use mathlib.Core.Path.{◌≡◌, refl, sym, ap, ap₂, ◌∙◌}
 use mathlib.Core.Bool.{Bool, true, false, not, ◌&&◌, ◌||◌, or-false}
 use mathlib.Core.List.{List}
 use Prim.Native.Nat.{ℕ, ◌+◌, ◌*◌, ◌/◌, ◌%◌, ◌^◌, ◌≤◌, ◌<◌}
@@ -17,14 +17,14 @@ use Rattle.nll_spec.specs.Liveness.{defs}
 use Rattle.nll_spec.specs.Output.{word_bits}
 use Rattle.nll_spec.proofs.Tests.{is_true, contains-below}
 use Rattle.nll_spec.proofs.Lookup.{every-contains}
-use Rattle.repr.specs.Parts.{action_says}
+use Rattle.repr.specs.Parts.{action_says, action_read}
 use Rattle.repr.specs.declared.Cursor.{Cursor}
 use Rattle.repr.specs.declared.Action as declared
-use Rattle.repr.specs.declared.ActionStep.{ActionStep}
-use Rattle.repr.specs.declared.ActionStep.TheVariants as action_step
-use Rattle.record.specs.Layout.{Layout}
+use Rattle.repr.specs.declared.refusal.Refusal.{Refusal}
+use Rattle.std.specs.Prelude.{Result, Ok, Err}
+use Rattle.record.specs.Layout.{Holds}
 use Rattle.record.specs.Access.{Acts}
-use Rattle.record.specs.declared.Head.{Head}
+use Rattle.record.specs.declared.Record.{Record}
 use Rattle.repr.proofs.SpellLaws.{clash}
 use Rattle.bit_set.proofs.BitLaws.{digit}
 use Rattle.flow.specs.Flows.{bit_at}
@@ -58,41 +58,39 @@ filled_more j x v a r =
 
 -- ---- One point
 
-module _ {s t : List ℕ} {x : ℕ} {r : ActionStep} (is : (h : Head) (j : Job) → Layout s t h j → x < code_count j.blocks → Acts s (action_at (graph_of j) x) r) where
-  pub acted_refused : {k : ℕ} {sets pass : List ℕ} → r ≡ action_step.Refused k → Acted s t x sets pass sets pass
-  acted_refused i = record { filled = λ h j w l v. absurd (let a = is h j w l in clash (sym (ap (action_says s) i) ∙ a.reads)) }
+module _ {r : Record} {x : ℕ} {y : Result (declared.Action × Cursor) Refusal} (is : (j : Job) → Holds r j → x < code_count j.blocks → Acts r.bytes.now (action_at (graph_of j) x) y) where
+  pub acted_refused : {k : Refusal} {sets pass : List ℕ} → y ≡ Err k → Acted r x sets pass sets pass
+  acted_refused i = record { filled = λ j w l v. absurd (let a = is j w l in clash (sym (ap (action_says r.bytes.now) i) ∙ a.reads)) }
 
-  pub acted_action : {a : declared.Action} {next : Cursor} {sets pass u w : List ℕ} → r ≡ action_step.Action a next → Needed s a next x sets u → Defined s a next x pass w → Acted s t x sets pass u w
-  acted_action {a} {next} {sets} {pass} {u} {w} i n d =
+  pub acted_action : {a : declared.Action} {next : Cursor} {sets pass u w : List ℕ} → y ≡ Ok (a, next) → Needed r.bytes.now a next x sets u → Defined r.bytes.now a next x pass w → Acted r x sets pass u w
+  acted_action {a} {next} i n d =
       record {
-        filled = λ h j v l f.
-            let y = is h j v l in
-            let e : action_says s (action_step.Action a next) ≡ read (action_at (graph_of j) x) y.over = sym (ap (action_says s) i) ∙ y.reads in
-            filled_more j x f (n.added (action_at (graph_of j) x) y.over e) (d.removed (action_at (graph_of j) x) y.over e);
+        filled = λ j v l f.
+            let z = is j v l in
+            let e : action_read r.bytes.now a next ≡ read (action_at (graph_of j) x) z.over = sym (ap (action_says r.bytes.now) i) ∙ z.reads in
+            filled_more j x f (n.added (action_at (graph_of j) x) z.over e) (d.removed (action_at (graph_of j) x) z.over e);
       }
 
 -- ---- All points
 
--- Those of the first n of so many points are done.
-pub record Acting (s t : List ℕ) (code n : ℕ) (sets pass : List ℕ) : Type 0 where
-  pub filled : (h : Head) (j : Job) → Layout s t h j → code ≡ code_count j.blocks → Filled j n sets pass
+-- Those of the first n points are done.
+pub record Acting (r : Record) (n : ℕ) (sets pass : List ℕ) : Type 0 where
+  pub filled : (j : Job) → Holds r j → Filled j n sets pass
 
-module _ (s t : List ℕ) {code : ℕ} where
-  pub acting_none : {sets pass : List ℕ} → Blank code sets pass → Acting s t code 0 sets pass
+module _ (r : Record) where
+  pub acting_none : {sets pass : List ℕ} → Blank r.head.code sets pass → Acting r 0 sets pass
   acting_none b = record {
-    filled = λ h j w l. record {
-      starts = λ p i m n. b.starts p i (omega arith) n ∙ sym (ap (λ (c : Bool). c && needed_by (action_at (graph_of j) p) i) (le-ltb p 0 (omega arith)));
-      passes = λ p i m n. b.passes p i (omega arith) n ∙ sym (ap (λ (c : Bool). not (c && in_either (defs (action_at (graph_of j) p)) i)) (le-ltb p 0 (omega arith)));
+    filled = λ j w. record {
+      starts = λ p i m n. b.starts p i (omega (arith, m, w.code)) n ∙ sym (ap (λ (c : Bool). c && needed_by (action_at (graph_of j) p) i) (le-ltb p 0 (omega arith)));
+      passes = λ p i m n. b.passes p i (omega (arith, m, w.code)) n ∙ sym (ap (λ (c : Bool). not (c && in_either (defs (action_at (graph_of j) p)) i)) (le-ltb p 0 (omega arith)));
     };
   }
 
-  pub acting_more : {n : ℕ} {sets pass u w : List ℕ} → n < code → Acting s t code n sets pass → Acted s t n sets pass u w → Acting s t code (n + 1) u w
-  acting_more m v a = record { filled = λ h j w l. a.filled h j w (omega arith) (v.filled h j w l) }
+  pub acting_more : {n : ℕ} {sets pass u w : List ℕ} → n < r.head.code → Acting r n sets pass → Acted r n sets pass u w → Acting r (n + 1) u w
+  acting_more m v a = record { filled = λ j w. a.filled j w (omega (arith, m, w.code)) (v.filled j w) }
 
-  pub acting_all : {n : ℕ} {sets pass : List ℕ} → Acting s t code n sets pass → n ≤ code → code ≤ n → AllActed s t code sets pass
-  acting_all {n} {sets} {pass} v l m =
-      let e : code ≡ n = omega arith in
-      record { filled = λ h j w k. subst (λ (i : ℕ). Filled j i sets pass) (sym e) (v.filled h j w k) }
+  pub acting_all : {n : ℕ} {sets pass : List ℕ} → Acting r n sets pass → n ≡ r.head.code → AllActed r sets pass
+  acting_all v e = record { filled = λ j w. rw (← e) (v.filled j w) }
 
 -- ---- The sets at the start
 

@@ -1,12 +1,12 @@
 -- The numbers that come to a point are the variables that are live there. Assumes nothing.
-use mathlib.Core.Path.{◌≡◌, refl, sym, ap, ap₂, subst, ◌∙◌}
-use mathlib.Core.Bool.{Bool, true, false, not, ◌&&◌, ◌||◌, true≢false}
+use mathlib.Core.Path.{◌≡◌, sym, ap, ap₂, subst, ◌∙◌}
+use mathlib.Core.Bool.{Bool, true, not, ◌&&◌}
 use mathlib.Core.List.{List}
-use Prim.Native.Nat.{ℕ, ◌+◌, ◌*◌, ◌≤◌, ◌<◌}
+use Prim.Native.Nat.{ℕ, ◌+◌, ◌≤◌, ◌<◌}
 use native.Mathlib.Omega.{arith}
 use lib.ListN.{length}
 use lib.Dec.{T, ltb}
-use borrow.Author.Tests.{lt-ltb, le-ltb, ltb-false}
+use borrow.Author.Tests.{lt-ltb}
 use Rattle.nll_spec.specs.Lists.{contains}
 use Rattle.nll_spec.specs.Syntax.{Action, Job, Point, Variable}
 use Rattle.nll_spec.specs.Decode.{code_count}
@@ -14,13 +14,12 @@ use Rattle.nll_spec.specs.Fixpoint.{holds}
 use Rattle.nll_spec.specs.Graph.{graph_of, action_at, is_walked}
 use Rattle.nll_spec.specs.Liveness.{defs, uses, drops, live_table}
 use Rattle.nll_spec.specs.Meaning.{Live, now, later}
-use Rattle.nll_spec.specs.Output.{word_bits}
 use Rattle.nll_spec.proofs.Tests.{is_true, and_intro, and_left, and_right}
 use Rattle.nll_spec.proofs.Least.{same_bool}
 use Rattle.nll_spec.proofs.GraphLaws.{code-count, next-is-code, walked-is-code}
 use Rattle.nll_spec.proofs.SeedLaws.{live_table_lem, table_used, table_dropped}
-use Rattle.record.specs.Layout.{Layout}
-use Rattle.record.specs.declared.Head.{Head}
+use Rattle.record.specs.Layout.{Holds}
+use Rattle.record.specs.declared.Record.{Record}
 use Rattle.graph.specs.Tables.{Edges}
 use Rattle.graph.specs.Search.{WalkedIn}
 use Rattle.bit_set.specs.Bits.{has}
@@ -89,51 +88,31 @@ module _ (j : Job) {code : ℕ} {sets pass : List ℕ} (f : Filled j code sets p
         passes = λ p l. f.passes p (64 + v) (omega arith) (omega arith) ∙ ap₂ (λ (a b : Bool). not (a && b)) (inside p l) (second_half (defs (action_at (graph_of j) p)) (defs (action_at (graph_of j) p)) v hv);
       }
 
-pub live_rows : (s t : List ℕ) (h : Head) (first succ walked : List ℕ) {code many w : ℕ} {sets pass after us ds : List ℕ} → w ≤ 32 → code ≡ h.code → many ≡ h.variables → AllActed s t code sets pass
-    → ((j : Job) → Edges (graph_of j) first succ → code ≡ (graph_of j).code → FlowSays (graph_of j) Backward pass sets after)
-    → Columns w many code 0 walked after us → Columns w many code 64 walked after ds
-    → (j : Job) → Layout s t h j → Edges (graph_of j) first succ → WalkedIn j walked → LiveRows j w us ds
-live_rows s t h first succ walked {code} {many} {sets = sets} {pass} {after} n e m acted flowed used dropped j w edges is =
+pub live_rows : (r : Record) (first succ walked : List ℕ) {w : ℕ} {sets pass after us ds : List ℕ} → w ≤ 32 → AllActed r sets pass
+    → ((j : Job) → Edges (graph_of j) first succ → r.head.code ≡ (graph_of j).code → FlowSays (graph_of j) Backward pass sets after)
+    → Columns w r.head.variables r.head.code 0 walked after us → Columns w r.head.variables r.head.code 64 walked after ds
+    → (j : Job) → Holds r j → Edges (graph_of j) first succ → WalkedIn j walked → LiveRows j w us ds
+live_rows r first succ walked {sets = sets} {pass} {after} n acted flowed used dropped j w edges is =
     record {
       used = λ v p hv hp.
           used.bits v p (among v hv) hp ∙ ap (λ (c : ℕ). ltb p c && (has walked p && has after (bit_at p (0 + v)))) k
-          ∙ walked_live j first succ edges uses v (0 + v) (used_numbered j filled k c v (small v hv)) after walked says is (λ q. table_used j v q hv) p (omega arith);
+          ∙ walked_live j first succ edges uses v (0 + v) (used_numbered j filled k w.code v (small v hv)) after walked says is (λ q. table_used j v q hv) p (omega arith);
       dropped = λ v p hv hp.
           dropped.bits v p (among v hv) hp ∙ ap (λ (c : ℕ). ltb p c && (has walked p && has after (bit_at p (64 + v)))) k
-          ∙ walked_live j first succ edges drops v (64 + v) (dropped_numbered j filled k c v (small v hv)) after walked says is (λ q. table_dropped j v q hv) p (omega arith);
+          ∙ walked_live j first succ edges drops v (64 + v) (dropped_numbered j filled k w.code v (small v hv)) after walked says is (λ q. table_dropped j v q hv) p (omega arith);
     }
   where
-    c : code ≡ code_count j.blocks
-    c = e ∙ w.code
+    k : r.head.code ≡ (graph_of j).code
+    k = w.code ∙ sym (code-count j)
 
-    k : code ≡ (graph_of j).code
-    k = c ∙ sym (code-count j)
-
-    among : (v : ℕ) → v < length j.variables → v < many
+    among : (v : ℕ) → v < length j.variables → v < r.head.variables
     among v l = omega (arith, w.variable_count)
 
     small : (v : ℕ) → v < length j.variables → v < 64
     small v l = omega (arith, w.variable_count, w.variable_limit)
 
-    filled : Filled j code sets pass
-    filled = acted.filled h j w c
+    filled : Filled j r.head.code sets pass
+    filled = acted.filled j w
 
     says : FlowSays (graph_of j) Backward pass sets after
     says = flowed j edges k
-
--- more points than a row has room for, or more variables than there are rows
-pub live_none : (s t : List ℕ) (h : Head) (first succ walked : List ℕ) {code many w : ℕ} {us ds : List ℕ} → code ≡ h.code → many ≡ h.variables → (ltb (32 * w) code || ltb 64 many) ≡ true
-    → (j : Job) → Layout s t h j → code_count j.blocks ≤ word_bits * w → w ≤ 32 → Edges (graph_of j) first succ → WalkedIn j walked → LiveRows j w us ds
-live_none s t h first succ walked {code} {many} {w} e m l j y k n edges is =
-    let a : code ≤ 32 * w = omega (arith, y.code) in
-    let b : many ≤ 64 = omega (arith, y.variable_limit) in
-    absurd (true≢false (sym l ∙ ap₂ (λ (x y : Bool). x || y) (le-ltb (32 * w) code a) (le-ltb 64 many b)))
-
--- there is room
-pub room : (most code many : ℕ) → (ltb most code || ltb 64 many) ≡ false → (code ≤ most) × (many ≤ 64)
-room most code many e = go (ltb most code) (ltb 64 many) refl refl e
-  where
-    go : (a b : Bool) → ltb most code ≡ a → ltb 64 many ≡ b → (a || b) ≡ false → (code ≤ most) × (many ≤ 64)
-    go false false p q f = (ltb-false most code p, ltb-false 64 many q)
-    go false true p q f = absurd (true≢false f)
-    go true b p q f = absurd (true≢false f)

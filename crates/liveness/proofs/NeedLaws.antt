@@ -1,9 +1,11 @@
 -- What one action puts into its point's set, and takes out. Assumes nothing.
 use mathlib.Core.Path.{◌≡◌, refl, sym, ap, ap₂, subst, ◌∙◌}
+use mathlib.Core.Logic.{◌⊎◌, inl, inr}
 use mathlib.Core.Bool.{Bool, true, false, ◌||◌, or-false}
 use mathlib.Core.List.{List, [], ◌∷◌, map}
-use Prim.Native.Nat.{ℕ, zero, suc, ◌-◌, ◌<◌}
+use Prim.Native.Nat.{ℕ, zero, suc, ◌+◌, ◌-◌, ◌<◌}
 use native.Mathlib.Omega.{arith}
+use native.Mathlib.Nat.{sub-zero}
 use native.Mathlib.Decide.{dec_lt}
 use lib.ListN.{length, take, drop, drop_of_length-le}
 use lib.Seq.{drop-cons}
@@ -13,14 +15,15 @@ use Rattle.nll_spec.specs.Syntax as syntax
 use Rattle.nll_spec.specs.Syntax.{Variable}
 use Rattle.nll_spec.specs.Decode.{read, done, items, path}
 use Rattle.nll_spec.specs.Liveness.{is_plain, write_def, write_use, defs, uses, drops}
-use Rattle.repr.specs.Reading.{rest, borrow_kind_of, path_of, path_says}
+use Rattle.repr.specs.Reading.{rest, says, borrow_kind_of, path_of}
 use Rattle.repr.specs.declared.Cursor.{Cursor}
 use Rattle.repr.specs.declared.Path.{Path}
-use Rattle.repr.specs.declared.PathStep.{PathStep}
-use Rattle.repr.specs.declared.PathStep.TheVariants as path_step
+use Rattle.repr.specs.declared.refusal.Refusal.{Refusal}
+use Rattle.std.specs.Prelude.{Result, Ok, Err}
 use Rattle.repr.specs.declared.BorrowKind.{BorrowKind}
 use Rattle.repr.specs.declared.RegionName.{RegionName}
 use Rattle.repr.specs.declared.Variable as variables
+use Rattle.repr.specs.declared.Action.{Action}
 use Rattle.repr.specs.declared.Action.TheVariants as actions
 use Rattle.repr.proofs.ReadLaws.{told}
 use Rattle.repr.proofs.SpellLaws.{clash, carry, then}
@@ -65,42 +68,45 @@ pub record ToRead (s : List ℕ) (at left x : ℕ) (ws₀ ws : List ℕ) (qs : L
   pub reads : items left path (drop at s) ≡ read others over
   pub onward : (u : List ℕ) → Added x (in_half 0 (map (λ q. q.base) others)) ws u → Added x (in_half 0 (map (λ q. q.base) qs)) ws₀ u
 
--- Of n sources from one place on, `left` are still to be read from another on.
-pub record Sourcing (s : List ℕ) (from : Cursor) (n : ℕ) (c : Cursor) (left x : ℕ) (ws₀ ws : List ℕ) : Type 0 where
+-- Of n sources from one place on, `over` are put in, and the others are still to be read from another on.
+pub record Sourcing (s : List ℕ) (from : Cursor) (n : ℕ) (c : Cursor) (over x : ℕ) (ws₀ ws : List ℕ) : Type 0 where
   pub size : length ws ≡ length ws₀
-  pub goes : (qs : List syntax.Path) (over : List ℕ) → items n path (drop from.at s) ≡ read qs over → ToRead s c.at left x ws₀ ws qs over
+  pub goes : (qs : List syntax.Path) (past : List ℕ) → items n path (drop from.at s) ≡ read qs past → ToRead s c.at (n - over) x ws₀ ws qs past
 
-pub sourcing_none : (s : List ℕ) (from : Cursor) (n x : ℕ) {ws : List ℕ} → Sourcing s from n from n x ws ws
-sourcing_none s from n x = record { size = refl; goes = λ qs over e. record { others = qs; reads = e; onward = λ u a. a } }
+pub sourcing_none : (s : List ℕ) (from : Cursor) (n x : ℕ) {ws : List ℕ} → Sourcing s from n from 0 x ws ws
+sourcing_none s from n x = record { size = refl; goes = λ qs past e. record { others = qs; reads = rw sub-zero e; onward = λ u a. a } }
 
-module _ {s : List ℕ} {from : Cursor} {n : ℕ} {c : Cursor} {left x : ℕ} {ws₀ ws : List ℕ} (g : Sourcing s from n c left x ws₀ ws) where
-  pub sourcing_all : left ≡ 0 → Sourced s from n x ws₀ ws
+module _ {s : List ℕ} {from : Cursor} {n : ℕ} {c : Cursor} {over x : ℕ} {ws₀ ws : List ℕ} (g : Sourcing s from n c over x ws₀ ws) where
+  pub sourcing_all : over ≡ n → Sourced s from n x ws₀ ws
   sourcing_all z =
       record {
-        added = λ qs over e.
-            let w = g.goes qs over e in
-            let k : w.others ≡ [] = (none_of path left (drop c.at s) z w.reads).0 in
+        added = λ qs past e.
+            let w = g.goes qs past e in
+            let k : w.others ≡ [] = (none_of path (n - over) (drop c.at s) (omega arith) w.reads).0 in
             w.onward ws (subst (λ (l : List syntax.Path). Added x (in_half 0 (bases l)) ws ws) (sym k) (added_none x ws (λ b. half_none 0 b)));
       }
 
-  module _ (z : left ≡ 0 → ⊥) {r : PathStep} (says : path_says s r ≡ path (drop c.at s)) where
-    pub sourcing_stop : {k : ℕ} → r ≡ path_step.Refused k → Sourced s from n x ws₀ ws
+  module _ (z : over < n) {r : Result (Path × Cursor) Refusal} (found : says (path_of s) s r ≡ path (drop c.at s)) where
+    pub sourcing_stop : {k : Refusal} → r ≡ Err k → Sourced s from n x ws₀ ws
     sourcing_stop i =
         record {
-          added = λ qs over e. absurd (clash (sym (told (path_says s) says i) ∙ (first_of path left (drop c.at s) z (g.goes qs over e).reads).first));
+          added = λ qs past e. absurd (clash (sym (told (says (path_of s) s) found i) ∙ (first_of path (n - over) (drop c.at s) (omega arith) (g.goes qs past e).reads).first));
         }
 
-    pub sourcing_more : {q : Path} {next : Cursor} {u : List ℕ} → r ≡ path_step.Path q next → length u ≡ length ws → Added x (in_half 0 (q.base.0 ∷ [])) ws u → Sourcing s from n next (left - 1) x ws₀ u
-    sourcing_more {q} {next} {u} i l a = record { size = l ∙ g.size; goes = λ qs over e. more qs over (g.goes qs over e) }
+    pub sourcing_more : {q : Path} {next : Cursor} {u : List ℕ} → r ≡ Ok (q, next) → length u ≡ length ws → Added x (in_half 0 (q.base.0 ∷ [])) ws u → Sourcing s from n next (over + 1) x ws₀ u
+    sourcing_more {q} {next} {u} i l a = record { size = l ∙ g.size; goes = λ qs past e. more qs past (g.goes qs past e) }
       where
-        more : (qs : List syntax.Path) (over : List ℕ) → ToRead s c.at left x ws₀ ws qs over → ToRead s next.at (left - 1) x ws₀ u qs over
-        more qs over w = record { others = f.others; reads = k.0; onward = λ v b. w.onward v (subst (λ (l : List syntax.Path). Added x (in_half 0 (bases l)) ws v) (sym k.1) (added_as x (added_then x a b) (half_append 0 (q.base.0 ∷ []) (bases f.others)))) }
-          where
-            f : FirstOf path left (drop c.at s) w.others over
-            f = first_of path left (drop c.at s) z w.reads
+        less : n - over - 1 ≡ n - (over + 1)
+        less = omega arith
 
-            k : (items (left - 1) path (rest s next) ≡ read f.others over) × (w.others ≡ path_of s q ∷ f.others)
-            k = carry (λ y o. (items (left - 1) path o ≡ read f.others over) × (w.others ≡ y ∷ f.others)) (sym f.first ∙ told (path_says s) says i) (f.reads, f.same)
+        more : (qs : List syntax.Path) (past : List ℕ) → ToRead s c.at (n - over) x ws₀ ws qs past → ToRead s next.at (n - (over + 1)) x ws₀ u qs past
+        more qs past w = record { others = f.others; reads = rw (← less) k.0; onward = λ v b. w.onward v (subst (λ (l : List syntax.Path). Added x (in_half 0 (bases l)) ws v) (sym k.1) (added_as x (added_then x a b) (half_append 0 (q.base.0 ∷ []) (bases f.others)))) }
+          where
+            f : FirstOf path (n - over) (drop c.at s) w.others past
+            f = first_of path (n - over) (drop c.at s) (omega arith) w.reads
+
+            k : (items (n - over - 1) path (rest s next) ≡ read f.others past) × (w.others ≡ path_of s q ∷ f.others)
+            k = carry (λ y o. (items (n - over - 1) path o ≡ read f.others past) × (w.others ≡ y ∷ f.others)) (sym f.first ∙ told (says (path_of s) s) found i) (f.reads, f.same)
 
 -- ---- What an action needs
 
@@ -115,15 +121,15 @@ module _ (x : ℕ) (b : syntax.Action) {ws : List ℕ} where
   disposing {u} {vs} e f a = added_as x a (λ n. rw (e, f) (ap (λ (c : Bool). c || in_half 64 vs n) (half_none 0 n)))
 
 module _ (s : List ℕ) (next : Cursor) (x : ℕ) (ws : List ℕ) where
-  pub needs_noop : Needed s actions.Noop next x ws ws
+  needs_noop : Needed s actions.Noop next x ws ws
   unfolding uses drops
   needs_noop = record { added = λ b over e. carry (λ y o. Added x (needed_by y) ws ws) e (quiet x (syntax.Noop) refl refl) }
 
-  pub needs_constraint : (r q : RegionName) → Needed s (actions.Constraint r q) next x ws ws
+  needs_constraint : (r q : RegionName) → Needed s (actions.Constraint r q) next x ws ws
   unfolding uses drops
   needs_constraint r q = record { added = λ b over e. carry (λ y o. Added x (needed_by y) ws ws) e (quiet x (syntax.Constraint r.0 q.0) refl refl) }
 
-  pub needs_dead : (v : variables.Variable) → Needed s (actions.StorageDead v) next x ws ws
+  needs_dead : (v : variables.Variable) → Needed s (actions.StorageDead v) next x ws ws
   unfolding uses drops
   needs_dead v = record { added = λ b over e. carry (λ y o. Added x (needed_by y) ws ws) e (quiet x (syntax.StorageDead v.0) refl refl) }
 
@@ -157,32 +163,38 @@ module _ (s : List ℕ) (next : Cursor) (x : ℕ) (ws : List ℕ) where
   unfolding uses drops
   needs_drop {u} q a = record { added = λ b over e. carry (λ y o. Added x (needed_by y) ws u) e (disposing x (syntax.Drop (path_of s q)) refl refl a) }
 
+  -- an action that uses and drops nothing
+  pub needs_quiet : {a : Action} → (a ≡ actions.Noop) ⊎ (((r q : RegionName) × (a ≡ actions.Constraint r q)) ⊎ ((v : variables.Variable) × (a ≡ actions.StorageDead v))) → Needed s a next x ws ws
+  needs_quiet (inl e) = rw e needs_noop
+  needs_quiet (inr (inl (r, q, e))) = rw e (needs_constraint r q)
+  needs_quiet (inr (inr (v, e))) = rw e (needs_dead v)
+
   -- ---- What an action defines
 
   still : Removed x (in_either []) ws ws
   still = removed-none x ws (λ n. ap₂ (λ (c d : Bool). c || d) (half_none 0 n) (half_none 64 n))
 
-  pub defines_noop : Defined s actions.Noop next x ws ws
+  defines_noop : Defined s actions.Noop next x ws ws
   unfolding defs
   defines_noop = record { removed = λ b over e. carry (λ y o. Removed x (in_either (defs y)) ws ws) e still }
 
-  pub defines_constraint : (r q : RegionName) → Defined s (actions.Constraint r q) next x ws ws
+  defines_constraint : (r q : RegionName) → Defined s (actions.Constraint r q) next x ws ws
   unfolding defs
   defines_constraint r q = record { removed = λ b over e. carry (λ y o. Removed x (in_either (defs y)) ws ws) e still }
 
-  pub defines_use : (q : Path) → Defined s (actions.Use q) next x ws ws
+  defines_use : (q : Path) → Defined s (actions.Use q) next x ws ws
   unfolding defs
   defines_use q = record { removed = λ b over e. carry (λ y o. Removed x (in_either (defs y)) ws ws) e still }
 
-  pub defines_drop : (q : Path) → Defined s (actions.Drop q) next x ws ws
+  defines_drop : (q : Path) → Defined s (actions.Drop q) next x ws ws
   unfolding defs
   defines_drop q = record { removed = λ b over e. carry (λ y o. Removed x (in_either (defs y)) ws ws) e still }
 
-  pub defines_dead : (v : variables.Variable) → Defined s (actions.StorageDead v) next x ws ws
+  defines_dead : (v : variables.Variable) → Defined s (actions.StorageDead v) next x ws ws
   unfolding defs
   defines_dead v = record { removed = λ b over e. carry (λ y o. Removed x (in_either (defs y)) ws ws) e still }
 
-  pub defines_init : {u : List ℕ} (dest : Path) (n : ℕ) → Removed x (in_either (write_def (path_of s dest))) ws u → Defined s (actions.Init dest n) next x ws u
+  defines_init : {u : List ℕ} (dest : Path) (n : ℕ) → Removed x (in_either (write_def (path_of s dest))) ws u → Defined s (actions.Init dest n) next x ws u
   unfolding defs done
   defines_init {u} dest n a = record { removed = λ b over e. let t = then (items n path) _ (rest s next) e in carry (λ y o. Removed x (in_either (defs y)) ws u) t.last a }
 
@@ -190,6 +202,19 @@ module _ (s : List ℕ) (next : Cursor) (x : ℕ) (ws : List ℕ) where
   unfolding defs
   defines_borrow {u} dest r k source a = record { removed = λ b over e. carry (λ y o. Removed x (in_either (defs y)) ws u) e a }
 
-  pub defines_assign : {u : List ℕ} (dest source : Path) → Removed x (in_either (write_def (path_of s dest))) ws u → Defined s (actions.Assign dest source) next x ws u
+  defines_assign : {u : List ℕ} (dest source : Path) → Removed x (in_either (write_def (path_of s dest))) ws u → Defined s (actions.Assign dest source) next x ws u
   unfolding defs
   defines_assign {u} dest source a = record { removed = λ b over e. carry (λ y o. Removed x (in_either (defs y)) ws u) e a }
+
+  -- an action that defines nothing
+  pub defines_quiet : {a : Action} → (a ≡ actions.Noop) ⊎ (((r q : RegionName) × (a ≡ actions.Constraint r q)) ⊎ (((p : Path) × (a ≡ actions.Use p)) ⊎ (((p : Path) × (a ≡ actions.Drop p)) ⊎ ((v : variables.Variable) × (a ≡ actions.StorageDead v))))) → Defined s a next x ws ws
+  defines_quiet (inl e) = rw e defines_noop
+  defines_quiet (inr (inl (r, q, e))) = rw e (defines_constraint r q)
+  defines_quiet (inr (inr (inl (p, e)))) = rw e (defines_use p)
+  defines_quiet (inr (inr (inr (inl (p, e))))) = rw e (defines_drop p)
+  defines_quiet (inr (inr (inr (inr (v, e))))) = rw e (defines_dead v)
+
+  -- an action that writes to its destination
+  pub defines_written : {a : Action} {u : List ℕ} (dest : Path) → ((n : ℕ) × (a ≡ actions.Init dest n)) ⊎ ((source : Path) × (a ≡ actions.Assign dest source)) → Removed x (in_either (write_def (path_of s dest))) ws u → Defined s a next x ws u
+  defines_written dest (inl (n, e)) r = rw e (defines_init dest n r)
+  defines_written dest (inr (source, e)) r = rw e (defines_assign dest source r)

@@ -6,12 +6,11 @@ use Rattle.nll_spec.specs.Syntax.{Job, Point, Variable}
 use Rattle.nll_spec.specs.Decode.{read, items, path, code_count}
 use Rattle.nll_spec.specs.Graph.{graph_of, action_at}
 use Rattle.nll_spec.specs.Liveness.{defs, uses, drops}
-use Rattle.repr.specs.Parts.{action_says}
+use Rattle.repr.specs.Parts.{action_read}
 use Rattle.repr.specs.declared.Cursor.{Cursor}
 use Rattle.repr.specs.declared.Action.{Action}
-use Rattle.repr.specs.declared.ActionStep.TheVariants as action_step
-use Rattle.record.specs.Layout.{Layout}
-use Rattle.record.specs.declared.Head.{Head}
+use Rattle.record.specs.Layout.{Holds}
+use Rattle.record.specs.declared.Record.{Record}
 use Rattle.bit_set.specs.Bits.{has}
 use Rattle.flow.specs.Flows.{bit_at}
 
@@ -41,11 +40,11 @@ pub record Sourced (s : List ℕ) (from : Cursor) (n : ℕ) (x : Point) (ws ws' 
 
 -- What an action uses and drops is put into point x's set.
 pub record Needed (s : List ℕ) (a : Action) (next : Cursor) (x : Point) (ws ws' : List ℕ) : Type 0 where
-  pub added : (b : syntax.Action) (over : List ℕ) → action_says s (action_step.Action a next) ≡ read b over → Added x (needed_by b) ws ws'
+  pub added : (b : syntax.Action) (over : List ℕ) → action_read s a next ≡ read b over → Added x (needed_by b) ws ws'
 
 -- What an action defines is taken out of point x's set.
 pub record Defined (s : List ℕ) (a : Action) (next : Cursor) (x : Point) (ws ws' : List ℕ) : Type 0 where
-  pub removed : (b : syntax.Action) (over : List ℕ) → action_says s (action_step.Action a next) ≡ read b over → Removed x (in_either (defs b)) ws ws'
+  pub removed : (b : syntax.Action) (over : List ℕ) → action_read s a next ≡ read b over → Removed x (in_either (defs b)) ws ws'
 
 -- Both sets, the one that numbers start in and the one that they pass, have what the actions of the points below n say.
 pub record Filled (j : Job) (n : ℕ) (sets pass : List ℕ) : Type 0 where
@@ -58,9 +57,9 @@ pub record Blank (n : ℕ) (sets pass : List ℕ) : Type 0 where
   pub passes : (p b : ℕ) → p < n → b < 128 → has pass (bit_at p b) ≡ true
 
 -- The action of point x is done.
-pub record Acted (s t : List ℕ) (x : Point) (sets pass sets' pass' : List ℕ) : Type 0 where
-  pub filled : (h : Head) (j : Job) → Layout s t h j → x < code_count j.blocks → Filled j x sets pass → Filled j (x + 1) sets' pass'
+pub record Acted (r : Record) (x : Point) (sets pass sets' pass' : List ℕ) : Type 0 where
+  pub filled : (j : Job) → Holds r j → x < code_count j.blocks → Filled j x sets pass → Filled j (x + 1) sets' pass'
 
 -- Those of all points are.
-pub record AllActed (s t : List ℕ) (code : ℕ) (sets pass : List ℕ) : Type 0 where
-  pub filled : (h : Head) (j : Job) → Layout s t h j → code ≡ code_count j.blocks → Filled j code sets pass
+pub record AllActed (r : Record) (sets pass : List ℕ) : Type 0 where
+  pub filled : (j : Job) → Holds r j → Filled j r.head.code sets pass

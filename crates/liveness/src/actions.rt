@@ -4,20 +4,18 @@ ghost use Rattle.nll_spec.specs.Liveness.{is_plain, write_def, write_use};
 ghost use Rattle.repr.specs.Reading.{path_of};
 ghost use Rattle.liveness.specs.Needs.{in_half, in_either, Added, Removed, Sourced, Needed, Defined, Blank, Acted, AllActed};
 
-use super::wide8;
-use record::access::action_at;
-use repr::{Action, ActionStep, Cursor, Path, PathStep, Variable};
+use record::Record;
+use repr::{Action, Cursor, Path, Variable};
 
 // Puts a variable into point p's set, in the half of 64 numbers that begins at `from`.
 fn add(sets: &mut [u32], p: usize, from: usize, v: Variable)
     requires { (4 * p + 4 ≤ length sets.old) × (from ≤ 64) }
     ensures { Added p (in_half from (v.0 ∷ [])) sets.old sets.new }
 {
-    let k = wide8(v.0);
-    if 64 <= k {
-        return;
+    let k = usize::from(v.0);
+    if k < 64 {
+        bit_set::add(sets, 4 * p, from + k);
     }
-    bit_set::add(sets, 4 * p, from + k);
 }
 
 // Takes a variable out of both halves of point p's set.
@@ -25,23 +23,18 @@ fn kill(pass: &mut [u32], p: usize, v: Variable)
     requires { p < 1024 }
     ensures { Removed p (in_either (v.0 ∷ [])) pass.old pass.new }
 {
-    let k = wide8(v.0);
-    if 64 <= k {
-        return;
+    let k = usize::from(v.0);
+    if k < 64 {
+        bit_set::kill(pass, 4 * p, k);
+        bit_set::kill(pass, 4 * p, 64 + k);
     }
-    bit_set::kill(pass, 4 * p, k);
-    bit_set::kill(pass, 4 * p, 64 + k);
 }
 
 // Whether a path has no steps.
 fn plain(s: &[u8], p: Path) -> bool
     ensures { result ≡ is_plain (path_of s.now p) }
 {
-    if p.steps == 0 {
-        return true;
-    }
-    let from = p.from;
-    s.len() <= from.at
+    p.steps == 0 || s.len() <= p.from.at
 }
 
 // Writing to a path with steps uses its base.
@@ -49,10 +42,9 @@ fn write_use(s: &[u8], sets: &mut [u32], p: usize, dest: Path)
     requires { 4 * p + 4 ≤ length sets.old }
     ensures { Added p (in_half 0 (write_use (path_of s.now dest))) sets.old sets.new }
 {
-    if plain(s, dest) {
-        return;
+    if !plain(s, dest) {
+        add(sets, p, 0, dest.base);
     }
-    add(sets, p, 0, dest.base);
 }
 
 // Writing to a variable defines it.
@@ -71,16 +63,12 @@ fn sources(s: &[u8], from: Cursor, count: u8, sets: &mut [u32], p: usize)
     ensures { Sourced s.now from count p sets.old sets.new }
 {
     let mut c = from;
-    let mut left = count;
-    while left != 0 {
-        match c.path(s) {
-            PathStep::Refused(_) => return,
-            PathStep::Path(q, next) => {
-                add(sets, p, 0, q.base);
-                c = next;
-                left -= 1;
-            }
-        }
+    for _ in 0..count {
+        let Ok((q, next)) = c.path(s) else {
+            return;
+        };
+        add(sets, p, 0, q.base);
+        c = next;
     }
 }
 
@@ -90,25 +78,18 @@ fn needs(s: &[u8], a: Action, next: Cursor, sets: &mut [u32], p: usize)
     ensures { Needed s.now a next p sets.old sets.new }
 {
     match a {
-        Action::Noop => {}
         Action::Init { dest, count } => {
             sources(s, next, count, sets, p);
             write_use(s, sets, p, dest);
         }
-        Action::Borrow {
-            dest: _,
-            region: _,
-            kind: _,
-            source,
-        } => add(sets, p, 0, source.base),
+        Action::Borrow { source, .. } => add(sets, p, 0, source.base),
         Action::Assign { dest, source } => {
             add(sets, p, 0, source.base);
             write_use(s, sets, p, dest);
         }
-        Action::Constraint { sup: _, sub: _ } => {}
         Action::Use(q) => add(sets, p, 0, q.base),
         Action::Drop(q) => add(sets, p, 64, q.base),
-        Action::StorageDead(_) => {}
+        Action::Noop | Action::Constraint { .. } | Action::StorageDead(_) => {}
     }
 }
 
@@ -118,44 +99,33 @@ fn defines(s: &[u8], a: Action, next: Cursor, pass: &mut [u32], p: usize)
     ensures { Defined s.now a next p pass.old pass.new }
 {
     match a {
-        Action::Noop => {}
-        Action::Init { dest, count: _ } => write_def(s, pass, p, dest),
-        Action::Borrow {
-            dest,
-            region: _,
-            kind: _,
-            source: _,
-        } => kill(pass, p, dest.base),
-        Action::Assign { dest, source: _ } => write_def(s, pass, p, dest),
-        Action::Constraint { sup: _, sub: _ } => {}
-        Action::Use(_) => {}
-        Action::Drop(_) => {}
-        Action::StorageDead(_) => {}
+        Action::Init { dest, .. } | Action::Assign { dest, .. } => write_def(s, pass, p, dest),
+        Action::Borrow { dest, .. } => kill(pass, p, dest.base),
+        Action::Noop
+        | Action::Constraint { .. }
+        | Action::Use(_)
+        | Action::Drop(_)
+        | Action::StorageDead(_) => {}
     }
 }
 
 // The action of point p.
-fn act(s: &[u8], layout: &[u16; 1280], p: usize, sets: &mut [u32], pass: &mut [u32])
-    requires { (p < 1024) × (length layout.now ≡ 1280) × (4 * p + 4 ≤ length sets.old) }
-    ensures { Acted s.now layout.now p sets.old pass.old sets.new pass.new }
+fn act(input: &Record<'_>, p: usize, sets: &mut [u32], pass: &mut [u32])
+    requires { (p < 1024) × (4 * p + 4 ≤ length sets.old) }
+    ensures { Acted input.now p sets.old pass.old sets.new pass.new }
 {
-    match action_at(s, layout, p) {
-        ActionStep::Refused(_) => {}
-        ActionStep::Action(a, next) => {
-            needs(s, a, next, sets, p);
-            defines(s, a, next, pass, p);
-        }
+    if let Ok((a, next)) = input.action_at(p) {
+        needs(input.bytes, a, next, sets, p);
+        defines(input.bytes, a, next, pass, p);
     }
 }
 
 // The actions of all points.
-pub fn fill(s: &[u8], layout: &[u16; 1280], code: usize, sets: &mut [u32], pass: &mut [u32])
-    requires { (code ≤ 1024) × (length layout.now ≡ 1280) × (4 * code ≤ length sets.old) × Blank code sets.old pass.old }
-    ensures { AllActed s.now layout.now code sets.new pass.new }
+pub fn fill(input: &Record<'_>, sets: &mut [u32], pass: &mut [u32])
+    requires { (input.now.head.code ≤ 1024) × (4 * input.now.head.code ≤ length sets.old) × Blank input.now.head.code sets.old pass.old }
+    ensures { AllActed input.now sets.new pass.new }
 {
-    let mut p = 0;
-    while p < code {
-        act(s, layout, p, sets, pass);
-        p += 1;
+    for p in 0..usize::from(input.head.code) {
+        act(input, p, sets, pass);
     }
 }

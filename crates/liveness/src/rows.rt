@@ -2,22 +2,22 @@
 ghost use Rattle.std.specs.Prelude.{◌≡◌, ◌*◌, ◌%◌, ◌<◌, ◌≤◌, length};
 ghost use Rattle.liveness.specs.Rows.{in_set, in_word, Column, Columns};
 
+use record::Head;
+
 // Puts point p into the row of each variable from `first` on and below n that a word has: its first bit is for variable `first`.
 fn word_column(w: u32, p: usize, first: usize, n: usize, width: usize, rows: &mut [u32])
     requires { (p < 32 * width) × (width ≤ 32) × (first ≤ n) × (n ≤ 64) × (64 * width ≤ length rows.old) }
     ensures { Column width n (in_word w first) p rows.old rows.new }
 {
     let mut rest = w;
-    let mut v = first;
-    while v < n {
+    for v in first..n {
         if rest == 0 {
             return;
         }
         if rest % 2 == 1 {
             bit_set::add(rows, v * width, p);
         }
-        rest = rest / 2;
-        v += 1;
+        rest /= 2;
     }
 }
 
@@ -37,25 +37,23 @@ fn column(sets: &[u32], p: usize, from: usize, many: usize, width: usize, rows: 
     word_column(high, p, 32, many, width, rows);
 }
 
-// The rows of so many variables, with the walked points only.
+// The rows of all variables, with the walked points only.
 pub fn rows(
-    sets: &[u32],
+    head: Head,
     walked: &[u32; 32],
-    code: usize,
+    sets: &[u32],
     from: usize,
-    many: usize,
     width: usize,
     rows: &mut [u32],
 )
-    requires { (code ≤ 32 * width) × (width ≤ 32) × (from ≤ 64) × (from % 32 ≡ 0) × (many ≤ 64) × (64 * width ≤ length rows.old) }
-    ensures { Columns width many code from walked.now sets.now rows.new }
+    requires { (head.code ≤ 32 * width) × (width ≤ 32) × (from ≤ 64) × (from % 32 ≡ 0) × (head.variables ≤ 64) × (64 * width ≤ length rows.old) }
+    ensures { Columns width head.variables head.code from walked.now sets.now rows.new }
 {
+    let many = usize::from(head.variables);
     bit_set::clear(rows, 0, many * width);
-    let mut p = 0;
-    while p < code {
+    for p in 0..usize::from(head.code) {
         if bit_set::test(walked, 0, p) {
             column(sets, p, from, many, width, rows);
         }
-        p += 1;
     }
 }

@@ -16,19 +16,17 @@ use Rattle.nll_spec.specs.Loans.{loan_at, loans_of}
 use Rattle.nll_spec.specs.Output.{word_bits}
 use Rattle.nll_spec.proofs.GraphLaws.{code-count}
 use Rattle.repr.specs.Reading.{rest, path_of, borrow_kind_of}
-use Rattle.repr.specs.Parts.{action_says}
+use Rattle.repr.specs.Parts.{action_says, action_read}
 use Rattle.repr.specs.declared.Cursor.{Cursor}
 use Rattle.repr.specs.declared.RegionName.{RegionName}
 use Rattle.repr.specs.declared.BorrowKind.{BorrowKind}
 use Rattle.repr.specs.declared.Path as repr
 use Rattle.repr.specs.declared.Action as acts
 use Rattle.repr.specs.declared.Action.TheVariants as action
-use Rattle.repr.specs.declared.ActionStep.{ActionStep}
-use Rattle.repr.specs.declared.ActionStep.TheVariants as action_step
-use Rattle.record.specs.Layout.{Layout}
+use Rattle.record.specs.Layout.{Holds}
 use Rattle.record.specs.Access.{Acts}
 use Rattle.record.specs.Access as tags
-use Rattle.record.specs.declared.Head.{Head}
+use Rattle.record.specs.declared.Record.{Record}
 use Rattle.bit_set.specs.Bits.{has}
 use Rattle.repr.proofs.SpellLaws.{clash, carry, then}
 use Rattle.env.specs.Prefixes.{ShortestOf}
@@ -36,15 +34,16 @@ use Rattle.env.specs.declared.Shortest.{Shortest}
 use Rattle.graph.specs.Search.{WalkedIn}
 use Rattle.loans.specs.Table.{Put}
 use Rattle.loans.specs.Loans.{loans_below, Listed, LoansAt, Given, Lends}
-use Rattle.loans.specs.declared.Loan.{Loan}
 use Rattle.loans.proofs.ListLaws.{below_unwalked, below-walked, below_more, listed_more}
 use Rattle.loans.proofs.ActionLaws.{source-named, source_fits, source-short}
+use Rattle.repr.specs.declared.refusal.Refusal.{Refusal}
+use Rattle.std.specs.Prelude.{Result, Ok, Err}
 
 pub one_more : {n : ℕ} → n ≤ 128 → (n ≡ 128 → ⊥) → n < 128
 one_more l e = omega arith
 
 -- no other action lends
-not-borrow : (s : List ℕ) (a : acts.Action) (c : Cursor) {x : Action} {over : List ℕ} → ((d : repr.Path) (r : RegionName) (k : BorrowKind) (q : repr.Path) → a ≡ action.Borrow d r k q → ⊥) → action_says s (action_step.Action a c) ≡ read x over → (p : Point) → loan_at p x ≡ []
+not-borrow : (s : List ℕ) (a : acts.Action) (c : Cursor) {x : Action} {over : List ℕ} → ((d : repr.Path) (r : RegionName) (k : BorrowKind) (q : repr.Path) → a ≡ action.Borrow d r k q → ⊥) → action_read s a c ≡ read x over → (p : Point) → loan_at p x ≡ []
 unfolding loan_at done
 not-borrow s action.Noop c h e p = carry (λ y o. loan_at p y ≡ []) e refl
 not-borrow s (action.Init d n) c h e p = let w = then (items n path) _ (rest s c) e in carry (λ y o. loan_at p y ≡ []) w.last refl
@@ -67,52 +66,52 @@ other_tag (syntax.Use q) h p = refl
 other_tag (syntax.Drop q) h p = refl
 other_tag (syntax.StorageDead v) h p = refl
 
-module _ {s t : List ℕ} {h : Head} {walked : List ℕ} {p n : ℕ} (table : List ℕ) (size : length table ≡ 1024) (few : n ≤ 128) (point : p < 1024) {b : Bool} (tests : b ≡ has walked (word_bits * 0 + p)) where
-  walks : (j : Job) → Given s t h walked j → is_walked (graph_of j) p ≡ b
+module _ {input : Record} {walked : List ℕ} {p n : ℕ} (table : List ℕ) (size : length table ≡ 1024) (few : n ≤ 128) (point : p < 1024) {b : Bool} (tests : b ≡ has walked (word_bits * 0 + p)) where
+  walks : (j : Job) → Given input walked j → is_walked (graph_of j) p ≡ b
   walks j g = let e : word_bits * 0 + p ≡ p = omega arith in sym (tests ∙ ap (has walked) e ∙ g.walks p point)
 
   -- the point lends nothing
-  pub lends_nothing : ((j : Job) → Given s t h walked j → p < code_count j.blocks → loans_below (graph_of j) (p + 1) ≡ loans_below (graph_of j) p) → Lends s t h walked p n table table n
-  lends_nothing f = record { size = size; few = few; more = λ j g l w. subst (λ (xs : List spec.Loan). Listed s j xs table n) (sym (f j g l)) w }
+  pub lends_nothing : ((j : Job) → Given input walked j → p < code_count j.blocks → loans_below (graph_of j) (p + 1) ≡ loans_below (graph_of j) p) → Lends input walked p n table table n
+  lends_nothing f = record { size = size; few = few; more = λ j g l w. subst (λ (xs : List spec.Loan). Listed input.bytes.now j xs table n) (sym (f j g l)) w }
 
-  pub lends_unwalked : b ≡ false → Lends s t h walked p n table table n
+  pub lends_unwalked : b ≡ false → Lends input walked p n table table n
   lends_unwalked e = lends_nothing λ j g l. below_unwalked (graph_of j) p (walks j g ∙ e)
 
-  pub lends-tagged : b ≡ true → {tag : ℕ} → ((k : Head) (j : Job) → Layout s t k j → p < code_count j.blocks → tag ≡ tags.tag_of (action_at (graph_of j) p)) → (tag ≡ 2 → ⊥) → Lends s t h walked p n table table n
-  lends-tagged e m o = lends_nothing λ j g l. below-walked (graph_of j) p (walks j g ∙ e) ∙ rw (other_tag (action_at (graph_of j) p) (λ i. o (m h j g.layout l ∙ i)) p, append-nil (loans_below (graph_of j) p))
+  pub lends-tagged : b ≡ true → {tag : ℕ} → ((j : Job) → Holds input j → p < code_count j.blocks → tag ≡ tags.tag_of (action_at (graph_of j) p)) → (tag ≡ 2 → ⊥) → Lends input walked p n table table n
+  lends-tagged e m o = lends_nothing λ j g l. below-walked (graph_of j) p (walks j g ∙ e) ∙ rw (other_tag (action_at (graph_of j) p) (λ i. o (m j g.layout l ∙ i)) p, append-nil (loans_below (graph_of j) p))
 
-  module _ (e : b ≡ true) {r : ActionStep} (m : (k : Head) (j : Job) → Layout s t k j → p < code_count j.blocks → Acts s (action_at (graph_of j) p) r) where
-    pub lends-refused : {k : ℕ} → r ≡ action_step.Refused k → Lends s t h walked p n table table n
-    lends-refused i = lends_nothing λ j g l. absurd (clash (sym (ap (action_says s) i) ∙ (m h j g.layout l).reads))
+  module _ (e : b ≡ true) {r : Result (acts.Action × Cursor) Refusal} (m : (j : Job) → Holds input j → p < code_count j.blocks → Acts input.bytes.now (action_at (graph_of j) p) r) where
+    pub lends-refused : {k : Refusal} → r ≡ Err k → Lends input walked p n table table n
+    lends-refused i = lends_nothing λ j g l. absurd (clash (sym (ap (action_says input.bytes.now) i) ∙ (m j g.layout l).reads))
 
-    module _ {a : acts.Action} {c : Cursor} (i : r ≡ action_step.Action a c) where
-      reads : (j : Job) (g : Given s t h walked j) (l : p < code_count j.blocks) → action_says s (action_step.Action a c) ≡ read (action_at (graph_of j) p) (m h j g.layout l).over
-      reads j g l = sym (ap (action_says s) i) ∙ (m h j g.layout l).reads
+    module _ {a : acts.Action} {c : Cursor} (i : r ≡ Ok (a, c)) where
+      reads : (j : Job) (g : Given input walked j) (l : p < code_count j.blocks) → action_read input.bytes.now a c ≡ read (action_at (graph_of j) p) (m j g.layout l).over
+      reads j g l = sym (ap (action_says input.bytes.now) i) ∙ (m j g.layout l).reads
 
-      pub lends_other : ((d : repr.Path) (r : RegionName) (k : BorrowKind) (q : repr.Path) → a ≡ action.Borrow d r k q → ⊥) → Lends s t h walked p n table table n
-      lends_other o = lends_nothing λ j g l. below-walked (graph_of j) p (walks j g ∙ e) ∙ rw (not-borrow s a c o (reads j g l) p, append-nil (loans_below (graph_of j) p))
+      pub lends_other : ((d : repr.Path) (r : RegionName) (k : BorrowKind) (q : repr.Path) → a ≡ action.Borrow d r k q → ⊥) → Lends input walked p n table table n
+      lends_other o = lends_nothing λ j g l. below-walked (graph_of j) p (walks j g ∙ e) ∙ rw (not-borrow input.bytes.now a c o (reads j g l) p, append-nil (loans_below (graph_of j) p))
 
       module _ {d source : repr.Path} {region : RegionName} {kind : BorrowKind} (k : a ≡ action.Borrow d region kind source) where
-        borrows : (j : Job) → Given s t h walked j → p < code_count j.blocks → action_at (graph_of j) p ≡ Borrow (path_of s d) region.0 (borrow_kind_of kind) (path_of s source)
-        borrows j g l = carry (λ x o. x ≡ Borrow (path_of s d) region.0 (borrow_kind_of kind) (path_of s source)) (subst (λ (y : acts.Action). action_says s (action_step.Action y c) ≡ read (action_at (graph_of j) p) (m h j g.layout l).over) k (reads j g l)) refl
+        borrows : (j : Job) → Given input walked j → p < code_count j.blocks → action_at (graph_of j) p ≡ Borrow (path_of input.bytes.now d) region.0 (borrow_kind_of kind) (path_of input.bytes.now source)
+        borrows j g l = carry (λ x o. x ≡ Borrow (path_of input.bytes.now d) region.0 (borrow_kind_of kind) (path_of input.bytes.now source)) (subst (λ (y : acts.Action). action_read input.bytes.now y c ≡ read (action_at (graph_of j) p) (m j g.layout l).over) k (reads j g l)) refl
 
-        below : (j : Job) (g : Given s t h walked j) (l : p < code_count j.blocks) → loans_below (graph_of j) (p + 1) ≡ loans_below (graph_of j) p ++ (record { point = p; region = region.0; kind = borrow_kind_of kind; path = path_of s source } ∷ [])
+        below : (j : Job) (g : Given input walked j) (l : p < code_count j.blocks) → loans_below (graph_of j) (p + 1) ≡ loans_below (graph_of j) p ++ (record { point = p; region = region.0; kind = borrow_kind_of kind; path = path_of input.bytes.now source } ∷ [])
         unfolding loan_at
         below j g l = below-walked (graph_of j) p (walks j g ∙ e) ∙ ap (λ (x : Action). loans_below (graph_of j) p ++ loan_at p x) (borrows j g l)
 
         -- there are no more loans than the table has room for
-        room : (j : Job) (g : Given s t h walked j) (l : p < code_count j.blocks) → length (loans_below (graph_of j) p) < 128
+        room : (j : Job) (g : Given input walked j) (l : p < code_count j.blocks) → length (loans_below (graph_of j) p) < 128
         unfolding loans_of
         room j g l =
             let x = below_more (graph_of j) (p + 1) (graph_of j).code (omega (arith, code-count j)) in
-            let y = ap length (below j g l) ∙ length-append (loans_below (graph_of j) p) (record { point = p; region = region.0; kind = borrow_kind_of kind; path = path_of s source } ∷ []) in
+            let y = ap length (below j g l) ∙ length-append (loans_below (graph_of j) p) (record { point = p; region = region.0; kind = borrow_kind_of kind; path = path_of input.bytes.now source } ∷ []) in
             omega (arith, x, y, g.few)
 
-        pub lends_full : n ≡ 128 → Lends s t h walked p n table table n
+        pub lends_full : n ≡ 128 → Lends input walked p n table table n
         lends_full f = record { size = size; few = few; more = λ j g l w. absurd (omega (arith, room j g l, w.count)) }
 
-        pub lends-more : {x : Shortest} {table' : List ℕ} → ((j : Job) → Layout s t h j → source.base.0 < length j.variables → path_fits j (path_of s source) ≡ true → length (path_of s source).steps ≤ 8 → ShortestOf j (path_of s source) x)
-            → (n ≡ 128 → ⊥) → Put table n (record { point = p; region = region; kind = kind; path = source; shortest = x }) table' → Lends s t h walked p n table table' (n + 1)
+        pub lends-more : {x : Shortest} {table' : List ℕ} → ((j : Job) → Holds input j → source.base.0 < length j.variables → path_fits j (path_of input.bytes.now source) ≡ true → length (path_of input.bytes.now source).steps ≤ 8 → ShortestOf j (path_of input.bytes.now source) x)
+            → (n ≡ 128 → ⊥) → Put table n (record { point = p; region = region; kind = kind; path = source; shortest = x }) table' → Lends input walked p n table table' (n + 1)
         lends-more {x} {table'} f z put =
             record {
               size = put.size;
@@ -120,30 +119,30 @@ module _ {s t : List ℕ} {h : Head} {walked : List ℕ} {p n : ℕ} (table : Li
               more = λ j g l w.
                   let q = borrows j g l in
                   let v = source-short g.layout p q in
-                  subst (λ (xs : List spec.Loan). Listed s j xs table' (n + 1)) (sym (below j g l))
-                  (listed_more s g.layout.short w put refl (f j g.layout (source-named g.layout p q g.names) (source_fits g.layout p q g.paths) (omega arith)));
+                  subst (λ (xs : List spec.Loan). Listed input.bytes.now j xs table' (n + 1)) (sym (below j g l))
+                  (listed_more input.bytes.now g.layout.short w put refl (f j g.layout (source-named g.layout p q g.names) (source_fits g.layout p q g.paths) (omega arith)));
             }
 
 -- ---- All points
 
 -- What the loop keeps.
-pub record Lending (s t : List ℕ) (h : Head) (walked : List ℕ) (p : ℕ) (table : List ℕ) (n : ℕ) : Type 0 where
+pub record Lending (input : Record) (walked : List ℕ) (p : ℕ) (table : List ℕ) (n : ℕ) : Type 0 where
   pub size : length table ≡ 1024
   pub few : n ≤ 128
-  pub lent : (j : Job) → Given s t h walked j → p ≤ code_count j.blocks → Listed s j (loans_below (graph_of j) p) table n
+  pub lent : (j : Job) → Given input walked j → p ≤ code_count j.blocks → Listed input.bytes.now j (loans_below (graph_of j) p) table n
 
-module _ {s t : List ℕ} {h : Head} {walked : List ℕ} where
-  pub lending-none : {table : List ℕ} → length table ≡ 1024 → Lending s t h walked 0 table 0
+module _ {input : Record} {walked : List ℕ} where
+  pub lending-none : {table : List ℕ} → length table ≡ 1024 → Lending input walked 0 table 0
   lending-none size = record { size = size; few = omega arith; lent = λ j g l. record { count = refl; same = λ i k. absurd (omega arith); shortest = λ i k. absurd (omega arith) } }
 
-  pub lending-more : {p n r : ℕ} {table table' : List ℕ} → Lending s t h walked p table n → Lends s t h walked p n table table' r → Lending s t h walked (p + 1) table' r
+  pub lending-more : {p n r : ℕ} {table table' : List ℕ} → Lending input walked p table n → Lends input walked p n table table' r → Lending input walked (p + 1) table' r
   lending-more w l = record { size = l.size; few = l.few; lent = λ j g k. l.more j g (omega arith) (w.lent j g (omega arith)) }
 
-  pub lending-all : {p code n : ℕ} {table : List ℕ} → Lending s t h walked p table n → p ≤ code → code ≤ p → (h.code ≤ 1024 → code ≡ h.code) → (j : Job) → Layout s t h j → T (named j) → T (paths_fit j)
-      → WalkedIn j walked → length (loans_of (graph_of j)) ≤ 128 → LoansAt s j table n
+  pub lending-all : {p code n : ℕ} {table : List ℕ} → Lending input walked p table n → p ≤ code → code ≤ p → (input.head.code ≤ 1024 → code ≡ input.head.code) → (j : Job) → Holds input j → T (named j) → T (paths_fit j)
+      → WalkedIn j walked → length (loans_of (graph_of j)) ≤ 128 → LoansAt input.bytes.now j table n
   unfolding loans_of
   lending-all {p} {n = n} {table = table} w a b c j l named paths walks few =
       let i = code-count j in
       let e : p ≡ (graph_of j).code = omega (arith, c (omega (arith, l.code, l.few)), l.code) in
-      let v = subst (λ (q : ℕ). Listed s j (loans_below (graph_of j) q) table n) e (w.lent j (record { layout = l; names = named; paths = paths; walks = walks; few = few }) (omega (arith, i))) in
+      let v = subst (λ (q : ℕ). Listed input.bytes.now j (loans_below (graph_of j) q) table n) e (w.lent j (record { layout = l; names = named; paths = paths; walks = walks; few = few }) (omega (arith, i))) in
       record { count = v.count; few = w.few; same = v.same; shortest = v.shortest }

@@ -8,8 +8,8 @@ use Rattle.nll_spec.specs.Graph.{Graph, graph_of, action_at, is_walked}
 use Rattle.nll_spec.specs.Loans as spec
 use Rattle.nll_spec.specs.Loans.{loan_at, loans_of, loan_number}
 use Rattle.repr.specs.Reading.{borrow_kind_of, path_of}
-use Rattle.record.specs.Layout.{Layout}
-use Rattle.record.specs.declared.Head.{Head}
+use Rattle.record.specs.Layout.{Holds}
+use Rattle.record.specs.declared.Record.{Record}
 use Rattle.env.specs.Prefixes.{ShortestOf}
 use Rattle.graph.specs.Search.{WalkedIn}
 use Rattle.loans.specs.Table.{entry_of}
@@ -39,15 +39,15 @@ pub record Listed (s : List ℕ) (j : Job) (xs : List spec.Loan) (table : List �
   pub shortest : (i : ℕ) → i < n → ShortestOf j (loan_number xs i).path (entry_of table i).shortest
 
 -- A job of the record whose paths may be taken, its walked points, and not too many loans.
-pub record Given (s t : List ℕ) (h : Head) (walked : List ℕ) (j : Job) : Type 0 where
-  pub layout : Layout s t h j
+pub record Given (input : Record) (walked : List ℕ) (j : Job) : Type 0 where
+  pub layout : Holds input j
   pub names : T (named j)
   pub paths : T (paths_fit j)
   pub walks : WalkedIn j walked
   pub few : length (loans_of (graph_of j)) ≤ 128
 
 -- The loan of point p is in the table, where those of the points below it were.
-pub record Lends (s t : List ℕ) (h : Head) (walked : List ℕ) (p n : ℕ) (before after : List ℕ) (r : ℕ) : Type 0 where
+pub record Lends (input : Record) (walked : List ℕ) (p n : ℕ) (before after : List ℕ) (r : ℕ) : Type 0 where
   pub size : length after ≡ 1024
   pub few : r ≤ 128
-  pub more : (j : Job) → Given s t h walked j → p < code_count j.blocks → Listed s j (loans_below (graph_of j) p) before n → Listed s j (loans_below (graph_of j) (p + 1)) after r
+  pub more : (j : Job) → Given input walked j → p < code_count j.blocks → Listed input.bytes.now j (loans_below (graph_of j) p) before n → Listed input.bytes.now j (loans_below (graph_of j) (p + 1)) after r

@@ -4,7 +4,6 @@ use mathlib.Core.Logic.{◌⊎◌, inl, inr}
 use mathlib.Core.Bool.{Bool, true, false, not, ◌&&◌, or-false}
 use mathlib.Core.List.{List}
 use Prim.Native.Nat.{ℕ, ◌+◌, ◌-◌, ◌*◌, ◌/◌, ◌%◌, ◌^◌, ◌≤◌, ◌<◌, min}
-use native.Mathlib.Nat.{mul-le-mul_right}
 use native.Mathlib.Omega.{arith}
 use native.Mathlib.Decide.{dec_lt}
 use lib.ListN.{length, get_or}
@@ -28,25 +27,22 @@ use Rattle.bit_set.specs.Bits.{has}
 use Rattle.bit_set.proofs.RunLaws.{and_true_left}
 use Rattle.flow.proofs.RunningLaws.{has_word}
 use Rattle.repr.specs.Reading.{rest, path_of}
-use Rattle.repr.specs.Parts.{action_says}
+use Rattle.repr.specs.Parts.{action_says, action_read}
 use Rattle.repr.specs.declared.Cursor.{Cursor}
 use Rattle.repr.specs.declared.Path.{Path}
 use Rattle.repr.specs.declared.Action.{Action}
 use Rattle.repr.specs.declared.Action.TheVariants.{Noop, Init, Borrow, Assign, Constraint, Use, Drop, StorageDead}
-use Rattle.repr.specs.declared.ActionStep.{ActionStep}
-use Rattle.repr.specs.declared.ActionStep.TheVariants as action_step
-use Rattle.repr.proofs.ReadLaws.{told}
+use Rattle.repr.specs.declared.refusal.Refusal.{Refusal}
+use Rattle.std.specs.Prelude.{Option, Some, None, Result, Ok, Err}
 use Rattle.record.specs.Access.{Acts}
-use Rattle.record.specs.Layout.{Layout}
-use Rattle.record.specs.declared.Head.{Head}
+use Rattle.record.specs.Layout.{Holds}
 use Rattle.repr.proofs.SpellLaws.{done_back, then}
 use Rattle.loans.specs.Loans.{loan_of}
 use Rattle.loans.specs.Table.{entry_of}
 use Rattle.loans.specs.declared.Loan.{Loan}
 use Rattle.loans_in_scope.specs.Gains.{Gains, Cell, If, Column, WordTo}
-use Rattle.loans_in_scope.specs.Scope.{overwritten_by, paths_of, killed, inside_of, RegionTo, RegionsTo, starts, Given, Begins, Begun}
-use Rattle.loans_in_scope.specs.declared.Overwritten.{Overwritten}
-use Rattle.loans_in_scope.specs.declared.Overwritten.TheVariants.{At, Nothing}
+use Rattle.loans_in_scope.specs.Scope.{overwritten_by, paths_of, killed, inside_of, loan_in, given_to, RegionTo, RegionsTo, starts, Begins, Begun}
+use Rattle.loans_in_scope.specs.declared.Setup.{Setup}
 use Rattle.loans_in_scope.proofs.GainsLaws.{gains_none, gains_then, gains_as, on_as, columns_none, columns_more}
 
 -- ---- What an action overwrites
@@ -57,7 +53,7 @@ clash e = let z : ◌≡◌ {A = ℕ} 0 1 = cc in omega arith
 same_item : {A : Type 0} {a b : A} {bs cs : List ℕ} → read a bs ≡ read b cs → a ≡ b
 same_item e = cc
 
-overwritten-is : (s : List ℕ) (a : Action) (c : Cursor) {x : syntax.Action} {over : List ℕ} → action_says s (action_step.Action a c) ≡ read x over → paths_of s (overwritten_by a) ≡ overwritten x
+overwritten-is : (s : List ℕ) (a : Action) (c : Cursor) {x : syntax.Action} {over : List ℕ} → action_read s a c ≡ read x over → paths_of s (overwritten_by a) ≡ overwritten x
 unfolding overwritten
 overwritten-is s Noop c e = ap overwritten (same_item e)
 overwritten-is s (Init dest n) c e = ap overwritten (done_back _ _ (then (items n path) _ (rest s c) e).last)
@@ -68,12 +64,12 @@ overwritten-is s (Use p) c e = ap overwritten (same_item e)
 overwritten-is s (Drop p) c e = ap overwritten (same_item e)
 overwritten-is s (StorageDead v) c e = ap overwritten (same_item e)
 
-module _ {s : List ℕ} {x : syntax.Action} {r : ActionStep} (e : Acts s x r) where
-  pub acts_none : {k : ℕ} → r ≡ action_step.Refused k → {ds : List syntax.Path} → ds ≡ overwritten x
-  acts_none i = absurd (clash (sym (told (action_says s) refl i) ∙ e.reads))
+module _ {s : List ℕ} {x : syntax.Action} {r : Result (Action × Cursor) Refusal} (e : Acts s x r) where
+  pub acts_none : {k : Refusal} → r ≡ Err k → {ds : List syntax.Path} → ds ≡ overwritten x
+  acts_none i = absurd (clash (sym (ap (action_says s) i) ∙ e.reads))
 
-  pub acts_over : {a : Action} {c : Cursor} → r ≡ action_step.Action a c → {d : Overwritten} → d ≡ overwritten_by a → paths_of s d ≡ overwritten x
-  acts_over {a} {c} i q = ap (paths_of s) q ∙ overwritten-is s a c (sym (told (action_says s) refl i) ∙ e.reads)
+  pub acts_over : {a : Action} {c : Cursor} → r ≡ Ok (a, c) → {d : Option Path} → d ≡ overwritten_by a → paths_of s d ≡ overwritten x
+  acts_over {a} {c} i q = ap (paths_of s) q ∙ overwritten-is s a c (sym (ap (action_says s) i) ∙ e.reads)
 
 -- ---- A loan's region is one of the job's
 
@@ -115,22 +111,22 @@ code_below : (j : Job) → code_count j.blocks ≤ point_count j
 unfolding point_count
 code_below j = omega arith
 
-module _ {s t : List ℕ} {h : Head} {words : List ℕ} {width : ℕ} {table : List ℕ} {count : ℕ} {j : Job} {sets : Table} (g : Given s t h words width table count j sets) where
-  pub inside_is : (i p : ℕ) → i < count → p < code_count j.blocks → inside_of words width (entry_of table i).region.0 p ≡ holds sets (loan_number (loans_of (graph_of j)) i).region p
+module _ (u : Setup) {j : Job} {sets : Table} (g : given_to u j sets) where
+  pub inside_is : (i p : ℕ) → i < u.loans.now.count → p < code_count j.blocks → inside_of u.words.now u.width (loan_in u i).region p ≡ holds sets (loan_number (loans_of (graph_of j)) i).region p
   inside_is i p l m =
-      let e : (entry_of table i).region.0 ≡ (loan_number (loans_of (graph_of j)) i).region = ap (λ (x : loans.Loan). x.region) (g.loans.same i l) in
+      let e : (loan_in u i).region ≡ (loan_number (loans_of (graph_of j)) i).region = ap (λ (x : loans.Loan). x.region) (g.loans.same i l) in
       let n : i < length (loans_of (graph_of j)) = omega (arith, g.loans.count) in
       let r : (loan_number (loans_of (graph_of j)) i).region < length sets = omega (arith, region-named j g.names i n, g.rows) in
-      ap (λ (x : ℕ). inside_of words width x p) e ∙ g.says.bits (loan_number (loans_of (graph_of j)) i).region p r (omega (arith, code_below j, g.room))
+      ap (λ (x : ℕ). inside_of u.words.now u.width x p) e ∙ g.says.bits (loan_number (loans_of (graph_of j)) i).region p r (omega (arith, code_below j, g.room))
 
 -- ---- Whether a loan is killed
 
-pub killed-none : (s : List ℕ) {d : Overwritten} → d ≡ Nothing → (loan : Loan) (j : Job) → false ≡ killed j (paths_of s d) (loan_of s loan)
+pub killed-none : (s : List ℕ) {d : Option Path} → d ≡ None → (loan : Loan) (j : Job) → false ≡ killed j (paths_of s d) (loan_of s loan)
 killed-none s e loan j = rw e
 
-pub killed-at : (s : List ℕ) {d : Overwritten} {q : Path} → d ≡ At q → (loan : Loan) {r : Bool} → ((j : Job) → r ≡ is_prefix j (path_of s q) (path_of s loan.path)) → (j : Job)
+pub killed-at : (s : List ℕ) {d : Option Path} {q : Path} → d ≡ Some q → (loan : Loan) {r : Bool} → ((j : Job) → r ≡ is_prefix j (path_of s q) (path_of s loan.path)) → (j : Job)
     → r ≡ killed j (paths_of s d) (loan_of s loan)
-killed-at s {d} {q} e loan h j = h j ∙ sym (or-false (is_prefix j (path_of s q) (path_of s loan.path))) ∙ ap (λ (x : Overwritten). killed j (paths_of s x) (loan_of s loan)) (sym e)
+killed-at s {d} {q} e loan h j = h j ∙ sym (or-false (is_prefix j (path_of s q) (path_of s loan.path))) ∙ ap (λ (x : Option Path). killed j (paths_of s x) (loan_of s loan)) (sym e)
 
 -- ---- The points of a region
 
@@ -142,7 +138,7 @@ module _ (words : List ℕ) (start code i : ℕ) (ws : List ℕ) where
   pub region-none : Gains (RegionPart words start code i (32 * 0)) ws ws
   region-none = gains_none ws (λ p k e. absurd (omega (arith, e.0.1)))
 
-  pub region-more : {u v : List ℕ} {w to : ℕ} (k : ℕ) → w ≡ get_or words (start + k) 0 → to ≡ min (32 * k + 32) code → Gains (RegionPart words start code i (32 * k)) ws u
+  pub region-more : {u v : List ℕ} {w to : ℕ} (k : ℕ) → w ≡ get_or words (start + k) 0 → to ≡ min code (32 * k + 32) → Gains (RegionPart words start code i (32 * k)) ws u
       → Gains (WordTo w (32 * k) to i) u v → Gains (RegionPart words start code i (32 * (k + 1))) ws v
   region-more {w = w} {to} k e m a b =
       gains_then a b (λ p n x. ((x.0.0, omega (arith, x.0.1)), x.1)) (λ p n x. here p n x) (λ p n x. go p n x (dec_lt p (32 * k)))
@@ -165,71 +161,64 @@ module _ (words : List ℕ) (start code i : ℕ) (ws : List ℕ) where
           let h : 32 * k ≤ p = omega arith in
           inr (x.0.0.1, h, omega (arith, m, x.0.0.0), sym (bit p h d) ∙ x.1)
 
-  pub region-all : {u : List ℕ} (width r k : ℕ) → start ≡ r * width → code ≤ 32 * k → Gains (RegionPart words start code i (32 * k)) ws u → Gains (RegionTo words width r code i) ws u
-  region-all width r k e l a = gains_as a (λ p n x. (x.0.0, same p x.1)) (λ p n x. ((x.0, omega (arith, x.0.0)), back p x.1))
-    where
-      same : (p : ℕ) → has words (word_bits * start + p) ≡ true → inside_of words width r p ≡ true
-      same p h = subst (λ (y : ℕ). has words (word_bits * y + p) ≡ true) e h
+-- all of its words are put
+pub region-all : (v : Setup) (r i k : ℕ) {start : ℕ} {ws u : List ℕ} → start ≡ r * v.width → v.code ≤ 32 * k → Gains (RegionPart v.words.now start v.code i (32 * k)) ws u → Gains (RegionTo v r i) ws u
+region-all v r i k {start} e l a = gains_as a (λ p n x. (x.0.0, same p x.1)) (λ p n x. ((x.0, omega (arith, x.0.0)), back p x.1))
+  where
+    same : (p : ℕ) → has v.words.now (word_bits * start + p) ≡ true → inside_of v.words.now v.width r p ≡ true
+    same p h = subst (λ (y : ℕ). has v.words.now (word_bits * y + p) ≡ true) e h
 
-      back : (p : ℕ) → inside_of words width r p ≡ true → has words (word_bits * start + p) ≡ true
-      back p h = subst (λ (y : ℕ). has words (word_bits * y + p) ≡ true) (sym e) h
+    back : (p : ℕ) → inside_of v.words.now v.width r p ≡ true → has v.words.now (word_bits * start + p) ≡ true
+    back p h = subst (λ (y : ℕ). has v.words.now (word_bits * y + p) ≡ true) (sym e) h
 
 -- ---- Where a loan starts
 
-module _ {s t : List ℕ} (loan : Loan) (n i : ℕ) {ws : List ℕ} where
-  pub begins-not : n ≤ loan.point → Begins s t loan n i ws ws
-  begins-not l = record { bits = λ h j o m. gains_none ws (λ p k e. absurd (omega (arith, e.0.0, eqb-true loan.point p (and_true_left _ _ e.1)))) }
+module _ (v : Setup) (loan : Loan) (i : ℕ) {ws : List ℕ} where
+  pub begins-not : v.code ≤ loan.point → Begins v loan i ws ws
+  begins-not l = record { bits = λ j o m. gains_none ws (λ p k e. absurd (omega (arith, e.0.0, eqb-true loan.point p (and_true_left _ _ e.1)))) }
 
-  pub begins-at : {ws' : List ℕ} (d : Overwritten) {dead : Bool} → loan.point < n
-      → ((h : Head) (j : Job) → Layout s t h j → loan.point < code_count j.blocks → paths_of s d ≡ overwritten (action_at (graph_of j) loan.point))
-      → ((j : Job) → dead ≡ killed j (paths_of s d) (loan_of s loan)) → Gains (If (Cell loan.point i) (not dead)) ws ws' → Begins s t loan n i ws ws'
-  begins-at {ws'} d {dead} l over kill a = record { bits = λ h j o m. gains_as a (to h j o m) (from h j o m) }
+  pub begins-at : {ws' : List ℕ} (d : Option Path) {dead : Bool} → loan.point < v.code
+      → ((j : Job) → Holds v.input.now j → loan.point < code_count j.blocks → paths_of v.input.now.bytes.now d ≡ overwritten (action_at (graph_of j) loan.point))
+      → ((j : Job) → dead ≡ killed j (paths_of v.input.now.bytes.now d) (loan_of v.input.now.bytes.now loan)) → Gains (If (Cell loan.point i) (not dead)) ws ws' → Begins v loan i ws ws'
+  begins-at {ws'} d {dead} l over kill a = record { bits = λ j o m. gains_as a (to j o m) (from j o m) }
     where
-      same : (h : Head) (j : Job) → Layout s t h j → n ≤ code_count j.blocks → (p : ℕ) → p ≡ loan.point → starts j (overwritten (action_at (graph_of j) p)) (loan_of s loan) p ≡ not dead
-      same h j o m p e =
-          ap (λ (q : ℕ). starts j (overwritten (action_at (graph_of j) q)) (loan_of s loan) q) e
-          ∙ ap (λ (b : Bool). b && not (killed j (overwritten (action_at (graph_of j) loan.point)) (loan_of s loan))) (eq-eqb loan.point loan.point refl)
-          ∙ ap (λ (ds : List syntax.Path). not (killed j ds (loan_of s loan))) (sym (over h j o (omega arith)))
+      lent : loans.Loan
+      lent = loan_of v.input.now.bytes.now loan
+
+      same : (j : Job) → Holds v.input.now j → v.code ≤ code_count j.blocks → (p : ℕ) → p ≡ loan.point → starts j (overwritten (action_at (graph_of j) p)) lent p ≡ not dead
+      same j o m p e =
+          ap (λ (q : ℕ). starts j (overwritten (action_at (graph_of j) q)) lent q) e
+          ∙ ap (λ (b : Bool). b && not (killed j (overwritten (action_at (graph_of j) loan.point)) lent)) (eq-eqb loan.point loan.point refl)
+          ∙ ap (λ (ds : List syntax.Path). not (killed j ds lent)) (sym (over j o (omega arith)))
           ∙ ap not (sym (kill j))
 
-      to : (h : Head) (j : Job) → Layout s t h j → n ≤ code_count j.blocks → (p k : ℕ) → If (Cell loan.point i) (not dead) p k
-          → Column n i p k × (starts j (overwritten (action_at (graph_of j) p)) (loan_of s loan) p ≡ true)
-      to h j o m p k e = ((omega (arith, e.0.0), e.0.1), same h j o m p e.0.0 ∙ e.1)
+      to : (j : Job) → Holds v.input.now j → v.code ≤ code_count j.blocks → (p k : ℕ) → If (Cell loan.point i) (not dead) p k
+          → Column v.code i p k × (starts j (overwritten (action_at (graph_of j) p)) lent p ≡ true)
+      to j o m p k e = ((omega (arith, e.0.0), e.0.1), same j o m p e.0.0 ∙ e.1)
 
-      from : (h : Head) (j : Job) → Layout s t h j → n ≤ code_count j.blocks → (p k : ℕ) → Column n i p k × (starts j (overwritten (action_at (graph_of j) p)) (loan_of s loan) p ≡ true)
+      from : (j : Job) → Holds v.input.now j → v.code ≤ code_count j.blocks → (p k : ℕ) → Column v.code i p k × (starts j (overwritten (action_at (graph_of j) p)) lent p ≡ true)
           → If (Cell loan.point i) (not dead) p k
-      from h j o m p k e =
+      from j o m p k e =
           let z : p ≡ loan.point = sym (eqb-true loan.point p (and_true_left _ _ e.1)) in
-          ((z, e.0.1), sym (same h j o m p z) ∙ e.1)
+          ((z, e.0.1), sym (same j o m p z) ∙ e.1)
 
 -- ---- The loans, one after the other
 
-module _ (s t words : List ℕ) (width : ℕ) (table : List ℕ) (n : ℕ) {ws : List ℕ} where
-  pub begun_none : Begun s t table n 0 ws ws
-  begun_none = record { bits = λ h j o m. columns_none _ ws n }
+module _ (v : Setup) {ws : List ℕ} where
+  pub begun_none : Begun v 0 ws ws
+  begun_none = record { bits = λ j o m. columns_none _ ws v.code }
 
-  pub begun_more : {u v : List ℕ} (i : ℕ) {x : Loan} → x ≡ entry_of table i → Begun s t table n i ws u → Begins s t x n i u v → Begun s t table n (i + 1) ws v
+  pub begun_more : {a b : List ℕ} (i : ℕ) {x : Loan} → x ≡ entry_of v.loans.now.numbers i → Begun v i ws a → Begins v x i a b → Begun v (i + 1) ws b
   begun_more i {x} e a b = record {
-    bits = λ h j o m.
-        columns_more (λ p k. starts j (overwritten (action_at (graph_of j) p)) (loan_of s (entry_of table k)) p) ws n i (a.bits h j o m)
-        (on_as {g = λ p k. starts j (overwritten (action_at (graph_of j) p)) (loan_of s (entry_of table k)) p} (b.bits h j o m) (λ p k w. w) (λ p k w. w) (λ p k w. rw (w.1, e)));
+    bits = λ j o m.
+        columns_more (λ p k. starts j (overwritten (action_at (graph_of j) p)) (loan_in v k) p) ws v.code i (a.bits j o m)
+        (on_as {g = λ p k. starts j (overwritten (action_at (graph_of j) p)) (loan_in v k) p} (b.bits j o m) (λ p k w. w) (λ p k w. w) (λ p k w. rw (w.1, e)));
   }
 
-  pub begun_all : {u : List ℕ} (i count : ℕ) → i ≤ count → count ≤ i → Begun s t table n i ws u → Begun s t table n count ws u
-  begun_all {u} i count l m a = let e : i ≡ count = omega arith in subst (λ (k : ℕ). Begun s t table n k ws u) e a
+  pub regions-none : Gains (RegionsTo v 0) ws ws
+  regions-none = columns_none _ ws v.code
 
-  pub regions-none : Gains (RegionsTo words width table n 0) ws ws
-  regions-none = columns_none _ ws n
-
-  pub regions-more : {u v : List ℕ} (i : ℕ) {x : Loan} → x ≡ entry_of table i → Gains (RegionsTo words width table n i) ws u → Gains (RegionTo words width x.region.0 n i) u v
-      → Gains (RegionsTo words width table n (i + 1)) ws v
+  pub regions-more : {a b : List ℕ} (i : ℕ) {x : Loan} → x ≡ entry_of v.loans.now.numbers i → Gains (RegionsTo v i) ws a → Gains (RegionTo v x.region.0 i) a b → Gains (RegionsTo v (i + 1)) ws b
   regions-more i {x} e a b =
-      columns_more (λ p k. inside_of words width (entry_of table k).region.0 p) ws n i a
-      (on_as {g = λ p k. inside_of words width (entry_of table k).region.0 p} b (λ p k w. w) (λ p k w. w) (λ p k w. rw (w.1, e)))
-
-  pub regions-all : {u : List ℕ} (i count : ℕ) → i ≤ count → count ≤ i → Gains (RegionsTo words width table n i) ws u → Gains (RegionsTo words width table n count) ws u
-  regions-all {u} i count l m a = let e : i ≡ count = omega arith in subst (λ (k : ℕ). Gains (RegionsTo words width table n k) ws u) e a
-
--- a region's number times the words of a set
-pub small_product : (r width : ℕ) → r ≤ 255 → width ≤ 32 → r * width ≤ 8160
-small_product r width l m = omega (arith, mul-le-mul_right width l, m)
+      columns_more (λ p k. inside_of v.words.now v.width (loan_in v k).region p) ws v.code i a
+      (on_as {g = λ p k. inside_of v.words.now v.width (loan_in v k).region p} b (λ p k w. w) (λ p k w. w) (λ p k w. rw (w.1, e)))

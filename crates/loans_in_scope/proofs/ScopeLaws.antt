@@ -20,13 +20,14 @@ use Rattle.bit_set.specs.Bits.{has, cleared}
 use Rattle.bit_set.proofs.BitLaws.{has-zeros}
 use Rattle.bit_set.proofs.RunLaws.{and_true_left, and_true_right}
 use Rattle.bit_set.proofs.SetLaws.{has-cleared}
-use Rattle.record.specs.declared.Head.{Head}
+use Rattle.record.specs.declared.Record.{Record}
 use Rattle.graph.specs.Tables.{Edges}
 use Rattle.flow.specs.Flows.{bit_at, FlowSays}
 use Rattle.flow.specs.declared.Direction.TheVariants.{Forward}
 use Rattle.graph.proofs.EntryLaws.{edge_next, next_edge}
 use Rattle.loans_in_scope.specs.Gains.{Gains, Tables, tables, Sized, Empty, Filled, Below, Rows, Masked}
-use Rattle.loans_in_scope.specs.Scope.{killed, job_bits, Given, PointsFilled, ScopeSays}
+use Rattle.loans_in_scope.specs.Scope.{killed, job_bits, Given, given_to, PointsFilled, ScopeSays, says_of}
+use Rattle.loans_in_scope.specs.declared.Setup.{Setup}
 use Rattle.loans_in_scope.proofs.GainsLaws.{filled-has, masked_has}
 use Rattle.loans_in_scope.proofs.LoanLaws.{successors-of}
 use Rattle.loans_in_scope.proofs.PathLaws.{scope_to, to_scope, scope_same}
@@ -49,79 +50,79 @@ killed-is : (j : Job) (p : Point) (loan : loans.Loan) → kills j (action_at (gr
 unfolding kills
 killed-is j p loan = refl
 
-module _ {s t : List ℕ} {h : Head} {first succ words : List ℕ} {width : ℕ} {table : List ℕ} {count : ℕ} where
-  pub says_none : {scope : List ℕ} → ((j : Job) (sets : Table) → Given s t h words width table count j sets → ⊥) → ScopeSays s t h first succ words width table count scope
+module _ {input : Record} {first succ words : List ℕ} {width : ℕ} {table : List ℕ} {count : ℕ} where
+  pub says_none : {scope : List ℕ} → ((j : Job) (sets : Table) → Given input words width table count j sets → ⊥) → ScopeSays input first succ words width table count scope
   says_none n = record { bits = λ j sets g e p i l m. absurd (n j sets g) }
 
   -- no loan, so that nothing is said of the words
-  pub says_empty : {scope : List ℕ} → count ≡ 0 → ScopeSays s t h first succ words width table count scope
+  pub says_empty : {scope : List ℕ} → count ≡ 0 → ScopeSays input first succ words width table count scope
   says_empty n = record { bits = λ j sets g e p i l m. absurd (omega arith) }
 
-  module _ {code : ℕ} (is_code : code ≡ h.code) {blank : Tables} {start pass region leaves none u scope : List ℕ} (blanks : Empty blank) (filled : PointsFilled s t words width table count code blank (tables start pass region))
-      (flows : (g : Graph) → Edges g first succ → code ≡ g.code → FlowSays g Forward pass start leaves) (ws : List ℕ) (size : 4 * code ≤ length ws) (empty : none ≡ cleared ws 0 (4 * code)) (gathered : Gains (Rows leaves code first succ code) none u)
-      (masked : Masked region u (4 * code) scope) where
-    module _ (j : Job) (sets : Table) (g : Given s t h words width table count j sets) (e : Edges (graph_of j) first succ) (i : ℕ) (l : i < count) where
-      same_code : code ≡ (graph_of j).code
-      same_code = is_code ∙ g.layout.code ∙ sym (code-count j)
+module _ {v : Setup} (is_code : v.code ≡ v.input.now.head.code) {blank : Tables} {start pass region leaves none u scope : List ℕ} (blanks : Empty blank) (filled : PointsFilled v blank (tables start pass region))
+    (flows : (g : Graph) → Edges g v.graph.now.first v.graph.now.succ → v.code ≡ g.code → FlowSays g Forward pass start leaves) (ws : List ℕ) (size : 4 * v.code ≤ length ws) (empty : none ≡ cleared ws 0 (4 * v.code))
+    (gathered : Gains (Rows leaves v.code v.graph.now.first v.graph.now.succ v.code) none u) (masked : Masked region u (4 * v.code) scope) where
+  module _ (j : Job) (sets : Table) (g : given_to v j sets) (e : Edges (graph_of j) v.graph.now.first v.graph.now.succ) (i : ℕ) (l : i < v.loans.now.count) where
+    same_code : v.code ≡ (graph_of j).code
+    same_code = is_code ∙ g.layout.code ∙ sym (code-count j)
 
-      few : i < 128
-      few = omega (arith, g.loans.few)
+    few : i < 128
+    few = omega (arith, g.loans.few)
 
-      bits : Filled (Below code count) (job_bits j sets) blank (tables start pass region)
-      bits = filled.bits h j sets g (omega (arith, is_code, g.layout.code))
+    bits : Filled (Below v.code v.loans.now.count) (job_bits j sets) blank (tables start pass region)
+    bits = filled.bits j sets g (omega (arith, is_code, g.layout.code))
 
-      starts : (p : Point) → p < (graph_of j).code → has start (bit_at p i) ≡ (eqb (loan_number (loans_of (graph_of j)) i).point p && not (kills j (action_at (graph_of j) p) (loan_number (loans_of (graph_of j)) i)))
-      starts p m = filled-has {f = λ p i. (job_bits j sets p i).start} blanks.start bits.start p i (omega (arith, same_code)) l few
-          ∙ ap (λ (b : Bool). eqb (loan_number (loans_of (graph_of j)) i).point p && not b) (sym (killed-is j p (loan_number (loans_of (graph_of j)) i)))
+    starts : (p : Point) → p < (graph_of j).code → has start (bit_at p i) ≡ (eqb (loan_number (loans_of (graph_of j)) i).point p && not (kills j (action_at (graph_of j) p) (loan_number (loans_of (graph_of j)) i)))
+    starts p m = filled-has {f = λ p i. (job_bits j sets p i).start} blanks.start bits.start p i (omega (arith, same_code)) l few
+        ∙ ap (λ (b : Bool). eqb (loan_number (loans_of (graph_of j)) i).point p && not b) (sym (killed-is j p (loan_number (loans_of (graph_of j)) i)))
 
-      passes : (p : Point) → p < (graph_of j).code → has pass (bit_at p i) ≡ (holds sets (loan_number (loans_of (graph_of j)) i).region p && not (kills j (action_at (graph_of j) p) (loan_number (loans_of (graph_of j)) i)))
-      passes p m = filled-has {f = λ p i. (job_bits j sets p i).pass} blanks.pass bits.pass p i (omega (arith, same_code)) l few
-          ∙ ap (λ (b : Bool). holds sets (loan_number (loans_of (graph_of j)) i).region p && not b) (sym (killed-is j p (loan_number (loans_of (graph_of j)) i)))
+    passes : (p : Point) → p < (graph_of j).code → has pass (bit_at p i) ≡ (holds sets (loan_number (loans_of (graph_of j)) i).region p && not (kills j (action_at (graph_of j) p) (loan_number (loans_of (graph_of j)) i)))
+    passes p m = filled-has {f = λ p i. (job_bits j sets p i).pass} blanks.pass bits.pass p i (omega (arith, same_code)) l few
+        ∙ ap (λ (b : Bool). holds sets (loan_number (loans_of (graph_of j)) i).region p && not b) (sym (killed-is j p (loan_number (loans_of (graph_of j)) i)))
 
-      regions : (p : Point) → p < (graph_of j).code → has region (bit_at p i) ≡ holds sets (loan_number (loans_of (graph_of j)) i).region p
-      regions p m = filled-has {f = λ p i. (job_bits j sets p i).region} blanks.region bits.region p i (omega (arith, same_code)) l few
+    regions : (p : Point) → p < (graph_of j).code → has region (bit_at p i) ≡ holds sets (loan_number (loans_of (graph_of j)) i).region p
+    regions p m = filled-has {f = λ p i. (job_bits j sets p i).region} blanks.region bits.region p i (omega (arith, same_code)) l few
 
-      abbrev Reached : Point → Type 0
-      Reached q = ((p : Point) × (p < (graph_of j).code) × Next (graph_of j) p q × (has leaves (bit_at p i) ≡ true)) × T (holds sets (loan_number (loans_of (graph_of j)) i).region q)
+    abbrev Reached : Point → Type 0
+    Reached q = ((p : Point) × (p < (graph_of j).code) × Next (graph_of j) p q × (has leaves (bit_at p i) ≡ true)) × T (holds sets (loan_number (loans_of (graph_of j)) i).region q)
 
-      both : (q : Point) → q < (graph_of j).code → has scope (bit_at q i) ≡ (has u (bit_at q i) && has region (bit_at q i))
-      both q m = masked_has region u masked q i (omega (arith, same_code)) few
+    both : (q : Point) → q < (graph_of j).code → has scope (bit_at q i) ≡ (has u (bit_at q i) && has region (bit_at q i))
+    both q m = masked_has region u masked q i (omega (arith, same_code)) few
 
-      scoped_to : (q : Point) → q < (graph_of j).code → has scope (bit_at q i) ≡ true → Reached q
-      scoped_to q m k =
-          let w : (has u (bit_at q i) && has region (bit_at q i)) ≡ true = sym (both q m) ∙ k in (
-            from (gathered.only q i few (and_true_left (has u (bit_at q i)) (has region (bit_at q i)) w)),
-            subst T (sym (sym (regions q m) ∙ and_true_right (has u (bit_at q i)) (has region (bit_at q i)) w)) tt,
-          )
-        where
-          from : (has none (bit_at q i) ≡ true) ⊎ Rows leaves code first succ code q i → (p : Point) × (p < (graph_of j).code) × Next (graph_of j) p q × (has leaves (bit_at p i) ≡ true)
-          from (inl z) =
-              let y : word_bits * 0 + bit_at q i ≡ bit_at q i = omega arith in
-              absurd (true≢false (sym z ∙ ap₂ has empty (sym y) ∙ has-cleared ws 0 (4 * code) (omega (arith, size)) (bit_at q i) (omega (arith, same_code, few))))
-          from (inr (p, m, (k, lo, hi, (c, x, a)))) =
-              let n : p < (graph_of j).code = omega (arith, same_code) in
-              (p, n, edge_next (graph_of j) first succ e p q n (k, lo, hi, sym x), a)
+    scoped_to : (q : Point) → q < (graph_of j).code → has scope (bit_at q i) ≡ true → Reached q
+    scoped_to q m k =
+        let w : (has u (bit_at q i) && has region (bit_at q i)) ≡ true = sym (both q m) ∙ k in (
+          from (gathered.only q i few (and_true_left (has u (bit_at q i)) (has region (bit_at q i)) w)),
+          subst T (sym (sym (regions q m) ∙ and_true_right (has u (bit_at q i)) (has region (bit_at q i)) w)) tt,
+        )
+      where
+        from : (has none (bit_at q i) ≡ true) ⊎ Rows leaves v.code v.graph.now.first v.graph.now.succ v.code q i → (p : Point) × (p < (graph_of j).code) × Next (graph_of j) p q × (has leaves (bit_at p i) ≡ true)
+        from (inl z) =
+            let y : word_bits * 0 + bit_at q i ≡ bit_at q i = omega arith in
+            absurd (true≢false (sym z ∙ ap₂ has empty (sym y) ∙ has-cleared ws 0 (4 * v.code) (omega (arith, size)) (bit_at q i) (omega (arith, same_code, few))))
+        from (inr (p, m, (k, lo, hi, (c, x, a)))) =
+            let n : p < (graph_of j).code = omega (arith, same_code) in
+            (p, n, edge_next (graph_of j) v.graph.now.first v.graph.now.succ e p q n (k, lo, hi, sym x), a)
 
-      to_scoped : (q : Point) → q < (graph_of j).code → Reached q → has scope (bit_at q i) ≡ true
-      to_scoped q m ((p, n, next, a), r) =
-          let (k, lo, hi, x) = next_edge (graph_of j) first succ e p q n next in
-          let w : has u (bit_at q i) ≡ true = gathered.new q i few (p, omega (arith, same_code), (k, lo, hi, (omega (arith, x, same_code), sym x, a))) in
-          both q m ∙ ap₂ (λ (x y : Bool). x && y) w (regions q m ∙ is_true _ r)
+    to_scoped : (q : Point) → q < (graph_of j).code → Reached q → has scope (bit_at q i) ≡ true
+    to_scoped q m ((p, n, next, a), r) =
+        let (k, lo, hi, x) = next_edge (graph_of j) v.graph.now.first v.graph.now.succ e p q n next in
+        let w : has u (bit_at q i) ≡ true = gathered.new q i few (p, omega (arith, same_code), (k, lo, hi, (omega (arith, x, same_code), sym x, a))) in
+        both q m ∙ ap₂ (λ (x y : Bool). x && y) w (regions q m ∙ is_true _ r)
 
-      scope_is : (q : Point) → q < (graph_of j).code → has scope (bit_at q i) ≡ holds (scope_table j (graph_of j) sets (loans_of (graph_of j))) i q
-      scope_is q m =
-          scope_same j (successors-of j g.names) sets (loans_of (graph_of j)) i (omega (arith, g.loans.count)) scope q
-          (scope_to j (successors-of j g.names) region-of loan i start pass starts passes leaves scope flow few (λ x y. (scoped_to x y, to_scoped x y)) q m)
-          (to_scope j (successors-of j g.names) region-of loan i start pass starts passes leaves scope flow few (λ x y. (scoped_to x y, to_scoped x y)) q m)
-        where
-          loan : loans.Loan
-          loan = loan_number (loans_of (graph_of j)) i
+    scope_is : (q : Point) → q < (graph_of j).code → has scope (bit_at q i) ≡ holds (scope_table j (graph_of j) sets (loans_of (graph_of j))) i q
+    scope_is q m =
+        scope_same j (successors-of j g.names) sets (loans_of (graph_of j)) i (omega (arith, g.loans.count)) scope q
+        (scope_to j (successors-of j g.names) region-of loan i start pass starts passes leaves scope flow few (λ x y. (scoped_to x y, to_scoped x y)) q m)
+        (to_scope j (successors-of j g.names) region-of loan i start pass starts passes leaves scope flow few (λ x y. (scoped_to x y, to_scoped x y)) q m)
+      where
+        loan : loans.Loan
+        loan = loan_number (loans_of (graph_of j)) i
 
-          region-of : Point → Bool
-          region-of = holds sets loan.region
+        region-of : Point → Bool
+        region-of = holds sets loan.region
 
-          flow : FlowSays (graph_of j) Forward pass start leaves
-          flow = flows (graph_of j) e same_code
+        flow : FlowSays (graph_of j) Forward pass start leaves
+        flow = flows (graph_of j) e same_code
 
-    pub scope_says : ScopeSays s t h first succ words width table count scope
-    scope_says = record { bits = λ j sets g e p i l m. scope_is j sets g e i m p (omega (arith, code-count j)) }
+  pub scope_says : says_of v scope
+  scope_says = record { bits = λ j sets g e p i l m. scope_is j sets g e i m p (omega (arith, code-count j)) }

@@ -15,15 +15,15 @@ use Rattle.nll_spec.specs.Meaning.{Room}
 use Rattle.nll_spec.proofs.OutputLaws.{Leaves, rejecting, overfull, accepting, analyse-leaves, refuses}
 use Rattle.nll_spec.proofs.MeansLaws.{answers_mean}
 use Rattle.nll_spec.proofs.GuaranteeLaws.{guarantee}
-use Rattle.record.specs.Layout.{Accepted, Verdict, DecodedSays}
+use Rattle.std.specs.Prelude.{Result, Ok, Err}
+use Rattle.repr.specs.Refusals.{number_of}
+use Rattle.repr.specs.declared.refusal.Refusal.{Refusal}
+use Rattle.record.specs.Layout.{Accepted, DecodedSays}
 use Rattle.record.specs.declared.Head.{Head}
-use Rattle.record.specs.declared.Decoded as decodes
-use Rattle.record.specs.declared.Decoded.TheVariants.{Refused, Job as Accept}
+use Rattle.record.specs.declared.Record.{Record}
 use Rattle.infer.specs.declared.Shape.{Shape}
-use Rattle.nll.specs.Analysis.{number_of, AnalyseSays, points_of}
+use Rattle.nll.specs.Analysis.{AnalyseSays, points_of}
 use Rattle.nll.specs.Steps.{shape_of, room_for, JobAt, Writes}
-use Rattle.nll.specs.declared.Analysis.{Analysis}
-use Rattle.nll.specs.declared.Analysis.TheVariants as analysis
 use Rattle.nll.proofs.JobLaws.{points-are, room-is}
 use Rattle.nll.proofs.RoomLaws.{both, none}
 
@@ -50,7 +50,7 @@ module _ (input ws bs : List ℕ) where
 
   -- ---- What the definition leaves
 
-  leaves-refused : {k : ℕ} → judge input ≡ rejected k → (analyse every_end input ws bs ≡ unchanged k ws bs) × (k ≡ 0 → ⊥)
+  leaves-refused : {k : ℕ} → judge input ≡ rejected k → analyse every_end input ws bs ≡ unchanged k ws bs
   leaves-refused {k} q = go (analyse every_end input ws bs) (analyse-leaves every_end input ws bs)
     where
       clash : (j : Job) → judge input ≡ decoded j → ⊥
@@ -59,8 +59,8 @@ module _ (input ws bs : List ℕ) where
       same : (n : ℕ) → judge input ≡ rejected n → n ≡ k
       same n f = cc
 
-      go : (o : Outcome) → Leaves every_end input ws bs o → (o ≡ unchanged k ws bs) × (k ≡ 0 → ⊥)
-      go o (rejecting n p l h) = (ap (λ (m : ℕ). unchanged m ws bs) (same n p), λ z. omega (arith, same n p))
+      go : (o : Outcome) → Leaves every_end input ws bs o → o ≡ unchanged k ws bs
+      go o (rejecting n p l h) = ap (λ (m : ℕ). unchanged m ws bs) (same n p)
       go o (overfull j p no_room) = absurd (clash j p)
       go o (accepting j p d r room) = absurd (clash j p)
 
@@ -87,62 +87,48 @@ module _ (input ws bs : List ℕ) where
         go o (overfull k p no_room) = absurd (no_room (subst (λ (x : Job). Room x ws bs) (sym (same k p)) room))
         go o (accepting k p d r h) = let e = same k p in (ap refusal (sym e) ∙ r, ap (answered ws bs) e)
 
--- ---- What was judged
-
-module _ {input t : List ℕ} {d : decodes.Decoded} (m : DecodedSays (judge input) input t d) where
-  refused_as : {k : ℕ} → d ≡ Refused k → judge input ≡ rejected k
-  refused_as e = subst (λ (x : decodes.Decoded). Verdict (judge input) input t x) e m.says
-
-  job_of : {h : Head} → d ≡ Accept h → Accepted (judge input) input t h
-  job_of e = subst (λ (x : decodes.Decoded). Verdict (judge input) input t x) e m.says
-
 -- ---- The points
 
-module _ {input t : List ℕ} {d : decodes.Decoded} (m : DecodedSays (judge input) input t d) where
-  pub no_points : {k : ℕ} → d ≡ Refused k → 0 ≡ points_of (judge input)
-  no_points e = sym (ap points_of (refused_as m e))
+-- what is said of an answer is said of what it is
+pub judged : {input t : List ℕ} {r x : Result Head Refusal} → DecodedSays (judge input) input t r → r ≡ x → DecodedSays (judge input) input t x
+judged {input} {t} m e = subst (DecodedSays (judge input) input t) e m
 
-  module _ {h : Head} (e : d ≡ Accept h) {shape : Shape} (s : shape ≡ shape_of h) where
-    counted : shape.points ≡ point_count (job_of m e).job
-    counted = ap (λ (x : Shape). x.points) s ∙ points-are (job_of m e).layout
+-- a refused record has no points
+pub no_points : {input t : List ℕ} {k : Refusal} → DecodedSays (judge input) input t (Err k) → 0 ≡ points_of (judge input)
+no_points m = sym (ap points_of m.says)
 
-    pub sizes-fit : (shape.code ≤ 1024) × (shape.points ≤ 1024)
-    sizes-fit =
-        (omega (arith, ap (λ (x : Shape). x.code) s ∙ (job_of m e).layout.code, (job_of m e).layout.few), omega (arith, counted, (job_of m e).points))
+module _ {input t : List ℕ} {h : Head} (m : DecodedSays (judge input) input t (Ok h)) {shape : Shape} (s : shape ≡ shape_of h) where
+  counted : shape.points ≡ point_count m.says.job
+  counted = ap (λ (x : Shape). x.points) s ∙ points-are m.says.layout
 
-    pub points-counted : shape.points ≡ points_of (judge input)
-    points-counted = counted ∙ sym (ap points_of (job_of m e).is)
+  pub points-fit : shape.points ≤ 1024
+  points-fit = omega (arith, counted, m.says.points)
+
+  pub points-counted : shape.points ≡ points_of (judge input)
+  points-counted = counted ∙ sym (ap points_of m.says.is)
 
 -- ---- The call
 
-module _ {input t : List ℕ} {d : decodes.Decoded} (m : DecodedSays (judge input) input t d) (ws bs : List ℕ) where
-  pub refuses_record : {k : ℕ} → d ≡ Refused k → AnalyseSays input ws bs k ws bs × (k ≡ 0 → analysis.Refused k ≡ analysis.Accepted)
-  refuses_record {k} e =
-      let l = leaves-refused input ws bs (refused_as m e) in
-      (promised input ws bs l.0, λ z. absurd (l.1 z))
+pub refuses_record : {input t : List ℕ} {k : Refusal} → DecodedSays (judge input) input t (Err k) → (ws bs : List ℕ) → AnalyseSays input ws bs (number_of k) ws bs
+refuses_record {input = input} m ws bs = promised input ws bs (leaves-refused input ws bs m.says)
 
-  module _ {h : Head} (e : d ≡ Accept h) where
-    job : Accepted (judge input) input t h
-    job = job_of m e
+module _ {input t : List ℕ} {h : Head} (m : DecodedSays (judge input) input t (Ok h)) (ws bs : List ℕ) {room : Bool} (tested : room ≡ room_for h (length ws) (length bs)) where
+  job : Accepted (judge input) input t h
+  job = m.says
 
-    module _ {room : Bool} (tested : room ≡ room_for h (length ws) (length bs)) where
-      room_test : room ≡ (leb (words_needed job.job) (length ws) && leb (bytes_needed job.job) (length bs))
-      room_test = tested ∙ room-is job.layout (length ws) (length bs)
+  room_test : room ≡ (leb (words_needed job.job) (length ws) && leb (bytes_needed job.job) (length bs))
+  room_test = tested ∙ room-is job.layout (length ws) (length bs)
 
-      pub refuses-short : room ≡ false → AnalyseSays input ws bs 10 ws bs × (◌≡◌ {A = ℕ} 10 0 → analysis.Refused 10 ≡ analysis.Accepted)
-      refuses-short missing =
-          (promised input ws bs (leaves-short input ws bs job.is (none (words_needed job.job) (length ws) (bytes_needed job.job) (length bs) (sym room_test ∙ missing))), λ z. absurd (omega arith))
+  pub refuses-short : room ≡ false → AnalyseSays input ws bs 10 ws bs
+  refuses-short missing =
+      promised input ws bs (leaves-short input ws bs job.is (none (words_needed job.job) (length ws) (bytes_needed job.job) (length bs) (sym room_test ∙ missing)))
 
-      pub write-room : room ≡ true → (length t ≡ 1280) × (h.declared ≤ 128) × (room_for h (length ws) (length bs) ≡ true)
-      write-room there = (job.layout.size, omega (arith, job.layout.declared_limit), sym tested ∙ there)
+  pub write-room : room ≡ true → (h.declared ≤ 128) × (room_for h (length ws) (length bs) ≡ true)
+  write-room there = (omega (arith, job.layout.declared_limit), sym tested ∙ there)
 
-      pub answers-job : room ≡ true → {ws' bs' : List ℕ} → Writes input t h ws bs ws' bs' → AnalyseSays input ws bs 0 ws' bs' × (◌≡◌ {A = ℕ} 0 0 → analysis.Accepted ≡ analysis.Accepted)
-      answers-job there w =
-          let r : Room job.job ws bs = both (words_needed job.job) (length ws) (bytes_needed job.job) (length bs) (sym room_test ∙ there) in
-          let l = leaves-answer input ws bs job.is r in
-          let a : JobAt input t h job.job = record { layout = job.layout; accepted = l.0; points = job.points; loans = job.loans } in
-          (promised input ws bs (l.1 ∙ ap₂ (λ (x y : List ℕ). unchanged 0 x y) (sym (w.words job.job a r)) (sym (w.bytes job.job a r))), λ z. refl)
-
--- an answer's number
-pub as_number : {input ws bs ws' bs' : List ℕ} {r x : Analysis} → AnalyseSays input ws bs (number_of r) ws' bs' → r ≡ x → AnalyseSays input ws bs (number_of x) ws' bs'
-as_number {input} {ws} {bs} {ws'} {bs'} a e = subst (λ (x : Analysis). AnalyseSays input ws bs (number_of x) ws' bs') e a
+  pub answers-job : room ≡ true → {r : Record} → r.bytes.now ≡ input → r.layout.now ≡ t → r.head ≡ h → {ws' bs' : List ℕ} → Writes r ws bs ws' bs' → AnalyseSays input ws bs 0 ws' bs'
+  answers-job there {r} es et eh w =
+      let k : Room job.job ws bs = both (words_needed job.job) (length ws) (bytes_needed job.job) (length bs) (sym room_test ∙ there) in
+      let l = leaves-answer input ws bs job.is k in
+      let a : JobAt r job.job = record { layout = rw (es, et, eh) job.layout; accepted = l.0; points = job.points; loans = job.loans } in
+      promised input ws bs (l.1 ∙ ap₂ (λ (x y : List ℕ). unchanged 0 x y) (sym (w.words job.job a k)) (sym (w.bytes job.job a k)))

@@ -1,11 +1,10 @@
 -- Buffers that are overwritten. Assumes nothing.
-use mathlib.Core.Path.{◌≡◌, refl, sym, ap, ◌∙◌}
+use mathlib.Core.Path.{◌≡◌, sym, ap, ◌∙◌}
 use mathlib.Core.List.{List, ◌++◌}
-use Prim.Native.Nat.{ℕ, ◌+◌, ◌-◌, ◌<◌, ◌≤◌}
+use Prim.Native.Nat.{ℕ, ◌+◌, ◌-◌, ◌≤◌}
 use native.Mathlib.Omega.{arith}
-use native.Mathlib.Numerals.{add-one}
-use lib.ListN.{length, get_or, set, take, drop, length-set, length-append, length-drop}
-use lib.Seq.{paste, paste-zero, paste-suc, ext_get_or, get_or-drop, take-append_seam, drop-append-add, drop-drop}
+use lib.ListN.{length, get_or, take, drop, length-append, length-drop}
+use lib.Seq.{paste, ext_get_or, get_or-drop, take-append_seam, drop-append-add, drop-drop}
 use Rattle.nll_spec.specs.Output.{overwrite}
 
 -- what is overwritten in two buffers that agree from there on
@@ -24,24 +23,3 @@ pasted a b old src e =
   where
     rest : List ℕ
     rest = drop (length a) old
-
--- So many elements of `src` are to be pasted, and r of them are.
-pub record Pasting (old : List ℕ) (at : ℕ) (src : List ℕ) (many r : ℕ) (new : List ℕ) : Type 0 where
-  pub is : new ≡ paste old at src r
-  pub size : length new ≡ length old
-  pub low : r ≤ many
-  pub room : at + many ≤ length old
-  pub there : many ≤ length src
-
-pub pasting_start : (old : List ℕ) (at : ℕ) (src : List ℕ) (many : ℕ) → at + many ≤ length old → many ≤ length src → Pasting old at src many 0 old
-pasting_start old at src many h k = record { is = paste-zero old at src; size = refl; low = omega arith; room = h; there = k }
-
-pub pasting_more : {old : List ℕ} {at : ℕ} {src : List ℕ} {many r : ℕ} {new : List ℕ} → Pasting old at src many r new → r < many → Pasting old at src many (r + 1) (set new (at + r) (get_or src r 0))
-pasting_more {old} {at} {src} {many} {r} {new} p h =
-    record {
-      is = ap (λ (x : List ℕ). set x (at + r) (get_or src r 0)) p.is ∙ paste-suc old at src r 0 (omega (arith, p.room)) (omega (arith, p.there)) ∙ ap (paste old at src) (sym (add-one r));
-      size = length-set new (at + r) (get_or src r 0) ∙ p.size;
-      low = omega arith;
-      room = p.room;
-      there = p.there;
-    }

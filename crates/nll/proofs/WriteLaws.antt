@@ -1,7 +1,7 @@
 -- The whole answer. Assumes nothing.
 use mathlib.Core.Path.{◌≡◌, refl, sym, ap, ap₂, ◌∙◌}
 use mathlib.Core.List.{List, ◌++◌, map}
-use Prim.Native.Nat.{ℕ, ◌+◌, ◌*◌, ◌≤◌}
+use Prim.Native.Nat.{ℕ, ◌*◌, ◌≤◌}
 use native.Mathlib.Omega.{arith}
 use lib.ListN.{length, take, length-append}
 use lib.Seq.{paste}
@@ -15,8 +15,8 @@ use Rattle.nll_spec.specs.Output.{answer, bit, bytes_of, verdict_bytes, bytes_ne
 use Rattle.nll_spec.specs.Meaning.{Room}
 use Rattle.nll_spec.proofs.AcceptedLaws.{accepted-job}
 use Rattle.nll_spec.proofs.OutputLaws.{length-bytes_of}
-use Rattle.record.specs.Layout.{Layout}
-use Rattle.record.specs.declared.Head.{Head}
+use Rattle.record.specs.Layout.{Holds}
+use Rattle.record.specs.declared.Record.{Record}
 use Rattle.graph.specs.Tables.{Edges}
 use Rattle.graph.specs.Search.{WalkedIn}
 use Rattle.nll.specs.Steps.{shape_of, JobAt, Mapped, Answered, Solves, verdicts_of, Judges, Writes}
@@ -43,11 +43,11 @@ module _ (j : Job) where
       ∙ pasted (verdicts_of (answer every_end j)) (map bit (answer every_end j).grown) bs grown (ap (λ (k : ℕ). take k grown) (length-marks j) ∙ e)
       ∙ ap (λ (x : List ℕ). overwrite x bs) (sym bytes_apart)
 
-module _ {s t : List ℕ} {h : Head} {first succ walked : List ℕ}
-    (edges : (j : Job) → Layout s t h j → T (successors_named j) → point_count j ≤ 1024 → Edges (graph_of j) first succ)
-    (walks : (j : Job) → Layout s t h j → T (successors_named j) → point_count j ≤ 1024 → j.start ≡ 0 → T (ltb j.start (length j.blocks)) → WalkedIn j walked)
+module _ {input : Record} {first succ walked : List ℕ}
+    (edges : (j : Job) → Holds input j → T (successors_named j) → point_count j ≤ 1024 → Edges (graph_of j) first succ)
+    (walks : (j : Job) → Holds input j → T (successors_named j) → point_count j ≤ 1024 → j.start ≡ 0 → T (ltb j.start (length j.blocks)) → WalkedIn j walked)
   where
-    mapped : (j : Job) → JobAt s t h j → Mapped first succ walked j
+    mapped : (j : Job) → JobAt input j → Mapped first succ walked j
     mapped j a =
         let ok = accepted-job j a.accepted in
         record {
@@ -55,16 +55,16 @@ module _ {s t : List ℕ} {h : Head} {first succ walked : List ℕ}
           walks = walks j a.layout ok.successors-named a.points a.layout.start ok.start-named;
         }
 
-    module _ {ws ws' grown bs mid bs' : List ℕ} (solves : Solves s t h first succ walked ws ws' grown) (judges : Judges s t h first succ walked ws' bs mid)
-        (marks : bs' ≡ paste mid (verdict_bytes * (shape_of h).points) grown h.declared) where
-      found : (j : Job) → JobAt s t h j → Room j ws bs → Answered j ws ws' grown
+    module _ {ws ws' grown bs mid bs' : List ℕ} (solves : Solves input first succ walked ws ws' grown) (judges : Judges input first succ walked ws' bs mid)
+        (marks : bs' ≡ paste mid (verdict_bytes * (shape_of input.head).points) grown input.head.declared) where
+      found : (j : Job) → JobAt input j → Room j ws bs → Answered j ws ws' grown
       found j a room = solves.solved j a (mapped j a) room.0
 
-      verdicts : (j : Job) → JobAt s t h j → Room j ws bs → mid ≡ overwrite (verdicts_of (answer every_end j)) bs
+      verdicts : (j : Job) → JobAt input j → Room j ws bs → mid ≡ overwrite (verdicts_of (answer every_end j)) bs
       unfolding bytes_needed
       verdicts j a room = judges.judged j a (mapped j a) (found j a room).says (omega (arith, room.1))
 
-      pub writes : Writes s t h ws bs ws' bs'
+      pub writes : Writes input ws bs ws' bs'
       writes =
           record {
             words = λ j a room. (found j a room).words;

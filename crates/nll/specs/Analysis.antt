@@ -1,4 +1,4 @@
--- What the call promises: document 01's number, every word and byte afterwards, and the three demands, each read off the number and the buffers.
+-- What the call promises: the number, every word and byte afterwards, and three demands, each read off the number and the buffers.
 use Rattle.std.specs.Prelude.{◌≡◌, ◌↔◌, List, ℕ, ◌<◌, ◌≤◌, T}
 use Rattle.nll_spec.specs.Syntax.{Job, Point, Path, RegionName, BorrowKind, Borrow}
 use Rattle.nll_spec.specs.Decode.{Decoded, rejected, decoded, decode, point_count}
@@ -8,16 +8,9 @@ use Rattle.nll_spec.specs.Regions.{every_end}
 use Rattle.nll_spec.specs.Output.{judge, analyse}
 use Rattle.nll_spec.specs.Meaning.{Room, Reached, Means, verdict_in}
 use Rattle.nll_spec.specs.Guarantee.{only, is_path, uses_holder, untouched}
-use Rattle.nll.specs.declared.Analysis.{Analysis}
-use Rattle.nll.specs.declared.Analysis.TheVariants.{Accepted, Refused}
-
--- document 01's number of an answer
-abbrev pub number_of : Analysis → ℕ
-number_of Accepted = 0
-number_of (Refused k) = k
 
 module _ (input ws bs : List ℕ) (n : ℕ) (ws' bs' : List ℕ) where
-  -- Demand 1. The number is 0 or one of ten refusals: 0 exactly for a job that 1 to 9 let pass and that there is room for, 10 exactly where the room is
+  -- The number is 0 or one of ten refusals: 0 exactly for a job that 1 to 9 let pass and that there is room for, 10 exactly where the room is
   -- missing, and any other exactly where that refusal applies first. A refusal leaves both buffers as they were.
   pub record Refuses : Type 0 where
     pub one_of_ten : n ≤ 10
@@ -32,7 +25,7 @@ module _ (input ws bs : List ℕ) (n : ℕ) (ws' bs' : List ℕ) where
     pub accepted : n ≡ 0
     pub quiet : (p : Point) → p < point_count j → (verdict_in bs' p).kind ≡ 0
 
-  -- Demand 3, as `nll_spec` has it: on each path from a borrow of a walked block into a plain variable to a use of a holder, what is lent stays
+  -- As `nll_spec` has it: on each path from a borrow of a walked block into a plain variable to a use of a holder, what is lent stays
   -- untouched, until its path or a prefix is overwritten.
   abbrev pub Guarantee : Type 0
   Guarantee =
@@ -46,11 +39,10 @@ module _ (input ws bs : List ℕ) (n : ℕ) (ws' bs' : List ℕ) where
     pub number : n ≡ (analyse every_end input ws bs).number
     pub words : ws' ≡ (analyse every_end input ws bs).words
     pub bytes : bs' ≡ (analyse every_end input ws bs).bytes
-    -- demand 1
     pub refuses : Refuses
-    -- demand 2: what is written for an accepted job means what document 01 says
+    -- what is written for an accepted job means what `nll_spec` says
     pub means : (j : Job) → decode input ≡ decoded j → n ≡ 0 → Means every_end j ws bs ws' bs'
-    -- demand 3: from the bytes handed in to the bytes written
+    -- from the bytes handed in to the bytes written
     pub guarantee : Guarantee
 
 -- how many points the job of a record has, by what `judge` says of the record; a refused one has none

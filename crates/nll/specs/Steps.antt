@@ -9,8 +9,9 @@ use Rattle.nll_spec.specs.Regions.{every_end}
 use Rattle.nll_spec.specs.Output.{Answer, answer, bit, word_count, words_of, bytes_of, verdict_bytes, words_needed, overwrite}
 use Rattle.nll_spec.specs.Meaning.{Room}
 use Rattle.bit_set.specs.Rows.{Says}
-use Rattle.record.specs.Layout.{Layout}
+use Rattle.record.specs.Layout.{Holds}
 use Rattle.record.specs.declared.Head.{Head}
+use Rattle.record.specs.declared.Record.{Record}
 use Rattle.graph.specs.Tables.{Edges}
 use Rattle.graph.specs.Search.{WalkedIn}
 use Rattle.infer.specs.declared.Shape.{Shape}
@@ -29,8 +30,8 @@ room_for h words bytes = leb (h.regions * (shape_of h).width) words && leb (verd
 -- ---- The job
 
 -- A job of the record that 1 to 9 let pass.
-pub record JobAt (s t : List ℕ) (h : Head) (j : Job) : Type 0 where
-  pub layout : Layout s t h j
+pub record JobAt (input : Record) (j : Job) : Type 0 where
+  pub layout : Holds input j
   pub accepted : refusal j ≡ 0
   pub points : point_count j ≤ 1024
   pub loans : borrow_count j ≤ 128
@@ -43,8 +44,8 @@ pub record Mapped (first succ walked : List ℕ) (j : Job) : Type 0 where
 -- ---- The words
 
 -- The words become the regions' seeds.
-pub record Seeds (s t : List ℕ) (h : Head) (first succ walked : List ℕ) (width : ℕ) (ws ws' : List ℕ) : Type 0 where
-  pub seeded : (j : Job) → JobAt s t h j → Mapped first succ walked j → width ≡ word_count (point_count j) → j.regions * width ≤ length ws → Seeded j width ws ws'
+pub record Seeds (input : Record) (first succ walked : List ℕ) (width : ℕ) (ws ws' : List ℕ) : Type 0 where
+  pub seeded : (j : Job) → JobAt input j → Mapped first succ walked j → width ≡ word_count (point_count j) → j.regions * width ≤ length ws → Seeded j width ws ws'
 
 -- The words are the answer's, and the marks say which declared regions are grown.
 pub record Answered (j : Job) (ws ws' grown : List ℕ) : Type 0 where
@@ -52,9 +53,9 @@ pub record Answered (j : Job) (ws ws' grown : List ℕ) : Type 0 where
   pub words : ws' ≡ overwrite (words_of (answer every_end j)) ws
   pub marks : take (length j.outlives) grown ≡ map bit (answer every_end j).grown
 
-pub record Solves (s t : List ℕ) (h : Head) (first succ walked ws ws' grown : List ℕ) : Type 0 where
+pub record Solves (input : Record) (first succ walked ws ws' grown : List ℕ) : Type 0 where
   pub size : length grown ≡ 128
-  pub solved : (j : Job) → JobAt s t h j → Mapped first succ walked j → words_needed j ≤ length ws → Answered j ws ws' grown
+  pub solved : (j : Job) → JobAt input j → Mapped first succ walked j → words_needed j ≤ length ws → Answered j ws ws' grown
 
 -- ---- The bytes
 
@@ -63,14 +64,14 @@ abbrev pub verdicts_of : Answer → List ℕ
 verdicts_of a = gather (λ v. v.kind ∷ v.operand ∷ []) a.verdicts
 
 -- The verdicts are written.
-pub record Judges (s t : List ℕ) (h : Head) (first succ walked ws bs bs' : List ℕ) : Type 0 where
+pub record Judges (input : Record) (first succ walked ws bs bs' : List ℕ) : Type 0 where
   pub size : length bs' ≡ length bs
-  pub judged : (j : Job) → JobAt s t h j → Mapped first succ walked j → Says (word_count (point_count j)) (answer every_end j).sets ws
+  pub judged : (j : Job) → JobAt input j → Mapped first succ walked j → Says (word_count (point_count j)) (answer every_end j).sets ws
       → verdict_bytes * point_count j ≤ length bs → bs' ≡ overwrite (verdicts_of (answer every_end j)) bs
 
 -- ---- Both
 
 -- The answer is written.
-pub record Writes (s t : List ℕ) (h : Head) (ws bs ws' bs' : List ℕ) : Type 0 where
-  pub words : (j : Job) → JobAt s t h j → Room j ws bs → ws' ≡ overwrite (words_of (answer every_end j)) ws
-  pub bytes : (j : Job) → JobAt s t h j → Room j ws bs → bs' ≡ overwrite (bytes_of (answer every_end j)) bs
+pub record Writes (input : Record) (ws bs ws' bs' : List ℕ) : Type 0 where
+  pub words : (j : Job) → JobAt input j → Room j ws bs → ws' ≡ overwrite (words_of (answer every_end j)) ws
+  pub bytes : (j : Job) → JobAt input j → Room j ws bs → bs' ≡ overwrite (bytes_of (answer every_end j)) bs

@@ -7,47 +7,41 @@ mod words;
 
 ghost use Rattle.std.specs.Prelude.{◌≡◌};
 ghost use Rattle.nll_spec.specs.Output as output;
-ghost use Rattle.nll.specs.Analysis.{number_of, AnalyseSays, points_of};
-ghost use Rattle.nll.specs.declared.Analysis.TheVariants.{Accepted};
+ghost use Rattle.well_formed.specs.Tests.{number_in};
+ghost use Rattle.nll.specs.Analysis.{AnalyseSays, points_of};
 
 use answer::write;
-use record::Decoded;
+use record::Record;
+use repr::Refusal;
 use room::{has_room, shape_of};
 use well_formed::judge;
 
-// The answer: accepted, or a refusal's number.
-#[derive(Clone, Copy)]
-pub enum Analysis {
-    Accepted,
-    Refused(u8),
-}
-
-// Analyses the record `input`. For an accepted job the words get the regions' sets, and the bytes the verdicts and which declared regions are grown; a
+// Analyses the record `s`. For an accepted job the words get the regions' sets, and the bytes the verdicts and which declared regions are grown; a
 // refusal changes neither.
-pub fn analyse(input: &[u8], words: &mut [u32], bytes: &mut [u8]) -> Analysis
-    ensures { AnalyseSays input.now words.old bytes.old (number_of result) words.new bytes.new
-        × (number_of result ≡ 0 → result ≡ Accepted) }
+pub fn analyse(s: &[u8], words: &mut [u32], bytes: &mut [u8]) -> Result<(), Refusal>
+    ensures { AnalyseSays s.now words.old bytes.old (number_in result) words.new bytes.new }
 {
     let mut layout = [0; 1280];
-    match judge(input, &mut layout) {
-        Decoded::Refused(k) => Analysis::Refused(k),
-        Decoded::Job(head) => {
-            if !has_room(head, words.len(), bytes.len()) {
-                return Analysis::Refused(10);
-            }
-            write(input, &layout, head, words, bytes);
-            Analysis::Accepted
-        }
+    let head = judge(s, &mut layout)?;
+    if !has_room(head, words.len(), bytes.len()) {
+        return Err(Refusal::Room);
     }
+    let input = Record {
+        bytes: s,
+        layout: &layout,
+        head,
+    };
+    write(&input, words, bytes);
+    Ok(())
 }
 
-// The same as document 01's number: 0, or a refusal's.
+// The same by number: 0, or a refusal's.
 pub fn nll_analyse(input: &[u8], words: &mut [u32], bytes: &mut [u8]) -> u8
     ensures { AnalyseSays input.now words.old bytes.old result words.new bytes.new }
 {
     match analyse(input, words, bytes) {
-        Analysis::Accepted => 0,
-        Analysis::Refused(k) => k,
+        Ok(()) => 0,
+        Err(refusal) => u8::from(refusal),
     }
 }
 
@@ -57,7 +51,7 @@ pub fn nll_points(input: &[u8]) -> u16
 {
     let mut layout = [0; 1280];
     match judge(input, &mut layout) {
-        Decoded::Refused(_) => 0,
-        Decoded::Job(head) => shape_of(head).points as u16,
+        Ok(head) => shape_of(head).points as u16,
+        Err(_) => 0,
     }
 }

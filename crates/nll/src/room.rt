@@ -5,24 +5,12 @@ ghost use Rattle.nll.specs.Steps.{shape_of, room_for};
 use infer::Shape;
 use record::Head;
 
-pub fn wide(x: u8) -> usize
-    ensures { (result ≡ x) × (result ≤ 255) }
-{
-    x as usize
-}
-
-fn wide16(x: u16) -> usize
-    ensures { (result ≡ x) × (result ≤ 65535) }
-{
-    x as usize
-}
-
 // How many words a set takes, and how many points there are.
 pub fn shape_of(head: Head) -> Shape
     ensures { (result ≡ shape_of head) × (result.width ≤ 2056) × (result.points ≤ 65790) }
 {
-    let code = wide16(head.code);
-    let points = code + wide(head.declared);
+    let code = usize::from(head.code);
+    let points = code + usize::from(head.declared);
     Shape {
         width: (points + 31) / 32,
         code,
@@ -35,8 +23,6 @@ pub fn has_room(head: Head, words: usize, bytes: usize) -> bool
     ensures { result ≡ room_for head words bytes }
 {
     let shape = shape_of(head);
-    if words < wide(head.regions) * shape.width {
-        return false;
-    }
-    2 * shape.points + wide(head.declared) <= bytes
+    usize::from(head.regions) * shape.width <= words
+        && 2 * shape.points + usize::from(head.declared) <= bytes
 }

@@ -8,9 +8,10 @@ use lib.ListN.{length, take}
 use Rattle.nll_spec.specs.Syntax.{Job}
 use Rattle.nll_spec.specs.Decode.{decoded, decode}
 use Rattle.nll_spec.specs.Listing.{line}
-use Rattle.nll.specs.Analysis.{number_of, AnalyseSays}
-use Rattle.nll.specs.declared.Analysis.{Analysis}
-use Rattle.nll.specs.declared.Analysis.TheVariants.{Accepted, Refused}
+use Rattle.repr.specs.Refusals.{number_of}
+use Rattle.repr.specs.declared.refusal.Refusal.{Refusal}
+use Rattle.repr.specs.declared.refusal.Refusal.TheVariants as refusals
+use Rattle.nll.specs.Analysis.{AnalyseSays}
 use Rattle.listing.specs.Reading.{Feeds}
 use Rattle.listing.specs.Writing.{text_of}
 use Rattle.listing.specs.Places.{Counted, rest, Fills}
@@ -47,25 +48,35 @@ module _ (n : Counts) (ws bs : List ℕ) where
 
 -- ---- The beginning
 
+-- no refusal has number 0
+not_zero : (k : Refusal) → number_of k ≡ 0 → ⊥
+not_zero refusals.Version z = omega arith
+not_zero refusals.Length z = omega arith
+not_zero refusals.Form z = omega arith
+not_zero refusals.Range z = omega arith
+not_zero refusals.Size z = omega arith
+not_zero refusals.Name z = omega arith
+not_zero refusals.Arguments z = omega arith
+not_zero refusals.Path z = omega arith
+not_zero refusals.Shape z = omega arith
+not_zero refusals.Room z = omega arith
+
 module _ (input ws bs : List ℕ) (n : Counts) (counted : (j : Job) → decode input ≡ decoded j → Counted j n) (w : length ws ≡ 4096) (b : length bs ≡ 2064)
-    {r : Analysis} {ws' bs' : List ℕ} (s : AnalyseSays input ws bs (number_of r) ws' bs' × (number_of r ≡ 0 → r ≡ Accepted)) where
-  pub begins_answer : {t : Text} → r ≡ Accepted → t.used ≡ 0 → Begins input (record { text = t; counts = n; next = Points }) ws' bs'
+    {number : ℕ} {ws' bs' : List ℕ} (s : AnalyseSays input ws bs number ws' bs') where
+  pub begins_answer : {t : Text} → number ≡ 0 → t.used ≡ 0 → Begins input (record { text = t; counts = n; next = Points }) ws' bs'
   begins_answer {t} e z =
       record {
         goes = λ text kept.
-            lists_answer text input ws bs n kept counted w b (sym s.0.number ∙ ap number_of e)
-            ∙ ap₂ (λ (x y : List ℕ). rest n x y Points) (sym s.0.words) (sym s.0.bytes)
+            lists_answer text input ws bs n kept counted w b (sym s.number ∙ e)
+            ∙ ap₂ (λ (x y : List ℕ). rest n x y Points) (sym s.words) (sym s.bytes)
             ∙ ap (λ (k : ℕ). take k t.bytes ++ rest n ws' bs' Points) (sym z);
       }
 
-  pub begins_refusal : {k : ℕ} {t : Text} → r ≡ Refused k → text_of t ≡ line "refused" (k ∷ []) → Begins input (record { text = t; counts = n; next = Done }) ws' bs'
-  begins_refusal {k} {t} e p =
+  pub begins_refusal : (k : Refusal) {m : ℕ} {t : Text} → number ≡ number_of k → m ≡ number_of k → text_of t ≡ line "refused" (m ∷ []) → Begins input (record { text = t; counts = n; next = Done }) ws' bs'
+  begins_refusal k {m} {t} e f p =
       record {
         goes = λ text kept.
-            lists_refusal text input ws bs n kept counted w b (λ z. not_zero (s.0.number ∙ z))
-            ∙ ap (λ (x : ℕ). line "refused" (x ∷ [])) (sym s.0.number ∙ ap number_of e)
+            lists_refusal text input ws bs n kept counted w b (λ z. not_zero k (sym e ∙ s.number ∙ z))
+            ∙ ap (λ (x : ℕ). line "refused" (x ∷ [])) (sym s.number ∙ e ∙ sym f)
             ∙ sym (append-nil (text_of t) ∙ p);
       }
-    where
-      not_zero : number_of r ≡ 0 → ⊥
-      not_zero z = let a : r ≡ Accepted = s.1 z in let y : ◌≡◌ {A = ℕ} 0 1 = cc in omega arith

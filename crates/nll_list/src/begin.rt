@@ -3,7 +3,6 @@ ghost use Rattle.nll_list.specs.Text.{Begins};
 
 use super::Begun;
 use listing::{Place, Text};
-use nll::Analysis;
 
 // Analyses a record. The text, and then all from the place that follows, is the listing of every text that has this record.
 pub fn begin(input: &[u8], words: &mut [u32; 4096], bytes: &mut [u8; 2064]) -> Begun
@@ -11,13 +10,13 @@ pub fn begin(input: &[u8], words: &mut [u32; 4096], bytes: &mut [u8; 2064]) -> B
 {
     let counts = listing::count(input);
     match nll::analyse(input, words, bytes) {
-        Analysis::Accepted => Begun {
+        Ok(()) => Begun {
             text: Text::new(),
             counts,
             next: Place::Points,
         },
-        Analysis::Refused(k) => Begun {
-            text: Text::refused(k),
+        Err(refusal) => Begun {
+            text: Text::refused(u8::from(refusal)),
             counts,
             next: Place::Done,
         },

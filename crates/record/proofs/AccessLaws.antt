@@ -15,18 +15,13 @@ use Rattle.nll_spec.specs.Syntax.{Ty, StructDecl, Action, Noop, Field, Block, Jo
 use Rattle.nll_spec.specs.Decode.{Reading, refused, read, Reader, done, byte, one_of, items, counted, max_outlived, param, field, struct_decl, type, block, action, code_count}
 use Rattle.nll_spec.specs.Types.{struct_of}
 use Rattle.nll_spec.specs.Graph.{Statement, first_point, block_statements, statements_from, statements_of, statement_at, graph_of, action_at}
-use Rattle.repr.specs.Reading.{rest, byte_says}
+use Rattle.repr.specs.Reading.{rest, says, itself}
 use Rattle.repr.specs.Parts.{struct_says, StructSays, action_says}
 use Rattle.repr.specs.Parts as parts
 use Rattle.repr.specs.declared.Cursor.{Cursor}
-use Rattle.repr.specs.declared.ByteStep.{ByteStep}
-use Rattle.repr.specs.declared.ByteStep.TheVariants as byte_step
 use Rattle.repr.specs.declared.StructDecl as declared
-use Rattle.repr.specs.declared.StructStep.{StructStep}
-use Rattle.repr.specs.declared.StructStep.TheVariants as struct_step
+use Rattle.repr.specs.declared.Action as declared_action
 use Rattle.repr.specs.declared.Action.TheVariants as actions
-use Rattle.repr.specs.declared.ActionStep.{ActionStep}
-use Rattle.repr.specs.declared.ActionStep.TheVariants as action_step
 use Rattle.repr.proofs.ReadLaws.{step, stop, told}
 use Rattle.repr.specs.Stands.{Stands}
 use Rattle.record.specs.Rows.{Standing, none, more}
@@ -36,8 +31,9 @@ use Rattle.record.specs.Layout.{Layout}
 use Rattle.record.specs.Access.{entry_in, point_of, Declared, Acts, tag_of}
 use Rattle.record.specs.declared.Head.{Head}
 use Rattle.record.proofs.TagLaws.{byte_tag, byte-refused}
-use Rattle.record.specs.declared.PointStep.{PointStep}
-use Rattle.record.specs.declared.PointStep.TheVariants as point_step
+use Rattle.repr.specs.declared.refusal.Refusal.{Refusal}
+use Rattle.repr.specs.Refusals.{number_of}
+use Rattle.std.specs.Prelude.{Result, Ok, Err, Option, Some, None}
 
 -- ---- The entry that the code reads
 
@@ -48,32 +44,32 @@ pub entry-none : (t : List ℕ) (base many : ℕ) {k i : ℕ} → k ≡ i → ma
 entry-none t base many {k} {i} e h = rw (← e, le-ltb k many h)
 
 module _ (t : List ℕ) (p : ℕ) where
-  pub point-none : 1024 ≤ p → point_step.Action (record { at = 0 }) ≡ point_of (entry_in t 256 1024 p)
+  pub point-none : 1024 ≤ p → Some (record { at = 0 }) ≡ point_of (entry_in t 256 1024 p)
   point-none h = ap point_of (entry-none t 256 1024 refl h)
 
   module _ (h : p < 1024) where
-    pub point-end : get_or t (256 + p) 0 ≡ 65535 → point_step.End ≡ point_of (entry_in t 256 1024 p)
+    pub point-end : get_or t (256 + p) 0 ≡ 65535 → None ≡ point_of (entry_in t 256 1024 p)
     point-end e = rw (lt-ltb p 1024 h, eq-eqb (get_or t (256 + p) 0) 65535 e)
 
-    pub point-action : {at : ℕ} → (get_or t (256 + p) 0 ≡ 65535 → ⊥) → at ≡ get_or t (256 + p) 0 → point_step.Action (record { at = at }) ≡ point_of (entry_in t 256 1024 p)
+    pub point-action : {at : ℕ} → (get_or t (256 + p) 0 ≡ 65535 → ⊥) → at ≡ get_or t (256 + p) 0 → Some (record { at = at }) ≡ point_of (entry_in t 256 1024 p)
     point-action e i = rw (lt-ltb p 1024 h, ne_eqb (get_or t (256 + p) 0) 65535 e, i)
 
 -- what the answer says of the entry
-end_is : (o : ℕ) → point_of o ≡ point_step.End → o ≡ block_end
+end_is : (o : ℕ) → point_of o ≡ None → o ≡ block_end
 end_is o = go (eqb o block_end) refl
   where
-    go : (b : Bool) → eqb o block_end ≡ b → cond b point_step.End (point_step.Action (record { at = o })) ≡ point_step.End → o ≡ block_end
+    go : (b : Bool) → eqb o block_end ≡ b → cond {A = Option Cursor} b None (Some (record { at = o })) ≡ None → o ≡ block_end
     go true q e = eqb-true o block_end q
     go false q e = let z : ◌≡◌ {A = ℕ} 0 1 = cc in omega arith
 
-action-is : (o : ℕ) {c : Cursor} → point_of o ≡ point_step.Action c → (o ≡ block_end → ⊥) × (o ≡ c.at)
+action-is : (o : ℕ) {c : Cursor} → point_of o ≡ Some c → (o ≡ block_end → ⊥) × (o ≡ c.at)
 action-is o {c} = go (eqb o block_end) refl
   where
-    at : PointStep → ℕ
-    at (point_step.Action d) = d.at
-    at point_step.End = 0
+    at : Option Cursor → ℕ
+    at (Some d) = d.at
+    at None = 0
 
-    go : (b : Bool) → eqb o block_end ≡ b → cond b point_step.End (point_step.Action (record { at = o })) ≡ point_step.Action c → (o ≡ block_end → ⊥) × (o ≡ c.at)
+    go : (b : Bool) → eqb o block_end ≡ b → cond {A = Option Cursor} b None (Some (record { at = o })) ≡ Some c → (o ≡ block_end → ⊥) × (o ≡ c.at)
     go true q e = absurd (let z : ◌≡◌ {A = ℕ} 0 1 = cc in let n : ⊥ = omega arith in n)
     go false q e = (eqb-false o block_end q, ap at e)
 
@@ -172,7 +168,7 @@ action-below s o {a} l h = go (dec_lt o 65535)
 -- ---- A struct that was read
 
 -- its parameters and its fields
-struct_parts : {s : List ℕ} {at : ℕ} {r : StructStep} {d : declared.StructDecl} {x : StructDecl} → StructSays s at r → r ≡ struct_step.Struct d → Stands struct_decl x (drop at s) → Declared s x d
+struct_parts : {s : List ℕ} {at : ℕ} {r : Result declared.StructDecl Refusal} {d : declared.StructDecl} {x : StructDecl} → StructSays s at r → r ≡ Ok d → Stands struct_decl x (drop at s) → Declared s x d
 unfolding parts.struct_of done
 struct_parts {s} {at} {r} {d} {x} m e h = go (items d.fields field (rest s d.members)) refl
   where
@@ -218,25 +214,25 @@ module _ {s t : List ℕ} {h : Head} {j : Job} (w : Layout s t h j) where
       let e = ap (λ (x : List ℕ). get_or x p 0) (sym (w.blocks.points w.few)) ∙ window_at t 256 (code_count j.blocks) p l ∙ entry-there t 256 1024 refl (omega (arith, w.few)) in
       subst (λ (o : ℕ). AtPoint s o (action_at (graph_of j) p)) e (coded-point w.blocks.coded j.blocks 0 0 p l)
 
-  module _ {p : Point} (l : p < code_count j.blocks) {d : PointStep} (same : d ≡ point_of (entry_in t 256 1024 p)) where
-    pub acts_end : (c : Cursor) → d ≡ point_step.End → Acts s (action_at (graph_of j) p) (action_step.Action actions.Noop c)
+  module _ {p : Point} (l : p < code_count j.blocks) {d : Option Cursor} (same : d ≡ point_of (entry_in t 256 1024 p)) where
+    pub acts_end : (c : Cursor) → d ≡ None → Acts s (action_at (graph_of j) p) (Ok (actions.Noop, c))
     acts_end c e = go (point-is p l)
       where
         last : entry_in t 256 1024 p ≡ block_end
         last = end_is (entry_in t 256 1024 p) (sym same ∙ e)
 
-        go : AtPoint s (entry_in t 256 1024 p) (action_at (graph_of j) p) → Acts s (action_at (graph_of j) p) (action_step.Action actions.Noop c)
+        go : AtPoint s (entry_in t 256 1024 p) (action_at (graph_of j) p) → Acts s (action_at (graph_of j) p) (Ok (actions.Noop, c))
         go (inl k) = record { over = rest s c; reads = ap (λ (a : Action). read a (rest s c)) (sym k.1) }
         go (inr k) = absurd (omega (arith, action-below s (entry_in t 256 1024 p) w.short k, last))
 
-    pub tag_end : d ≡ point_step.End → 0 ≡ tag_of (action_at (graph_of j) p)
+    pub tag_end : d ≡ None → 0 ≡ tag_of (action_at (graph_of j) p)
     tag_end e = go (point-is p l)
       where
         go : AtPoint s (entry_in t 256 1024 p) (action_at (graph_of j) p) → 0 ≡ tag_of (action_at (graph_of j) p)
         go (inl k) = ap tag_of (sym k.1)
         go (inr k) = absurd (omega (arith, action-below s (entry_in t 256 1024 p) w.short k, end_is (entry_in t 256 1024 p) (sym same ∙ e)))
 
-    module _ {c : Cursor} (e : d ≡ point_step.Action c) where
+    module _ {c : Cursor} (e : d ≡ Some c) where
       action-there : Stands action (action_at (graph_of j) p) (drop c.at s)
       action-there = go (point-is p l)
         where
@@ -247,13 +243,13 @@ module _ {s t : List ℕ} {h : Head} {j : Job} (w : Layout s t h j) where
           go (inl k) = absurd (at.0 k.0)
           go (inr k) = subst (λ (o : ℕ). Stands action (action_at (graph_of j) p) (drop o s)) at.1 k
 
-      pub acts_there : {r : ActionStep} → action_says s r ≡ action (drop c.at s) → Acts s (action_at (graph_of j) p) r
+      pub acts_there : {r : Result (declared_action.Action × Cursor) Refusal} → action_says s r ≡ action (drop c.at s) → Acts s (action_at (graph_of j) p) r
       acts_there i = record { over = action-there.over; reads = i ∙ action-there.reads }
 
-      pub tag_there : {r : ByteStep} → byte_says s r ≡ byte (drop c.at s) → {n : ℕ} {next : Cursor} → r ≡ byte_step.Byte n next → n ≡ tag_of (action_at (graph_of j) p)
+      pub tag_there : {r : Result (ℕ × Cursor) Refusal} → says itself s r ≡ byte (drop c.at s) → {n : ℕ} {next : Cursor} → r ≡ Ok (n, next) → n ≡ tag_of (action_at (graph_of j) p)
       tag_there i = byte_tag s action-there i
 
-      pub tag_refused : {r : ByteStep} → byte_says s r ≡ byte (drop c.at s) → {n k : ℕ} → r ≡ byte_step.Refused k → n ≡ tag_of (action_at (graph_of j) p)
+      pub tag_refused : {r : Result (ℕ × Cursor) Refusal} → says itself s r ≡ byte (drop c.at s) → {n : ℕ} {k : Refusal} → r ≡ Err k → n ≡ tag_of (action_at (graph_of j) p)
       tag_refused i o = absurd (byte-refused s action-there i o)
 
   -- the struct of a name
@@ -264,12 +260,12 @@ module _ {s t : List ℕ} {h : Head} {j : Job} (w : Layout s t h j) where
         subst (λ (y : StructDecl). Declared s y (record { parameters = 0; declared = c; fields = 0; members = c })) (sym (get_or-eq_default j.structs _ (let k : length j.structs ≤ name = omega (arith, w.struct_count) in k)))
         (record { params = record { over = rest s c; reads = refl }; fields = record { over = rest s c; reads = refl } })
 
-    module _ (l : name < h.structs) {r : StructStep} (m : StructSays s x r) where
+    module _ (l : name < h.structs) {r : Result declared.StructDecl Refusal} (m : StructSays s x r) where
       stands : Stands struct_decl (struct_of j.structs name) (drop x s)
       stands = subst (λ (o : ℕ). Stands struct_decl (struct_of j.structs name) (drop o s)) (sym there) (struct_at name _ (omega (arith, w.struct_count)))
 
-      pub struct_there : {d : declared.StructDecl} → r ≡ struct_step.Struct d → Declared s (struct_of j.structs name) d
+      pub struct_there : {d : declared.StructDecl} → r ≡ Ok d → Declared s (struct_of j.structs name) d
       struct_there e = struct_parts m e stands
 
-      pub struct_refused : {k : ℕ} {d : declared.StructDecl} → r ≡ struct_step.Refused k → Declared s (struct_of j.structs name) d
+      pub struct_refused : {k : Refusal} {d : declared.StructDecl} → r ≡ Err k → Declared s (struct_of j.structs name) d
       struct_refused e = absurd (let c = told (struct_says s) m.same e in let f = sym c ∙ stands.reads in let z : ◌≡◌ {A = ℕ} 0 1 = cc in let n : ⊥ = omega arith in n)

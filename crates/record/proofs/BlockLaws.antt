@@ -13,22 +13,22 @@ use Rattle.nll_spec.specs.Lists.{select, gather}
 use Rattle.nll_spec.specs.Syntax as syntax
 use Rattle.nll_spec.specs.Decode.{Reading, refused, read, done, ◌>>=◌, items, action, path, block, is_borrow, code_count}
 use Rattle.repr.specs.Reading.{ended, rest, path_of}
-use Rattle.repr.specs.Parts.{action_says, sources_of, loans_of, block_of}
+use Rattle.repr.specs.Parts.{action_read, sources_of, loans_of, block_of}
 use Rattle.repr.specs.declared.Cursor.{Cursor}
 use Rattle.repr.specs.declared.Action.{Action}
 use Rattle.repr.specs.declared.Action.TheVariants.{Noop, Init, Borrow, Assign, Constraint, Use, Drop, StorageDead}
-use Rattle.repr.specs.declared.ActionStep.TheVariants as action_step
 use Rattle.repr.specs.declared.BasicBlockData.{BasicBlockData}
 use Rattle.repr.proofs.ReadLaws.{step, stop}
 use Rattle.repr.proofs.PartLaws.{end_readable, end_refused, end-over, action-rest}
 use Rattle.record.specs.Rows.{Standing}
 use Rattle.record.specs.Rows as rows
-use Rattle.record.specs.declared.CodeStep.{CodeStep}
-use Rattle.record.specs.declared.CodeStep.TheVariants as code_step
-use Rattle.record.specs.declared.BlocksStep.TheVariants as blocks_step
 use Rattle.record.specs.Blocks.{block_end, point_kept, loan_count, firsts, ActionAt, ActionResult, ActionSays, Actions, ActionsResult, ActionsSay}
 use Rattle.record.specs.Blocks.{Coded, none, more, Placed, BlocksSay}
 use Rattle.record.proofs.RowLaws.{Going, going_start, going_more, going_stop, going_end, offset_drop, standing_more, window_more}
+use Rattle.repr.specs.declared.refusal.Refusal.{Refusal}
+use Rattle.repr.specs.Refusals.{number_of}
+use Rattle.record.specs.declared.Code.{Code}
+use Rattle.std.specs.Prelude.{Result, Ok, Err}
 
 -- ---- An action
 
@@ -36,7 +36,7 @@ abbrev lending : Reading syntax.Action → ℕ
 lending (refused k) = 0
 lending (read x over) = loan_count (x ∷ [])
 
-lending-is : (s : List ℕ) (a : Action) (next : Cursor) → lending (action_says s (action_step.Action a next)) ≡ loans_of a
+lending-is : (s : List ℕ) (a : Action) (next : Cursor) → lending (action_read s a next) ≡ loans_of a
 unfolding ◌>>=◌ done
 lending-is s Noop next = refl
 lending-is s (Init dest n) next = go (items n path (rest s next))
@@ -51,7 +51,7 @@ lending-is s (Use p) next = refl
 lending-is s (Drop p) next = refl
 lending-is s (StorageDead v) next = refl
 
-module _ (s : List ℕ) (at : ℕ) (a : Action) (next : Cursor) (e : action (drop at s) ≡ action_says s (action_step.Action a next)) where
+module _ (s : List ℕ) (at : ℕ) (a : Action) (next : Cursor) (e : action (drop at s) ≡ action_read s a next) where
   pub action-refused : {n k : ℕ} → n ≡ sources_of a → refused k ≡ ended (items n path (rest s next)) → action (drop at s) ≡ refused k
   action-refused i h = end_refused action (drop at s) (ap ended e ∙ action-rest s a next ∙ sym (rw i at h))
 
@@ -66,11 +66,11 @@ module _ (s : List ℕ) (at : ℕ) (a : Action) (next : Cursor) (e : action (dro
       }
 
 -- what an answer that is known tells
-pub action-result : {s : List ℕ} {at : ℕ} {r x : CodeStep} → ActionSays s at r → r ≡ x → ActionResult s at x
-action-result {s} {at} h e = subst (λ (y : CodeStep). ActionResult s at y) e h.result
+pub action-result : {s : List ℕ} {at : ℕ} {r x : Result (ℕ × Cursor) Refusal} → ActionSays s at r → r ≡ x → ActionResult s at x
+action-result {s} {at} h e = subst (λ (y : Result (ℕ × Cursor) Refusal). ActionResult s at y) e h.result
 
-pub actions-result : {s : List ℕ} {from : Cursor} {n first : ℕ} {old t : List ℕ} {r x : CodeStep} → ActionsSay s from n first old t r → r ≡ x → ActionsResult s from n first t x
-actions-result {s} {from} {n} {first} {old} {t} h e = subst (λ (y : CodeStep). ActionsResult s from n first t y) e h.result
+pub actions-result : {s : List ℕ} {from : Cursor} {n first : ℕ} {old t : List ℕ} {r x : Result (ℕ × Cursor) Refusal} → ActionsSay s from n first old t r → r ≡ x → ActionsResult s from n first t x
+actions-result {s} {from} {n} {first} {old} {t} h e = subst (λ (y : Result (ℕ × Cursor) Refusal). ActionsResult s from n first t y) e h.result
 
 -- ---- Loans
 
@@ -195,10 +195,10 @@ module _ {s : List ℕ} {from c : Cursor} {n i first loans : ℕ} {old t u : Lis
         kept = coding_kept;
       }
 
-  pub coding_stop : {k : ℕ} → action (drop c.at s) ≡ refused k → ActionsSay s from n first old u (code_step.Refused k)
+  pub coding_stop : {k : Refusal} → action (drop c.at s) ≡ refused (number_of k) → ActionsSay s from n first old u (Err k)
   coding_stop e = record { size = coding_size; kept = coding_kept; result = going_stop w.going h e }
 
-pub coding_end : {s : List ℕ} {from c : Cursor} {n i first loans : ℕ} {old t u : List ℕ} → Coding s from c n i first loans old t → n ≤ i → {m : ℕ} → m ≡ n → u ≡ point_kept t (first + m) block_end → ActionsSay s from n first old u (code_step.Ended c loans)
+pub coding_end : {s : List ℕ} {from c : Cursor} {n i first loans : ℕ} {old t u : List ℕ} → Coding s from c n i first loans old t → n ≤ i → {m : ℕ} → m ≡ n → u ≡ point_kept t (first + m) block_end → ActionsSay s from n first old u (Ok (loans, c))
 coding_end {s} {from} {c} {n} {i} {first} {loans} {old} {t} {u} w h e p₀ =
     let p : u ≡ point_kept t (first + n) block_end = rw e at p₀ in
     let q : i ≡ n = (let l = w.going.within in omega arith) in
@@ -281,14 +281,14 @@ module _ {s : List ℕ} {from c : Cursor} {n b points loans : ℕ} {old t : List
   marked-points : take points (drop 256 marked) ≡ take points (drop 256 t)
   marked-points = window_below (set t (96 + b) o) 256 points (160 + b) points (omega arith) ∙ window_below t 256 points (96 + b) o (omega arith)
 
-  pub blocking_missing : {k : ℕ} → block (drop c.at s) ≡ refused k → BlocksSay s from n old marked (blocks_step.Refused k)
+  pub blocking_missing : {k : Refusal} → block (drop c.at s) ≡ refused (number_of k) → BlocksSay s from n old marked (Err k)
   blocking_missing e = record { size = marked-size; kept = marked-kept; result = going_stop w.going h e }
 
   module _ (u : List ℕ) (kept : take (256 + points) u ≡ take (256 + points) marked) where
     low_kept : take 96 u ≡ take 96 old
     low_kept = window_kept marked u 0 96 (256 + points) (omega arith) kept ∙ marked-kept
 
-    pub blocking_stop : (d : BasicBlockData) {k : ℕ} → length u ≡ 1280 → block (drop c.at s) ≡ block_of s d → items d.actions action (drop d.code.at s) ≡ refused k → BlocksSay s from n old u (blocks_step.Refused k)
+    pub blocking_stop : (d : BasicBlockData) {k : Refusal} → length u ≡ 1280 → block (drop c.at s) ≡ block_of s d → items d.actions action (drop d.code.at s) ≡ refused (number_of k) → BlocksSay s from n old u (Err k)
     unfolding block_of
     blocking_stop d size e f = record { size = size; kept = low_kept; result = going_stop w.going h (e ∙ stop _ _ _ f) }
 
@@ -320,7 +320,7 @@ module _ {s : List ℕ} {from c : Cursor} {n b points loans : ℕ} {old t : List
           kept = low_kept;
         }
 
-pub blocking_end : {s : List ℕ} {from c : Cursor} {n b points loans : ℕ} {old t : List ℕ} → Blocking s from c n b points loans old t → n ≤ b → n ≤ 64 → BlocksSay s from n old t (blocks_step.Ended c points loans)
+pub blocking_end : {s : List ℕ} {from c : Cursor} {n b points loans : ℕ} {old t : List ℕ} → Blocking s from c n b points loans old t → n ≤ b → n ≤ 64 → BlocksSay s from n old t (Ok (record { next = c; points = points; loans = loans }))
 blocking_end {n = n} {b} w h fits =
     let q : n ≡ b = (let l = w.going.within in omega arith) in
     record {

@@ -15,7 +15,6 @@ use Rattle.nll_spec.specs.Decode.{max_outlived, max_points, max_loans, max_lengt
 use Rattle.nll_spec.specs.Decode as decode
 use Rattle.repr.specs.Reading.{rest}
 use Rattle.repr.specs.declared.Cursor.{Cursor}
-use Rattle.repr.specs.declared.EndStep.{EndStep}
 use Rattle.repr.proofs.ReadLaws.{step, stop}
 use Rattle.record.specs.Rows.{Standing, none, more, Row, RowResult, RowSays, reader}
 use Rattle.record.specs.Blocks.{Blocks, BlocksResult}
@@ -23,12 +22,13 @@ use Rattle.record.specs.Layout.{DecodedSays, InRange, counts_says, CountsFit, Co
 use Rattle.record.specs.Layout.{verdict_of}
 use Rattle.record.specs.declared.Part.{Part}
 use Rattle.record.specs.declared.Counts.{Counts}
-use Rattle.record.specs.declared.CountsStep.{CountsStep}
-use Rattle.record.specs.declared.BlocksStep.{BlocksStep}
-use Rattle.record.specs.declared.BlocksStep.TheVariants as blocks_step
-use Rattle.record.specs.declared.Decoded.{Decoded}
-use Rattle.record.specs.declared.Decoded.TheVariants.{Refused, Job as Accept}
 use Rattle.record.proofs.BlockLaws.{window_kept}
+use Rattle.repr.specs.declared.refusal.Refusal.{Refusal}
+use Rattle.repr.specs.Refusals.{number_of}
+use Rattle.repr.specs.declared.refusal.Refusal.TheVariants.{Form, Size}
+use Rattle.record.specs.declared.Code.{Code}
+use Rattle.record.specs.declared.Head.{Head}
+use Rattle.std.specs.Prelude.{Result, Ok, Err}
 
 -- ---- Counts
 
@@ -47,8 +47,8 @@ count_most low high {n} bs {over} e = go (byte bs) refl
 
 -- ---- The rows
 
-pub row-result : {part : Part} {s : List ℕ} {from : Cursor} {n base : ℕ} {old t : List ℕ} {r x : EndStep} → RowSays part s from n base old t r → r ≡ x → RowResult (reader part) s from n base t x
-row-result {part} {s} {from} {n} {base} {old} {t} h e = subst (λ (y : EndStep). RowResult (reader part) s from n base t y) e h.result
+pub row-result : {part : Part} {s : List ℕ} {from : Cursor} {n base : ℕ} {old t : List ℕ} {r x : Result Cursor Refusal} → RowSays part s from n base old t r → r ≡ x → RowResult (reader part) s from n base t x
+row-result {part} {s} {from} {n} {base} {old} {t} h e = subst (λ (y : Result Cursor Refusal). RowResult (reader part) s from n base t y) e h.result
 
 standing_length : {A : Type 0} {m : Reader A} {s os : List ℕ} {xs : List A} → Standing m s os xs → length xs ≡ length os
 standing_length none = refl
@@ -102,33 +102,33 @@ module _ {n : Counts} {s : List ℕ} {c₁ c₂ c₃ c₄ : ℕ} {t₁ t₂ t₃
     };
   }
 
-  pub parts_end : (c : Cursor) → c.at ≡ c₄ → (r : BlocksStep) → BlocksResult s c n.blocks t₄ r → PartsSay n s c₁ t₄ r
+  pub parts_end : (c : Cursor) → c.at ≡ c₄ → (r : Result Code Refusal) → BlocksResult s c n.blocks t₄ r → PartsSay n s c₁ t₄ r
   unfolding parts_of
-  parts_end c e (blocks_step.Ended next points loans) b = record { result = ended_parts (subst (λ (x : ℕ). Blocks s x next.at n.blocks points loans t₄) e b) }
-  parts_end c e (blocks_step.Refused k) b = record { result = step _ _ _ structs.reads ∙ step _ _ _ outlives.reads ∙ step _ _ _ variables.reads ∙ stop _ _ _ (subst (λ (x : ℕ). items n.blocks block (drop x s) ≡ refused k) e b) }
+  parts_end c e (Ok r) b = record { result = ended_parts (subst (λ (x : ℕ). Blocks s x r.next.at n.blocks r.points r.loans t₄) e b) }
+  parts_end c e (Err k) b = record { result = step _ _ _ structs.reads ∙ step _ _ _ outlives.reads ∙ step _ _ _ variables.reads ∙ stop _ _ _ (subst (λ (x : ℕ). items n.blocks block (drop x s) ≡ refused (number_of k)) e b) }
 
 -- ---- What follows the length
 
 module _ {s t : List ℕ} where
   -- what is known of a reading is known of the job
-  pub says_as : {d e : decode.Decoded} {r q : Decoded} → d ≡ e → r ≡ q → DecodedSays e s t q → DecodedSays d s t r
-  says_as {d} {e} {r} {q} i j h = subst (λ (x : decode.Decoded). DecodedSays x s t r) (sym i) (subst (λ (x : Decoded). DecodedSays e s t x) (sym j) h)
+  pub says_as : {d e : decode.Decoded} {r q : Result Head Refusal} → d ≡ e → r ≡ q → DecodedSays e s t q → DecodedSays d s t r
+  says_as {d} {e} {r} {q} i j h = subst (λ (x : decode.Decoded). DecodedSays x s t r) (sym i) (subst (λ (x : Result Head Refusal). DecodedSays e s t x) (sym j) h)
 
 counted-job : (bs : List ℕ) → job bs ≡ ◌>>=◌ (count 0 max_structs) (λ structs. ◌>>=◌ (count 0 max_regions) (λ regions. ◌>>=◌ (count 0 max_declared) (λ declared. ◌>>=◌ (count 0 max_variables) (λ v. ◌>>=◌ (count 1 max_blocks) (λ b. parts_of structs regions declared v b))))) bs
 unfolding job parts_of
 counted-job bs = refl
 
-pub job-counts : {s : List ℕ} {r x : CountsStep} → CountsSay s 3 r → r ≡ x → job (drop 3 s) ≡ counts_says parts_of s x
+pub job-counts : {s : List ℕ} {r x : Result (Counts × Cursor) Refusal} → CountsSay s 3 r → r ≡ x → job (drop 3 s) ≡ counts_says parts_of s x
 job-counts {s} {r} {x} h e = counted-job (drop 3 s) ∙ sym (h.same parts_of) ∙ ap (counts_says parts_of s) e
 
-pub counts-fit : {s : List ℕ} {at : ℕ} {r x : CountsStep} → CountsSay s at r → r ≡ x → CountsFit x
+pub counts-fit : {s : List ℕ} {at : ℕ} {r x : Result (Counts × Cursor) Refusal} → CountsSay s at r → r ≡ x → CountsFit x
 counts-fit h e = subst CountsFit e h.fit
 
-pub parts_result : {n : Counts} {s : List ℕ} {from : ℕ} {t : List ℕ} {r x : BlocksStep} → PartsSay n s from t r → r ≡ x → PartsResult n s from t x
-parts_result {n} {s} {from} {t} h e = subst (λ (y : BlocksStep). PartsResult n s from t y) e h.result
+pub parts_result : {n : Counts} {s : List ℕ} {from : ℕ} {t : List ℕ} {r x : Result Code Refusal} → PartsSay n s from t r → r ≡ x → PartsResult n s from t x
+parts_result {n} {s} {from} {t} h e = subst (λ (y : Result Code Refusal). PartsResult n s from t y) e h.result
 
 -- a refusal of the job is one of the record
-pub job-refused : {s t : List ℕ} (bs : List ℕ) {k : ℕ} → job bs ≡ refused k → DecodedSays (whole (job bs)) s t (Refused k)
+pub job-refused : {s t : List ℕ} (bs : List ℕ) {k : Refusal} → job bs ≡ refused (number_of k) → DecodedSays (whole (job bs)) s t (Err k)
 unfolding whole
 job-refused bs e = record { says = ap whole e }
 
@@ -137,7 +137,7 @@ module _ {n : Counts} {s : List ℕ} {from : ℕ} {t : List ℕ} (next : Cursor)
   unfolding point_count
   points-are = omega (arith, p.counts, p.declared)
 
-  accepted : (b : Bool) → leb (points + n.declared) max_points && leb loans max_loans ≡ b → DecodedSays (cond (leb (point_count p.job) max_points && leb (borrow_count p.job) max_loans) (decode.decoded p.job) (decode.rejected 5)) s t (cond b (Accept (head_of n points)) (Refused 5))
+  accepted : (b : Bool) → leb (points + n.declared) max_points && leb loans max_loans ≡ b → DecodedSays (cond (leb (point_count p.job) max_points && leb (borrow_count p.job) max_loans) (decode.decoded p.job) (decode.rejected 5)) s t (cond b (Ok (head_of n points)) (Err Size))
   accepted true e =
       let tests = (and-eq-true_iff (leb (points + n.declared) max_points) (leb loans max_loans)).0 e in
       let few = leb-true (points + n.declared) max_points tests.0 in
@@ -145,7 +145,7 @@ module _ {n : Counts} {s : List ℕ} {from : ℕ} {t : List ℕ} (next : Cursor)
       record { says = record { job = p.job; is = rw (points-are, ← p.lends, e); points = omega (arith, points-are); loans = omega (arith, p.lends); layout = p.layout (omega arith) } }
   accepted false e = record { says = rw (points-are, ← p.lends, e) }
 
-  pub whole_says : (bs : List ℕ) {r : Decoded} → job bs ≡ parts_of n.structs n.regions n.declared n.variables n.blocks (drop from s) → r ≡ verdict_of n (length s) next points loans → DecodedSays (whole (job bs)) s t r
+  pub whole_says : (bs : List ℕ) {r : Result Head Refusal} → job bs ≡ parts_of n.structs n.regions n.declared n.variables n.blocks (drop from s) → r ≡ verdict_of n (length s) next points loans → DecodedSays (whole (job bs)) s t r
   unfolding whole
   whole_says bs {r} e v = says_as (ap whole (e ∙ p.reads)) v (go (dec_lt next.at (length s)))
     where
@@ -156,18 +156,18 @@ module _ {n : Counts} {s : List ℕ} {from : ℕ} {t : List ℕ} (next : Cursor)
 -- ---- The verdict, by its tests
 
 module _ (n : Counts) (size : ℕ) (next : Cursor) (points loans : ℕ) where
-  pub verdict_left : next.at < size → Refused 3 ≡ verdict_of n size next points loans
+  pub verdict_left : next.at < size → Err Form ≡ verdict_of n size next points loans
   verdict_left h = rw (lt-ltb next.at size h)
 
   module _ (e : size ≤ next.at) where
-    pub verdict_points : 1024 < points + n.declared → Refused 5 ≡ verdict_of n size next points loans
+    pub verdict_points : 1024 < points + n.declared → Err Size ≡ verdict_of n size next points loans
     verdict_points h = rw (le-ltb next.at size e, lt-leb (points + n.declared) 1024 h)
 
     module _ (h : points + n.declared ≤ 1024) where
-      pub verdict_loans : 128 < loans → Refused 5 ≡ verdict_of n size next points loans
+      pub verdict_loans : 128 < loans → Err Size ≡ verdict_of n size next points loans
       verdict_loans k = rw (le-ltb next.at size e, le-leb (points + n.declared) 1024 h, lt-leb loans 128 k)
 
-      pub verdict_job : loans ≤ 128 → Accept (head_of n points) ≡ verdict_of n size next points loans
+      pub verdict_job : loans ≤ 128 → Ok (head_of n points) ≡ verdict_of n size next points loans
       verdict_job k = rw (le-ltb next.at size e, le-leb (points + n.declared) 1024 h, le-leb loans 128 k)
 
 -- ---- The record's first bytes

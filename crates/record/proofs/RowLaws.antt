@@ -16,8 +16,9 @@ use Rattle.repr.specs.Stands.{Stands}
 use Rattle.record.specs.Rows.{Standing, none, more, Row, reader}
 use Rattle.record.specs.declared.Part.{Part}
 use Rattle.repr.specs.declared.Cursor.{Cursor}
-use Rattle.repr.specs.declared.EndStep.{EndStep}
-use Rattle.repr.specs.declared.EndStep.TheVariants as end_step
+use Rattle.repr.specs.declared.refusal.Refusal.{Refusal}
+use Rattle.repr.specs.Refusals.{number_of}
+use Rattle.std.specs.Prelude.{Result, Ok, Err}
 
 -- ---- Items that were read, before a reading of more
 
@@ -87,9 +88,9 @@ pub window_more : (t : List ℕ) (base i o : ℕ) → base + i < length t → ta
 window_more t base i o h = let l : i < length (drop base t) = simp length-drop (omega arith) in rw (drop-set-add, add-one, take-suc-set (drop base t) i o l)
 
 -- where some bytes end
-pub bytes-end : (s : List ℕ) (c : Cursor) (n : ℕ) (r : EndStep) → end_says s r ≡ ended (bytes_say s c n r)
-bytes-end s c n (end_step.Ended next) = refl
-bytes-end s c n (end_step.Refused k) = refl
+pub bytes-end : (s : List ℕ) (c : Cursor) (n : ℕ) (r : Result Cursor Refusal) → end_says s r ≡ ended (bytes_say s c n r)
+bytes-end s c n (Ok next) = refl
+bytes-end s c n (Err k) = refl
 
 -- what is read of a part of this kind
 pub as_part : {p q : Part} (x : Reading (Unit {0})) (bs : List ℕ) → p ≡ q → x ≡ ended (reader q bs) → x ≡ ended (reader p bs)

@@ -1,23 +1,23 @@
 -- What the table gives by number: where a part lies, what a struct declares, what a point does.
-use Rattle.std.specs.Prelude.{◌≡◌, cond, List, ℕ, ◌+◌, get_or, ltb, eqb}
+use Rattle.std.specs.Prelude.{◌≡◌, cond, List, ℕ, ◌+◌, get_or, ltb, eqb, Option, Some, None, Result}
 use Rattle.nll_spec.specs.Syntax as syntax
 use Rattle.nll_spec.specs.Decode.{read, items, param, field}
 use Rattle.repr.specs.Reading.{rest}
 use Rattle.repr.specs.Parts.{action_says}
 use Rattle.repr.specs.declared.StructDecl.{StructDecl}
-use Rattle.repr.specs.declared.ActionStep.{ActionStep}
 use Rattle.repr.specs.Stands.{Stands}
 use Rattle.record.specs.Blocks.{block_end}
-use Rattle.record.specs.declared.PointStep.{PointStep}
-use Rattle.record.specs.declared.PointStep.TheVariants.{Action, End}
+use Rattle.repr.specs.declared.Cursor.{Cursor}
+use Rattle.repr.specs.declared.Action.{Action}
+use Rattle.repr.specs.declared.refusal.Refusal.{Refusal}
 
 -- entry i of the row of so many entries from `base` on; 0 where the row has none
 abbrev pub entry_in : List ℕ → ℕ → ℕ → ℕ → ℕ
 entry_in t base many i = cond (ltb i many) (get_or t (base + i) 0) 0
 
--- where a point's action lies, or that it is a block's end
-abbrev pub point_of : ℕ → PointStep
-point_of o = cond (eqb o block_end) End (Action (record { at = o }))
+-- where a point's action lies; none at a block's end
+abbrev pub point_of : ℕ → Option Cursor
+point_of o = cond {A = Option Cursor} (eqb o block_end) None (Some (record { at = o }))
 
 -- A struct's parameters and fields stand where d says.
 pub record Declared (s : List ℕ) (x : syntax.StructDecl) (d : StructDecl) : Type 0 where
@@ -25,7 +25,7 @@ pub record Declared (s : List ℕ) (x : syntax.StructDecl) (d : StructDecl) : Ty
   pub fields : Stands (items d.fields field) x.fields (rest s d.members)
 
 -- The answer is the action a.
-pub record Acts (s : List ℕ) (a : syntax.Action) (r : ActionStep) : Type 0 where
+pub record Acts (s : List ℕ) (a : syntax.Action) (r : Result (Action × Cursor) Refusal) : Type 0 where
   pub over : List ℕ
   pub reads : action_says s r ≡ read a over
 

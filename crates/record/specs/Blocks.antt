@@ -1,14 +1,13 @@
 -- Blocks, with the entries of the table for each block, its first point and its points.
-use Rattle.std.specs.Prelude.{◌≡◌, cond, List, [], ◌∷◌, ◌++◌, ℕ, suc, ◌+◌, ◌≤◌, ◌<◌, length, take, drop, set, ltb}
+use Rattle.std.specs.Prelude.{◌≡◌, cond, List, [], ◌∷◌, ◌++◌, ℕ, suc, ◌+◌, ◌≤◌, ◌<◌, length, take, drop, set, ltb, Result, Ok, Err}
 use Rattle.nll_spec.specs.Lists.{select, gather}
 use Rattle.nll_spec.specs.Syntax.{Action, Block}
 use Rattle.nll_spec.specs.Decode.{refused, read, items, action, block, is_borrow, code_count}
 use Rattle.repr.specs.declared.Cursor.{Cursor}
 use Rattle.record.specs.Rows.{Standing}
-use Rattle.record.specs.declared.CodeStep.{CodeStep}
-use Rattle.record.specs.declared.CodeStep.TheVariants as code_step
-use Rattle.record.specs.declared.BlocksStep.{BlocksStep}
-use Rattle.record.specs.declared.BlocksStep.TheVariants as blocks_step
+use Rattle.repr.specs.declared.refusal.Refusal.{Refusal}
+use Rattle.repr.specs.Refusals.{number_of}
+use Rattle.record.specs.declared.Code.{Code}
 
 -- the entry of a block's end, which is no offset of an action
 abbrev pub block_end : ℕ
@@ -34,11 +33,11 @@ pub record ActionAt (s : List ℕ) (from next loans : ℕ) : Type 0 where
   pub reads : action (drop from s) ≡ read item (drop next s)
   pub lends : loans ≡ loan_count (item ∷ [])
 
-abbrev pub ActionResult : List ℕ → ℕ → CodeStep → Type 0
-ActionResult s from (code_step.Ended next loans) = ActionAt s from next.at loans
-ActionResult s from (code_step.Refused k) = action (drop from s) ≡ refused k
+abbrev pub ActionResult : List ℕ → ℕ → Result (ℕ × Cursor) Refusal → Type 0
+ActionResult s from (Ok r) = ActionAt s from r.1.at r.0
+ActionResult s from (Err k) = action (drop from s) ≡ refused (number_of k)
 
-pub record ActionSays (s : List ℕ) (from : ℕ) (r : CodeStep) : Type 0 where
+pub record ActionSays (s : List ℕ) (from : ℕ) (r : Result (ℕ × Cursor) Refusal) : Type 0 where
   pub result : ActionResult s from r
 
 -- ---- The actions of a block
@@ -54,11 +53,11 @@ pub record Actions (s : List ℕ) (from next n first loans : ℕ) (t : List ℕ)
   pub stands : Standing action s offsets found
   pub entries : first + n < 1024 → take (n + 1) (drop (256 + first) t) ≡ offsets ++ block_end ∷ []
 
-abbrev pub ActionsResult : List ℕ → Cursor → ℕ → ℕ → List ℕ → CodeStep → Type 0
-ActionsResult s from n first t (code_step.Ended next loans) = Actions s from.at next.at n first loans t
-ActionsResult s from n first t (code_step.Refused k) = items n action (drop from.at s) ≡ refused k
+abbrev pub ActionsResult : List ℕ → Cursor → ℕ → ℕ → List ℕ → Result (ℕ × Cursor) Refusal → Type 0
+ActionsResult s from n first t (Ok r) = Actions s from.at r.1.at n first r.0 t
+ActionsResult s from n first t (Err k) = items n action (drop from.at s) ≡ refused (number_of k)
 
-pub record ActionsSay (s : List ℕ) (from : Cursor) (n first : ℕ) (before after : List ℕ) (r : CodeStep) : Type 0 where
+pub record ActionsSay (s : List ℕ) (from : Cursor) (n first : ℕ) (before after : List ℕ) (r : Result (ℕ × Cursor) Refusal) : Type 0 where
   pub size : length after ≡ 1280
   pub kept : take (256 + first) after ≡ take (256 + first) before
   pub result : ActionsResult s from n first after r
@@ -86,11 +85,11 @@ pub record Blocks (s : List ℕ) (from next n points loans : ℕ) (t : List ℕ)
   pub most : points ≤ 16384
   pub lends : loans ≡ loan_count (gather (λ b. b.actions) found)
 
-abbrev pub BlocksResult : List ℕ → Cursor → ℕ → List ℕ → BlocksStep → Type 0
-BlocksResult s from n t (blocks_step.Ended next points loans) = Blocks s from.at next.at n points loans t
-BlocksResult s from n t (blocks_step.Refused k) = items n block (drop from.at s) ≡ refused k
+abbrev pub BlocksResult : List ℕ → Cursor → ℕ → List ℕ → Result Code Refusal → Type 0
+BlocksResult s from n t (Ok c) = Blocks s from.at c.next.at n c.points c.loans t
+BlocksResult s from n t (Err k) = items n block (drop from.at s) ≡ refused (number_of k)
 
-pub record BlocksSay (s : List ℕ) (from : Cursor) (n : ℕ) (before after : List ℕ) (r : BlocksStep) : Type 0 where
+pub record BlocksSay (s : List ℕ) (from : Cursor) (n : ℕ) (before after : List ℕ) (r : Result Code Refusal) : Type 0 where
   pub size : length after ≡ 1280
   pub kept : take 96 after ≡ take 96 before
   pub result : BlocksResult s from n after r

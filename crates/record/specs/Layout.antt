@@ -1,5 +1,5 @@
 -- The whole record: what it is, and where each part of its job lies.
-use Rattle.std.specs.Prelude.{◌≡◌, cond, ◌&&◌, List, ℕ, ◌+◌, ◌≤◌, length, take, drop, ltb, leb}
+use Rattle.std.specs.Prelude.{◌≡◌, cond, ◌&&◌, List, ℕ, ◌+◌, ◌≤◌, length, take, drop, ltb, leb, Result, Ok, Err}
 use Rattle.nll_spec.specs.Syntax.{Job}
 use Rattle.nll_spec.specs.Decode.{Reading, refused, read, Reader, done, ◌>>=◌, byte, count, items, counted, struct_decl, type, block, code_count}
 use Rattle.nll_spec.specs.Decode.{point_count, borrow_count, max_structs, max_regions, max_declared, max_variables, max_blocks, max_outlived, max_points, max_loans}
@@ -9,13 +9,12 @@ use Rattle.repr.specs.declared.Cursor.{Cursor}
 use Rattle.record.specs.Rows.{Standing}
 use Rattle.record.specs.Blocks.{Placed}
 use Rattle.record.specs.declared.Counts.{Counts}
-use Rattle.record.specs.declared.CountsStep.{CountsStep}
-use Rattle.record.specs.declared.CountsStep.TheVariants as counts_step
-use Rattle.record.specs.declared.BlocksStep.{BlocksStep}
-use Rattle.record.specs.declared.BlocksStep.TheVariants as blocks_step
 use Rattle.record.specs.declared.Head.{Head}
-use Rattle.record.specs.declared.Decoded.{Decoded}
-use Rattle.record.specs.declared.Decoded.TheVariants.{Refused, Job as Accept}
+use Rattle.repr.specs.declared.refusal.Refusal.{Refusal}
+use Rattle.repr.specs.Refusals.{number_of}
+use Rattle.repr.specs.declared.refusal.Refusal.TheVariants.{Form, Size}
+use Rattle.record.specs.declared.Code.{Code}
+use Rattle.record.specs.declared.Record.{Record}
 
 -- ---- Where each part of a job lies
 
@@ -42,6 +41,10 @@ pub record Layout (s t : List ℕ) (h : Head) (j : Job) : Type 0 where
   pub size : length t ≡ 1280
   pub start : j.start ≡ 0
 
+-- The record r has the job j.
+abbrev pub Holds : Record → Job → Type 0
+Holds r j = Layout r.bytes.now r.layout.now r.head j
+
 -- ---- What a record is
 
 -- a job within the limits of refusal 5, and where it lies
@@ -52,12 +55,12 @@ pub record Accepted (d : decode.Decoded) (s t : List ℕ) (h : Head) : Type 0 wh
   pub loans : borrow_count job ≤ 128
   pub layout : Layout s t h job
 
-abbrev pub Verdict : decode.Decoded → List ℕ → List ℕ → Decoded → Type 0
-Verdict d s t (Refused k) = d ≡ decode.rejected k
-Verdict d s t (Accept h) = Accepted d s t h
+abbrev pub Verdict : decode.Decoded → List ℕ → List ℕ → Result Head Refusal → Type 0
+Verdict d s t (Err k) = d ≡ decode.rejected (number_of k)
+Verdict d s t (Ok h) = Accepted d s t h
 
 -- The answer is the definition's: the number of the refusal, or the head of the job, with the table t.
-pub record DecodedSays (d : decode.Decoded) (s t : List ℕ) (r : Decoded) : Type 0 where
+pub record DecodedSays (d : decode.Decoded) (s t : List ℕ) (r : Result Head Refusal) : Type 0 where
   pub says : Verdict d s t r
 
 -- ---- The five counts, and what follows them
@@ -73,21 +76,16 @@ pub record InRange (n : Counts) : Type 0 where
   pub variables : n.variables ≤ 64
   pub blocks : n.blocks ≤ 64
 
-abbrev pub counts_says : Onward → List ℕ → CountsStep → Reading Job
-counts_says f s (counts_step.Counts n next) = f n.structs n.regions n.declared n.variables n.blocks (rest s next)
-counts_says f s (counts_step.Refused k) = refused k
+abbrev pub counts_says : Onward → List ℕ → Result (Counts × Cursor) Refusal → Reading Job
+counts_says f s (Ok r) = f r.0.structs r.0.regions r.0.declared r.0.variables r.0.blocks (rest s r.1)
+counts_says f s (Err k) = refused (number_of k)
 
-abbrev pub CountsFit : CountsStep → Type 0
-CountsFit (counts_step.Counts n next) = InRange n
-CountsFit (counts_step.Refused k) = Unit {0}
-
--- The answer is what the last two counts are there, whatever follows them.
-pub record LastCountsSay (structs regions declared : ℕ) (s : List ℕ) (at : ℕ) (r : CountsStep) : Type 0 where
-  pub same : (f : Onward) → counts_says f s r ≡ (do v ← count 0 max_variables; b ← count 1 max_blocks; f structs regions declared v b) (drop at s)
-  pub fit : CountsFit r
+abbrev pub CountsFit : Result (Counts × Cursor) Refusal → Type 0
+CountsFit (Ok r) = InRange r.0
+CountsFit (Err k) = Unit {0}
 
 -- The answer is what the five counts are there, whatever follows them.
-pub record CountsSay (s : List ℕ) (at : ℕ) (r : CountsStep) : Type 0 where
+pub record CountsSay (s : List ℕ) (at : ℕ) (r : Result (Counts × Cursor) Refusal) : Type 0 where
   pub same : (f : Onward) →
       counts_says f s r
       ≡ (do
@@ -121,14 +119,14 @@ pub record Parts (n : Counts) (s : List ℕ) (from next points loans : ℕ) (t :
   pub declared : length job.outlives ≡ n.declared
   pub layout : points ≤ 1024 → Layout s t (head_of n points) job
 
-abbrev pub PartsResult : Counts → List ℕ → ℕ → List ℕ → BlocksStep → Type 0
-PartsResult n s from t (blocks_step.Ended next points loans) = Parts n s from next.at points loans t
-PartsResult n s from t (blocks_step.Refused k) = parts_of n.structs n.regions n.declared n.variables n.blocks (drop from s) ≡ refused k
+abbrev pub PartsResult : Counts → List ℕ → ℕ → List ℕ → Result Code Refusal → Type 0
+PartsResult n s from t (Ok c) = Parts n s from c.next.at c.points c.loans t
+PartsResult n s from t (Err k) = parts_of n.structs n.regions n.declared n.variables n.blocks (drop from s) ≡ refused (number_of k)
 
-pub record PartsSay (n : Counts) (s : List ℕ) (from : ℕ) (t : List ℕ) (r : BlocksStep) : Type 0 where
+pub record PartsSay (n : Counts) (s : List ℕ) (from : ℕ) (t : List ℕ) (r : Result Code Refusal) : Type 0 where
   pub result : PartsResult n s from t r
 
 -- what a record of this size is, by what was read of it
-abbrev pub verdict_of : Counts → ℕ → Cursor → ℕ → ℕ → Decoded
+abbrev pub verdict_of : Counts → ℕ → Cursor → ℕ → ℕ → Result Head Refusal
 verdict_of n size next points loans =
-    cond (ltb next.at size) (Refused 3) (cond (leb (points + n.declared) max_points && leb loans max_loans) (Accept (head_of n points)) (Refused 5))
+    cond (ltb next.at size) (Err Form) (cond (leb (points + n.declared) max_points && leb loans max_loans) (Ok (head_of n points)) (Err Size))

@@ -1,13 +1,13 @@
 -- A row of parts, with an entry of the table for each.
-use Rattle.std.specs.Prelude.{◌≡◌, List, [], ◌∷◌, ℕ, length, take, drop}
+use Rattle.std.specs.Prelude.{◌≡◌, List, [], ◌∷◌, ℕ, length, take, drop, Result, Ok, Err}
 use Rattle.nll_spec.specs.Syntax.{StructDecl, Ty, RegionName}
 use Rattle.nll_spec.specs.Decode.{refused, read, Reader, byte, items, counted, max_outlived, struct_decl, type}
 use Rattle.repr.specs.Stands.{Stands}
 use Rattle.repr.specs.declared.Cursor.{Cursor}
-use Rattle.repr.specs.declared.EndStep.{EndStep}
-use Rattle.repr.specs.declared.EndStep.TheVariants as end_step
 use Rattle.record.specs.declared.Part.{Part}
 use Rattle.record.specs.declared.Part.TheVariants.{Struct, Outlives, Variable}
+use Rattle.repr.specs.declared.refusal.Refusal.{Refusal}
+use Rattle.repr.specs.Refusals.{number_of}
 
 -- Each of these offsets of s is where m reads the item at the same place of the list.
 pub data Standing {A : Type 0} (m : Reader A) (s : List ℕ) : List ℕ → List A → Type 0 where
@@ -31,12 +31,12 @@ pub record Row {A : Type 0} (m : Reader A) (s : List ℕ) (from next : ℕ) (n b
   pub reads : items n m (drop from s) ≡ read found (drop next s)
   pub stands : Standing m s (take n (drop base t)) found
 
-abbrev pub RowResult : {A : Type 0} → Reader A → List ℕ → Cursor → ℕ → ℕ → List ℕ → EndStep → Type 0
-RowResult m s from n base t (end_step.Ended next) = Row m s from.at next.at n base t
-RowResult m s from n base t (end_step.Refused k) = items n m (drop from.at s) ≡ refused k
+abbrev pub RowResult : {A : Type 0} → Reader A → List ℕ → Cursor → ℕ → ℕ → List ℕ → Result Cursor Refusal → Type 0
+RowResult m s from n base t (Ok next) = Row m s from.at next.at n base t
+RowResult m s from n base t (Err k) = items n m (drop from.at s) ≡ refused (number_of k)
 
 -- The answer of reading a row, with the table before and after. Entries below the row's are kept.
-pub record RowSays (part : Part) (s : List ℕ) (from : Cursor) (n base : ℕ) (before after : List ℕ) (r : EndStep) : Type 0 where
+pub record RowSays (part : Part) (s : List ℕ) (from : Cursor) (n base : ℕ) (before after : List ℕ) (r : Result Cursor Refusal) : Type 0 where
   pub size : length after ≡ 1280
   pub kept : take base after ≡ take base before
   pub result : RowResult (reader part) s from n base after r

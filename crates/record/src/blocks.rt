@@ -3,12 +3,11 @@ ghost use Rattle.std.specs.Prelude.{◌≡◌, ◌≤◌, length};
 ghost use Rattle.record.specs.Blocks.{point_kept, ActionSays, ActionsSay, BlocksSay};
 
 use super::rows::offset;
-use super::{BLOCKS, BlocksStep, CodeStep, END, FIRST, POINTS, wide};
-use repr::{ActionStep, BlockStep, Cursor, EndStep};
+use super::{BLOCKS, Code, END, FIRST, POINTS};
+use repr::{Cursor, Reading, Refusal};
 
 // Keeps a point's entry, where the table has one for it.
 fn keep(layout: &mut [u16; 1280], point: usize, entry: u16)
-    requires { length layout.old ≡ 1280 }
     ensures { layout.new ≡ point_kept layout.old point entry }
 {
     if point < 1024 {
@@ -16,75 +15,59 @@ fn keep(layout: &mut [u16; 1280], point: usize, entry: u16)
     }
 }
 
-// Where an action ends, and how many loans it makes.
-fn action_end(c: Cursor, s: &[u8]) -> CodeStep
+// How many loans an action makes, and where it ends.
+fn action_end(c: Cursor, s: &[u8]) -> Reading<usize>
     ensures { ActionSays s.now c.at result }
 {
-    match c.action(s) {
-        ActionStep::Refused(k) => CodeStep::Refused(k),
-        ActionStep::Action(a, next) => match next.paths(s, a.sources()) {
-            EndStep::Refused(k) => CodeStep::Refused(k),
-            EndStep::Ended(end) => CodeStep::Ended {
-                next: end,
-                loans: a.loans(),
-            },
-        },
-    }
+    let (a, next) = c.action(s)?;
+    let end = next.paths(s, a.sources())?;
+    Ok((a.loans(), end))
 }
 
-// Keeps where so many actions lie, which are the points from `first` on, and that the end of their block follows. Answers where they end, and how many loans they make.
-fn actions(from: Cursor, s: &[u8], count: u8, first: usize, layout: &mut [u16; 1280]) -> CodeStep
-    requires { (first ≤ 16384) × (length layout.old ≡ 1280) × (length s.now ≤ 65535) }
+// Keeps where so many actions lie, which are the points from `first` on, and that the end of their block follows. Answers how many loans they make, and where they end.
+fn actions(
+    from: Cursor,
+    s: &[u8],
+    count: u8,
+    first: usize,
+    layout: &mut [u16; 1280],
+) -> Reading<usize>
+    requires { (first ≤ 16384) × (length s.now ≤ 65535) }
     ensures { ActionsSay s.now from count first layout.old layout.new result }
 {
-    let many = wide(count);
+    let many = usize::from(count);
     let mut c = from;
     let mut loans = 0;
-    let mut i = 0;
-    while i < many {
+    for i in 0..many {
         keep(layout, first + i, offset(c));
-        match action_end(c, s) {
-            CodeStep::Refused(k) => return CodeStep::Refused(k),
-            CodeStep::Ended { next, loans: more } => {
-                c = next;
-                loans += more;
-            }
-        }
-        i += 1;
+        let (more, next) = action_end(c, s)?;
+        c = next;
+        loans += more;
     }
     keep(layout, first + many, END);
-    CodeStep::Ended { next: c, loans }
+    Ok((loans, c))
 }
 
 // Keeps where so many blocks lie, their first points and their actions. Answers where they end, and how many points and loans they have.
-pub fn blocks(from: Cursor, s: &[u8], count: u8, layout: &mut [u16; 1280]) -> BlocksStep
-    requires { (count ≤ 64) × (length layout.old ≡ 1280) × (length s.now ≤ 65535) }
+pub fn blocks(from: Cursor, s: &[u8], count: u8, layout: &mut [u16; 1280]) -> Result<Code, Refusal>
+    requires { (count ≤ 64) × (length s.now ≤ 65535) }
     ensures { BlocksSay s.now from count layout.old layout.new result }
 {
-    let many = wide(count);
     let mut c = from;
     let mut points = 0;
     let mut loans = 0;
-    let mut b = 0;
-    while b < many {
+    for b in 0..usize::from(count) {
         layout[BLOCKS + b] = offset(c);
         layout[FIRST + b] = points as u16;
-        match c.block(s) {
-            BlockStep::Refused(k) => return BlocksStep::Refused(k),
-            BlockStep::Block(d) => match actions(d.code, s, d.actions, points, layout) {
-                CodeStep::Refused(k) => return BlocksStep::Refused(k),
-                CodeStep::Ended { next, loans: more } => {
-                    c = next;
-                    points += wide(d.actions) + 1;
-                    loans += more;
-                }
-            },
-        }
-        b += 1;
+        let d = c.block(s)?;
+        let (more, next) = actions(d.code, s, d.actions, points, layout)?;
+        c = next;
+        points += usize::from(d.actions) + 1;
+        loans += more;
     }
-    BlocksStep::Ended {
+    Ok(Code {
         next: c,
         points,
         loans,
-    }
+    })
 }

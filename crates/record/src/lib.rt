@@ -1,6 +1,6 @@
 #![tactic(auto)]
 // The whole record: refusals 1 to 5, and a table of where each part of the job lies.
-pub mod access;
+mod access;
 mod blocks;
 mod rows;
 mod tables;
@@ -9,7 +9,7 @@ ghost use Rattle.std.specs.Prelude.{◌≡◌, ◌≤◌, length, drop};
 ghost use Rattle.nll_spec.specs.Decode.{job, whole, decode};
 ghost use Rattle.record.specs.Layout.{DecodedSays};
 
-use repr::Cursor;
+use repr::{Cursor, Refusal};
 use tables::{counts, parts, verdict};
 
 // ---- The table of offsets. From POINTS on it has an entry for each point of the blocks: the offset of its action, or END for a block's end.
@@ -28,6 +28,9 @@ pub const POINTS: usize = 256;
 
 pub const END: u16 = 65535;
 
+// The tag of a Borrow.
+pub const BORROW: u8 = 2;
+
 // How many parts there are of each kind; `code` counts the points of all blocks.
 #[derive(Clone, Copy)]
 pub struct Head {
@@ -39,17 +42,12 @@ pub struct Head {
     pub code: u16,
 }
 
-// What a point of the blocks is: an action, by where it lies, or a block's end.
+// A record that was read: its bytes, where each part of its job lies, and how many parts there are.
 #[derive(Clone, Copy)]
-pub enum PointStep {
-    Action(Cursor),
-    End,
-}
-
-#[derive(Clone, Copy)]
-pub enum Decoded {
-    Refused(u8),
-    Job(Head),
+pub struct Record<'a> {
+    pub bytes: &'a [u8],
+    pub layout: &'a [u16; 1280],
+    pub head: Head,
 }
 
 // The parts that stand in a row of their own.
@@ -70,74 +68,43 @@ pub struct Counts {
     pub blocks: u8,
 }
 
-#[derive(Clone, Copy)]
-pub enum CountsStep {
-    Counts(Counts, Cursor),
-    Refused(u8),
-}
-
-// The end of an action or of some, with how many loans they make.
-#[derive(Clone, Copy)]
-pub enum CodeStep {
-    Ended { next: Cursor, loans: usize },
-    Refused(u8),
-}
-
 // The end of the blocks, with how many points and loans they have.
 #[derive(Clone, Copy)]
-pub enum BlocksStep {
-    Ended {
-        next: Cursor,
-        points: usize,
-        loans: usize,
-    },
-    Refused(u8),
-}
-
-fn wide(x: u8) -> usize
-    ensures { (result ≡ x) × (result ≤ 255) }
-{
-    x as usize
+pub struct Code {
+    pub next: Cursor,
+    pub points: usize,
+    pub loans: usize,
 }
 
 // What follows the record's length.
-fn job(s: &[u8], layout: &mut [u16; 1280]) -> Decoded
-    requires { (length layout.old ≡ 1280) × (length s.now ≤ 65535) }
+fn job(s: &[u8], layout: &mut [u16; 1280]) -> Result<Head, Refusal>
+    requires { length s.now ≤ 65535 }
     ensures { DecodedSays (whole (job (drop 3 s.now))) s.now layout.new result }
 {
-    match counts(Cursor { at: 3 }, s) {
-        CountsStep::Refused(k) => Decoded::Refused(k),
-        CountsStep::Counts(n, c) => match parts(n, c, s, layout) {
-            BlocksStep::Refused(k) => Decoded::Refused(k),
-            BlocksStep::Ended {
-                next,
-                points,
-                loans,
-            } => verdict(n, s.len(), next, points, loans),
-        },
-    }
+    let (n, c) = counts(Cursor { at: 3 }, s)?;
+    let code = parts(n, c, s, layout)?;
+    verdict(n, s.len(), code)
 }
 
 // The refusal of a record, 1 to 5, or the head of its job, with the table of where each part lies. A record that is refused leaves anything in the table.
-pub fn read(s: &[u8], layout: &mut [u16; 1280]) -> Decoded
-    requires { length layout.old ≡ 1280 }
+pub fn read(s: &[u8], layout: &mut [u16; 1280]) -> Result<Head, Refusal>
     ensures { DecodedSays (decode s.now) s.now layout.new result }
 {
     if s.len() < 1 {
-        return Decoded::Refused(1);
+        return Err(Refusal::Version);
     }
     if s[0] != 1 {
-        return Decoded::Refused(1);
+        return Err(Refusal::Version);
     }
     if s.len() < 3 {
-        return Decoded::Refused(2);
+        return Err(Refusal::Length);
     }
-    let n = wide(s[1]) * 256 + wide(s[2]);
+    let n = usize::from(s[1]) * 256 + usize::from(s[2]);
     if 16384 < n {
-        return Decoded::Refused(2);
+        return Err(Refusal::Length);
     }
     if n != s.len() - 3 {
-        return Decoded::Refused(2);
+        return Err(Refusal::Length);
     }
     job(s, layout)
 }

@@ -12,39 +12,34 @@ use Rattle.nll_spec.specs.Syntax as syntax
 use Rattle.nll_spec.specs.Syntax.{Ty, Args, NoArgs, RegionArg, TypeArg, Param, StructDecl, Job, Co, RegionKind}
 use Rattle.nll_spec.specs.Decode.{read, Reader, done, items, param}
 use Rattle.nll_spec.specs.Types.{struct_of, arg_count}
-use Rattle.nll_spec.specs.WellFormed.{is_region_kind, is_type_kind, bound_fits, region_fits, type_fits, args_fit, fields_fit, variables_fit, types_fit}
-use Rattle.repr.specs.Reading.{rest, kind_of, region_of, parameter_of, parameter_says, ended, end_says}
+use Rattle.nll_spec.specs.WellFormed.{is_region_kind, is_type_kind, bound_fits, region_fits, type_fits, args_fit}
+use Rattle.repr.specs.Reading.{rest, kind_of, region_of, parameter_of, says, ended, end_says}
 use Rattle.repr.specs.Types.{node, NodeSays, ArgumentSays}
 use Rattle.repr.specs.declared.Cursor.{Cursor}
 use Rattle.repr.specs.declared.Region as repr_region
-use Rattle.repr.specs.declared.Region.TheVariants as regions
-use Rattle.repr.specs.declared.RegionName.{RegionName}
 use Rattle.repr.specs.declared.BorrowKind.{BorrowKind}
 use Rattle.repr.specs.declared.StructName.{StructName}
 use Rattle.repr.specs.declared.StructParameter.{StructParameter}
 use Rattle.repr.specs.declared.StructDecl as repr_struct
-use Rattle.repr.specs.declared.EndStep.{EndStep}
-use Rattle.repr.specs.declared.EndStep.TheVariants as end_step
-use Rattle.repr.specs.declared.ParameterStep.{ParameterStep}
-use Rattle.repr.specs.declared.ParameterStep.TheVariants as parameter_step
-use Rattle.repr.specs.declared.NodeStep.{NodeStep}
-use Rattle.repr.specs.declared.NodeStep.TheVariants as node_step
-use Rattle.repr.specs.declared.NodesStep.{NodesStep}
-use Rattle.repr.specs.declared.NodesStep.TheVariants.{Ended, Refused}
-use Rattle.repr.specs.declared.ArgumentStep.{ArgumentStep}
-use Rattle.repr.specs.declared.ArgumentStep.TheVariants as argument_step
 use Rattle.repr.proofs.ReadLaws.{told, step}
 use Rattle.repr.proofs.PartLaws.{end-over}
 use Rattle.repr.specs.Stands.{Stands}
-use Rattle.record.specs.Layout.{Layout}
+use Rattle.record.specs.Layout.{Holds}
 use Rattle.record.specs.Access.{Declared}
-use Rattle.record.specs.declared.Head.{Head}
+use Rattle.record.specs.declared.Record.{Record}
 use Rattle.repr.proofs.SpellLaws.{clash, carry}
 use Rattle.repr.proofs.ItemLaws.{first_of, items-length}
-use Rattle.refusals.specs.Fits.{ParamsAt, Within, TypeFit, ArgumentsFit}
+use Rattle.refusals.specs.Fits.{params_of, ParamsAt, Within, TypeFit, ArgumentsFit}
 use Rattle.refusals.specs.declared.fits.Params.{Params}
 use Rattle.refusals.proofs.WalkLaws as walks
 use Rattle.refusals.proofs.WalkLaws.{fewer-still, rest-fewer}
+use Rattle.std.specs.Prelude.{Result, Ok, Err}
+use Rattle.repr.specs.declared.Node.{Node}
+use Rattle.repr.specs.declared.Node.TheVariants as nodes
+use Rattle.repr.specs.declared.Argument.{Argument}
+use Rattle.repr.specs.declared.Argument.TheVariants as arguments
+use Rattle.repr.specs.declared.Rest.{Rest}
+use Rattle.repr.specs.declared.refusal.Refusal.{Refusal}
 
 -- ---- A row, by number
 
@@ -81,33 +76,24 @@ module _ {s : List ℕ} {around : Params} (f : syntax.Kind → Bool) (ps : List 
   there : ItemAt param k (rest s around.declared) ps absent
   there = item-at param around.count k (rest s around.declared) absent (omega arith) p.stand.reads
 
-  module _ (d : EndStep) (m : end_says s d ≡ ended (items k param (rest s around.declared))) where
-    pub bound_short : {l : ℕ} → d ≡ end_step.Refused l → false ≡ bound_fits f ps b
+  module _ (d : Result Cursor Refusal) (m : end_says s d ≡ ended (items k param (rest s around.declared))) where
+    pub bound_short : {l : Refusal} → d ≡ Err l → false ≡ bound_fits f ps b
     bound_short e = absurd (clash (sym (ap (end_says s) e) ∙ m ∙ ap ended there.first))
 
-    module _ {c : Cursor} (e : d ≡ end_step.Ended c) (q : ParameterStep) (o : parameter_says s q ≡ param (rest s c)) where
+    module _ {c : Cursor} (e : d ≡ Ok c) (q : Result (StructParameter × Cursor) Refusal) (o : says parameter_of s q ≡ param (rest s c)) where
       -- the parameter that is meant
-      meant : parameter_says s q ≡ read (get_or ps k absent) there.over
+      meant : says parameter_of s q ≡ read (get_or ps k absent) there.over
       meant = o ∙ rw (← end-over (items k param) (rest s around.declared) there.first (sym m ∙ ap (end_says s) e)) there.item
 
-      pub bound_none : {l : ℕ} → q ≡ parameter_step.Refused l → false ≡ bound_fits f ps b
-      bound_none g = absurd (clash (sym (ap (parameter_says s) g) ∙ meant))
+      pub bound_none : {l : Refusal} → q ≡ Err l → false ≡ bound_fits f ps b
+      bound_none g = absurd (clash (sym (ap (says parameter_of s) g) ∙ meant))
 
-      pub bound_kind : {x : StructParameter} {next : Cursor} {z : Bool} → q ≡ parameter_step.Parameter x next → z ≡ f (kind_of x.kind) → z ≡ bound_fits f ps b
+      pub bound_kind : {x : StructParameter} {next : Cursor} {z : Bool} → q ≡ Ok (x, next) → z ≡ f (kind_of x.kind) → z ≡ bound_fits f ps b
       bound_kind {x} {z = z} g r =
           let n = size p in
           let l : ltb b (length ps) ≡ true = lt-ltb b (length ps) (omega arith) in
           let j : length ps - suc b ≡ k = omega arith in
-          rw (l, j) (carry (λ (y : Param) v. z ≡ f y.kind) (sym (ap (parameter_says s) g) ∙ meant) r)
-
--- ---- A region
-
-module _ {region : repr_region.Region} (ps : List Param) where
-  pub free_fits : {n : RegionName} → region ≡ regions.Free n → true ≡ region_fits ps (region_of region)
-  free_fits e = rw e
-
-  pub bound_region : {b : ℕ} {r : Bool} → region ≡ regions.Bound b → r ≡ bound_fits is_region_kind ps b → r ≡ region_fits ps (region_of region)
-  bound_region e i = i ∙ rw e
+          rw (l, j) (carry (λ (y : Param) v. z ≡ f y.kind) (sym (ap (says parameter_of s) g) ∙ meant) r)
 
 -- ---- The parameters of a struct
 
@@ -131,45 +117,45 @@ args-differ ss ps (TypeArg t g) (d ∷ ds) h = rw (args-differ ss ps g ds (λ e.
 
 -- ---- A type
 
-module _ {s t : List ℕ} {h : Head} {around : Params} {at left : ℕ} where
-  pub fit_none : {k : ℕ} → left ≡ 0 → TypeFit s t h around at left (Refused k)
+module _ {input : Record} {around : Params} {at left : ℕ} where
+  pub fit_none : {k : Refusal} → left ≡ 0 → TypeFit input around at left (Err k)
   fit_none z = record { walks = λ j ps w. walks.type-none z; fewer = tt }
 
-  module _ {d : NodeStep} (m : NodeSays node s at d) where
-    pub fit_refused : {k l : ℕ} → d ≡ node_step.Refused k → TypeFit s t h around at left (Refused l)
+  module _ {d : Result Node Refusal} (m : NodeSays node input.bytes.now at d) where
+    pub fit_refused : {k l : Refusal} → d ≡ Err k → TypeFit input around at left (Err l)
     fit_refused e = record { walks = λ j ps w. walks.type-refused m e; fewer = tt }
 
-    pub fit-unit : {c : Cursor} → d ≡ node_step.Unit c → TypeFit s t h around at left (Ended (left - 1) c)
+    pub fit-unit : {c : Cursor} → d ≡ Ok (nodes.Unit c) → TypeFit input around at left (Ok (record { left = left - 1; next = c }))
     unfolding type_fits
     fit-unit e = record { walks = λ j ps w. walks.type-unit m e refl; fewer = omega arith }
 
-    module _ {b : ℕ} {c : Cursor} (e : d ≡ node_step.Bound b c) {x : Bool} (f : (ps : List Param) → ParamsAt s around ps → x ≡ bound_fits is_type_kind ps b) where
-      pub fit_bound : x ≡ true → TypeFit s t h around at left (Ended (left - 1) c)
+    module _ {b : ℕ} {c : Cursor} (e : d ≡ Ok (nodes.Bound b c)) {x : Bool} (f : (ps : List Param) → ParamsAt input.bytes.now around ps → x ≡ bound_fits is_type_kind ps b) where
+      pub fit_bound : x ≡ true → TypeFit input around at left (Ok (record { left = left - 1; next = c }))
       unfolding type_fits
       fit_bound i = record { walks = λ j ps w. walks.type_bound m e (sym (f ps w.params) ∙ i); fewer = omega arith }
 
-      pub bound_unfit : {k : ℕ} → x ≡ false → TypeFit s t h around at left (Refused k)
+      pub bound_unfit : {k : Refusal} → x ≡ false → TypeFit input around at left (Err k)
       unfolding type_fits
       bound_unfit i = record { walks = λ j ps w. walks.bound_fails m e (sym (f ps w.params) ∙ i); fewer = tt }
 
-    module _ {q : BorrowKind} {o : repr_region.Region} {c : Cursor} (e : d ≡ node_step.Ref q o c) {x : Bool} (f : (ps : List Param) → ParamsAt s around ps → x ≡ region_fits ps (region_of o)) where
-      pub fit_ref : {r : NodesStep} → x ≡ true → (left ≡ 0 → ⊥) → TypeFit s t h around c.at (left - 1) r → TypeFit s t h around at left r
+    module _ {q : BorrowKind} {o : repr_region.Region} {c : Cursor} (e : d ≡ Ok (nodes.Ref q o c)) {x : Bool} (f : (ps : List Param) → ParamsAt input.bytes.now around ps → x ≡ region_fits ps (region_of o)) where
+      pub fit_ref : {r : Result Rest Refusal} → x ≡ true → (left ≡ 0 → ⊥) → TypeFit input around c.at (left - 1) r → TypeFit input around at left r
       unfolding type_fits
       fit_ref {r} i z v = record { walks = λ j ps w. walks.type_ref m e z (λ u. rw (← f ps w.params, i)) (v.walks j ps w); fewer = fewer-still r v.fewer (omega arith) }
 
-      pub ref_unfit : {k : ℕ} → x ≡ false → TypeFit s t h around at left (Refused k)
+      pub ref_unfit : {k : Refusal} → x ≡ false → TypeFit input around at left (Err k)
       unfolding type_fits
       ref_unfit i = record { walks = λ j ps w. walks.ref_fails m e (λ u. rw (← f ps w.params, i)); fewer = tt }
 
-    module _ {name : StructName} {n : ℕ} {c : Cursor} (e : d ≡ node_step.Struct name n c) {p : repr_struct.StructDecl} (f : (j : Job) → Layout s t h j → Declared s (struct_of j.structs name.0) p) where
-      pub fit_struct : {r : NodesStep} → p.parameters ≡ n → (left ≡ 0 → ⊥) → ArgumentsFit s t h around p.declared c.at n (left - 1) r → TypeFit s t h around at left r
+    module _ {name : StructName} {n : ℕ} {c : Cursor} (e : d ≡ Ok (nodes.Struct name n c)) {p : repr_struct.StructDecl} (f : (j : Job) → Holds input j → Declared input.bytes.now (struct_of j.structs name.0) p) where
+      pub fit_struct : {r : Result Rest Refusal} → p.parameters ≡ n → (left ≡ 0 → ⊥) → ArgumentsFit input around p.declared c.at n (left - 1) r → TypeFit input around at left r
       unfolding type_fits
       fit_struct {r} i z v = record {
         walks = λ j ps w. walks.type_struct m e z (λ g. refl) (v.walks j ps (struct_of j.structs name.0).params w (rw (← i) (f j w.layout).params));
         fewer = fewer-still r v.fewer (omega arith);
       }
 
-      pub count_unfit : {k : ℕ} → (p.parameters ≡ n → ⊥) → TypeFit s t h around at left (Refused k)
+      pub count_unfit : {k : Refusal} → (p.parameters ≡ n → ⊥) → TypeFit input around at left (Err k)
       unfolding type_fits
       count_unfit i = record {
         walks = λ j ps w. walks.struct_fails m e (λ g l. args-differ j.structs ps g (struct_of j.structs name.0).params (λ o. i (sym (declared-size (f j w.layout)) ∙ sym o ∙ l)));
@@ -184,10 +170,10 @@ record ParamFirst (s : List ℕ) (n : ℕ) (ds : List Param) (x : StructParamete
   same : ds ≡ parameter_of x ∷ others
   stand : Stands (items (n - 1) param) others (rest s next)
 
-param-first : {s : List ℕ} {n : ℕ} {ds : List Param} (c : Cursor) {q : ParameterStep} {x : StructParameter} {next : Cursor} → (n ≡ 0 → ⊥) → parameter_says s q ≡ param (rest s c) → q ≡ parameter_step.Parameter x next → Stands (items n param) ds (rest s c) → ParamFirst s n ds x next
+param-first : {s : List ℕ} {n : ℕ} {ds : List Param} (c : Cursor) {q : Result (StructParameter × Cursor) Refusal} {x : StructParameter} {next : Cursor} → (n ≡ 0 → ⊥) → says parameter_of s q ≡ param (rest s c) → q ≡ Ok (x, next) → Stands (items n param) ds (rest s c) → ParamFirst s n ds x next
 param-first {s} {n} {ds} c {q} {x} {next} z m e d =
     let w = first_of param n (rest s c) z d.reads in
-    let v = carry (λ y o. (ds ≡ y ∷ w.others) × (items (n - 1) param o ≡ read w.others d.over)) (sym w.first ∙ told (parameter_says s) m e) (w.same, w.reads) in
+    let v = carry (λ y o. (ds ≡ y ∷ w.others) × (items (n - 1) param o ≡ read w.others d.over)) (sym w.first ∙ told (says parameter_of s) m e) (w.same, w.reads) in
     record { others = w.others; same = v.0; stand = record { over = d.over; reads = v.1 } }
 
 module _ (ss : List StructDecl) (ps : List Param) where
@@ -205,20 +191,20 @@ module _ (ss : List StructDecl) (ps : List Param) where
   unfolding args_fit
   type-first u g e k = rw (e, k)
 
-module _ {s t : List ℕ} {h : Head} {around : Params} {declared : Cursor} {n left : ℕ} where
-  pub fit_arguments_none : (c : Cursor) → n ≡ 0 → ArgumentsFit s t h around declared c.at n left (Ended left c)
-  fit_arguments_none c z = record { walks = λ j ps ds w d. walks.args_none c z (no_args j.structs ps ds (items-length param n (rest s declared) d.reads ∙ z)); fewer = le_refl left }
+module _ {input : Record} {around : Params} {declared : Cursor} {n left : ℕ} where
+  pub fit_arguments_none : (c : Cursor) → n ≡ 0 → ArgumentsFit input around declared c.at n left (Ok (record { left = left; next = c }))
+  fit_arguments_none c z = record { walks = λ j ps ds w d. walks.args_none c z (no_args j.structs ps ds (items-length param n (rest input.bytes.now declared) d.reads ∙ z)); fewer = le_refl left }
 
-  module _ (z : n ≡ 0 → ⊥) {at : ℕ} {q : ParameterStep} (m : parameter_says s q ≡ param (rest s declared)) where
-    pub parameter_refused : {k l : ℕ} → q ≡ parameter_step.Refused k → ArgumentsFit s t h around declared at n left (Refused l)
-    parameter_refused e = record { walks = λ j ps ds w d. absurd (let x = first_of param n (rest s declared) z d.reads in clash (sym (told (parameter_says s) m e) ∙ x.first)); fewer = tt }
+  module _ (z : n ≡ 0 → ⊥) {at : ℕ} {q : Result (StructParameter × Cursor) Refusal} (m : says parameter_of input.bytes.now q ≡ param (rest input.bytes.now declared)) where
+    pub parameter_refused : {k l : Refusal} → q ≡ Err k → ArgumentsFit input around declared at n left (Err l)
+    parameter_refused e = record { walks = λ j ps ds w d. absurd (let x = first_of param n (rest input.bytes.now declared) z d.reads in clash (sym (told (says parameter_of input.bytes.now) m e) ∙ x.first)); fewer = tt }
 
-    module _ {x : StructParameter} {next : Cursor} (e : q ≡ parameter_step.Parameter x next) {d : ArgumentStep} (a : ArgumentSays s at d) where
-      pub fit_argument_refused : {k l : ℕ} → d ≡ argument_step.Refused k → ArgumentsFit s t h around declared at n left (Refused l)
+    module _ {x : StructParameter} {next : Cursor} (e : q ≡ Ok (x, next)) {d : Result Argument Refusal} (a : ArgumentSays input.bytes.now at d) where
+      pub fit_argument_refused : {k l : Refusal} → d ≡ Err k → ArgumentsFit input around declared at n left (Err l)
       fit_argument_refused i = record { walks = λ j ps ds w o. walks.args-refused a z i; fewer = tt }
 
-      module _ {o : repr_region.Region} {c : Cursor} (i : d ≡ argument_step.Region o c) {b : Bool} (f : (ps : List Param) → ParamsAt s around ps → b ≡ is_region_kind (kind_of x.kind) && region_fits ps (region_of o)) where
-        pub region_unfit : {k : ℕ} → b ≡ false → ArgumentsFit s t h around declared at n left (Refused k)
+      module _ {o : repr_region.Region} {c : Cursor} (i : d ≡ Ok (arguments.Region o c)) {b : Bool} (f : (ps : List Param) → ParamsAt input.bytes.now around ps → b ≡ is_region_kind (kind_of x.kind) && region_fits ps (region_of o)) where
+        pub region_unfit : {k : Refusal} → b ≡ false → ArgumentsFit input around declared at n left (Err k)
         unfolding args_fit
         region_unfit k = record {
           walks = λ j ps ds w o.
@@ -227,7 +213,7 @@ module _ {s t : List ℕ} {h : Head} {around : Params} {declared : Cursor} {n le
           fewer = tt;
         }
 
-        pub fit-region : {r : NodesStep} → b ≡ true → ArgumentsFit s t h around next c.at (n - 1) left r → ArgumentsFit s t h around declared at n left r
+        pub fit-region : {r : Result Rest Refusal} → b ≡ true → ArgumentsFit input around next c.at (n - 1) left r → ArgumentsFit input around declared at n left r
         fit-region k v = record {
           walks = λ j ps ds w o.
               let y = param-first declared z m e o in
@@ -235,43 +221,39 @@ module _ {s t : List ℕ} {h : Head} {around : Params} {declared : Cursor} {n le
           fewer = v.fewer;
         }
 
-      module _ {c : Cursor} (i : d ≡ argument_step.Type c) {b : Bool} (f : b ≡ is_type_kind (kind_of x.kind)) where
-        pub kind_unfit : {k : ℕ} → b ≡ false → ArgumentsFit s t h around declared at n left (Refused k)
+      module _ {c : Cursor} (i : d ≡ Ok (arguments.Type c)) where
+        pub kind_unfit : {k : Refusal} → is_type_kind (kind_of x.kind) ≡ false → ArgumentsFit input around declared at n left (Err k)
         unfolding args_fit
         kind_unfit k = record {
           walks = λ j ps ds w o.
               let y = param-first declared z m e o in
-              walks.type-fails a z i (λ u g. rw (y.same, ← f, k));
+              walks.type-fails a z i (λ u g. rw (y.same, k));
           fewer = tt;
         }
 
-        module _ (k : b ≡ true) {p : NodesStep} (v : TypeFit s t h around c.at left p) where
-          pub type_unfit : {l k' : ℕ} → p ≡ Refused l → ArgumentsFit s t h around declared at n left (Refused k')
+        module _ (k : is_type_kind (kind_of x.kind) ≡ true) {p : Result Rest Refusal} (v : TypeFit input around c.at left p) where
+          pub type_unfit : {l k' : Refusal} → p ≡ Err l → ArgumentsFit input around declared at n left (Err k')
           type_unfit l = record {
             walks = λ j ps ds w o.
                 let y = param-first declared z m e o in
-                walks.first-fails a z i (λ g. args_fit j.structs ps g y.others) (λ u g. type-first j.structs ps u g y.same (sym f ∙ k)) (v.walks j ps w) l;
+                walks.first-fails a z i (λ g. args_fit j.structs ps g y.others) (λ u g. type-first j.structs ps u g y.same k) (v.walks j ps w) l;
             fewer = tt;
           }
 
-          pub fit-type : {rem : ℕ} {to : Cursor} {r : NodesStep} → p ≡ Ended rem to → ArgumentsFit s t h around next to.at (n - 1) rem r → ArgumentsFit s t h around declared at n left r
+          pub fit-type : {to : Rest} {r : Result Rest Refusal} → p ≡ Ok to → ArgumentsFit input around next to.next.at (n - 1) to.left r → ArgumentsFit input around declared at n left r
           fit-type {r = r} l u = record {
             walks = λ j ps ds w o.
                 let y = param-first declared z m e o in
-                walks.args-type a z i (λ g. args_fit j.structs ps g y.others) (λ u g. type-first j.structs ps u g y.same (sym f ∙ k)) (v.walks j ps w) l (u.walks j ps y.others w y.stand);
+                walks.args-type a z i (λ g. args_fit j.structs ps g y.others) (λ u g. type-first j.structs ps u g y.same k) (v.walks j ps w) l (u.walks j ps y.others w y.stand);
             fewer = fewer-still r u.fewer (rest-fewer v.fewer l);
           }
 
 -- ---- Parts
 
 -- the parameters of a struct, around its fields
-pub around_fields : {s t : List ℕ} {h : Head} {j : Job} {x : StructDecl} {d : repr_struct.StructDecl} → Layout s t h j → Declared s x d → Within s t h (record { declared = d.declared; count = d.parameters }) j x.params
+pub around_fields : {input : Record} {j : Job} {x : StructDecl} {d : repr_struct.StructDecl} → Holds input j → Declared input.bytes.now x d → Within input (params_of d) j x.params
 around_fields w v = record { layout = w; params = record { stand = v.params } }
 
 -- no parameters around
-pub alone : {s t : List ℕ} {h : Head} {j : Job} (c : Cursor) → Layout s t h j → Within s t h (record { declared = c; count = 0 }) j []
+pub alone : {input : Record} {j : Job} (c : Cursor) → Holds input j → Within input (record { declared = c; count = 0 }) j []
 alone c w = record { layout = w; params = no_params c }
-
-pub types_are : (j : Job) {x y : Bool} → x ≡ fields_fit j → y ≡ variables_fit j → x && y ≡ types_fit j
-unfolding types_fit
-types_are j e i = rw (e, i)

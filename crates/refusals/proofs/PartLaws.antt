@@ -2,82 +2,66 @@
 use mathlib.Core.Path.{◌≡◌, refl, sym, ap, ◌∙◌}
 use mathlib.Core.Bool.{Bool, true, false, ◌&&◌, and-true, not}
 use mathlib.Core.List.{List, [], ◌∷◌, ◌++◌}
-use Prim.Native.Nat.{ℕ, zero, suc, ◌-◌, ◌≤◌, ◌<◌}
+use Prim.Native.Nat.{ℕ, zero, suc, ◌≤◌, ◌<◌}
 use native.Mathlib.Omega.{arith}
 use native.Mathlib.Decide.{dec_lt}
-use lib.ListN.{length, take, drop}
-use lib.Dec.{ltb, leb}
-use borrow.Author.Tests.{lt-ltb, le-ltb, le-leb, lt-leb, not-false}
+use lib.ListN.{length, take, drop, drop_of_length-le}
+use lib.Dec.{eqb, ltb, leb}
+use borrow.Author.Tests.{lt-ltb, ne_eqb}
 use Rattle.nll_spec.specs.Lists.{every, gather}
 use Rattle.nll_spec.specs.Syntax as syntax
 use Rattle.nll_spec.specs.Syntax.{Ty, Job}
 use Rattle.nll_spec.specs.Decode.{refused, read, Reader, done, byte, count, items, counted, max_outlived, field, type, path, action, block}
 use Rattle.nll_spec.specs.WellFormed.{type_named, field_named, path_named, action_named, structs_named, outlived_named, variables_named, successors_named, actions_named, named}
-use Rattle.repr.specs.Reading.{rest, byte_says, path_says}
-use Rattle.repr.specs.Parts.{field_says, action_says, sources_of, block_of, block_says}
+use Rattle.repr.specs.Reading.{rest, says, itself}
+use Rattle.repr.specs.declared.refusal.Refusal.{Refusal}
+use Rattle.std.specs.Prelude.{Result, Ok, Err}
+use Rattle.repr.specs.Parts.{field_says, action_read, sources_of, block_of, block_says}
 use Rattle.repr.specs.declared.Cursor.{Cursor}
 use Rattle.repr.specs.declared.FieldName.{FieldName}
-use Rattle.repr.specs.declared.Path.{Path}
 use Rattle.repr.specs.declared.Action.{Action}
 use Rattle.repr.specs.declared.Action.TheVariants.{Noop, Init, Borrow, Assign, Constraint, Use, Drop, StorageDead}
 use Rattle.repr.specs.declared.BasicBlockData.{BasicBlockData}
-use Rattle.repr.specs.declared.EndStep.{EndStep}
-use Rattle.repr.specs.declared.EndStep.TheVariants.{Ended, Refused}
-use Rattle.repr.specs.declared.ByteStep.{ByteStep}
-use Rattle.repr.specs.declared.ByteStep.TheVariants as byte_step
-use Rattle.repr.specs.declared.FieldStep.{FieldStep}
-use Rattle.repr.specs.declared.FieldStep.TheVariants as field_step
-use Rattle.repr.specs.declared.PathStep.{PathStep}
-use Rattle.repr.specs.declared.PathStep.TheVariants as path_step
-use Rattle.repr.specs.declared.ActionStep.{ActionStep}
-use Rattle.repr.specs.declared.ActionStep.TheVariants as action_step
-use Rattle.repr.specs.declared.BlockStep.{BlockStep}
-use Rattle.repr.specs.declared.BlockStep.TheVariants as block_step
 use Rattle.repr.proofs.ReadLaws.{told, step, bytes-at, bytes-short}
 use Rattle.record.specs.Layout.{Layout}
 use Rattle.record.specs.declared.Head.{Head}
-use Rattle.repr.proofs.SpellLaws.{clash, carry, then, byte-read}
-use Rattle.repr.proofs.ItemLaws.{byte-none, take-first}
+use Rattle.repr.proofs.SpellLaws.{clash, carry, then}
 use Rattle.refusals.specs.Tests.{Sized, pass, pass_says, Passes, Tested, all_below, own_named, block_named, blocks_named}
 
 -- ---- What was read
 
 module _ {A : Type 0} {m : Reader A} {f : A → Bool} {s : List ℕ} {at : ℕ} where
-  pub none_passes : {k : ℕ} {r : EndStep} → m (drop at s) ≡ refused k → Passes m f s at r
+  pub none_passes : {k : ℕ} {r : Result Cursor Refusal} → m (drop at s) ≡ refused k → Passes m f s at r
   none_passes e = record { says = λ x bs i. absurd (clash (sym e ∙ i)) }
 
   pub none_tested : {k : ℕ} {r : Bool} → m (drop at s) ≡ refused k → Tested m f s at r
   none_tested e = record { says = λ x bs i. absurd (clash (sym e ∙ i)) }
 
-  pub read-passes : {x : A} {c : Cursor} → m (drop at s) ≡ read x (rest s c) → f x ≡ true → Passes m f s at (Ended c)
-  read-passes {x} {c} e k = record { says = λ y bs i. carry (λ z o. pass_says s (Ended c) ≡ pass (f z) o) (sym e ∙ i) (rw k) }
+  pub read-passes : {x : A} {c : Cursor} → m (drop at s) ≡ read x (rest s c) → f x ≡ true → Passes m f s at (Ok c)
+  read-passes {x} {c} e k = record { says = λ y bs i. carry (λ z o. pass_says s (Ok c) ≡ pass (f z) o) (sym e ∙ i) (rw k) }
 
-  pub read-fails : {x : A} {bs : List ℕ} {l : ℕ} → m (drop at s) ≡ read x bs → f x ≡ false → Passes m f s at (Refused l)
-  read-fails {l = l} e k = record { says = λ y o i. carry (λ z p. pass_says s (Refused l) ≡ pass (f z) p) (sym e ∙ i) (rw k) }
+  pub read-fails : {x : A} {bs : List ℕ} {l : Refusal} → m (drop at s) ≡ read x bs → f x ≡ false → Passes m f s at (Err l)
+  read-fails {l = l} e k = record { says = λ y o i. carry (λ z p. pass_says s (Err l) ≡ pass (f z) p) (sym e ∙ i) (rw k) }
 
 -- ---- A field
 
-module _ {f : syntax.Field → Bool} {s : List ℕ} {at : ℕ} {d : FieldStep} (m : field_says s d ≡ field (drop at s)) where
-  pub field-refused : {k : ℕ} {r : EndStep} → d ≡ field_step.Refused k → Passes field f s at r
-  field-refused e = none_passes (told (field_says s) m e)
+module _ {f : syntax.Field → Bool} {s : List ℕ} {at : ℕ} (n : FieldName) (c : Cursor) (m : field_says s (Ok (n, c)) ≡ field (drop at s)) where
+  -- whatever its type is
+  pub field-fails : {l : Refusal} → ((t : Ty) → f (record { number = n.0; type = t }) ≡ false) → Passes field f s at (Err l)
+  unfolding done
+  field-fails {l} g = record {
+    says = λ x bs i.
+        let w = then type _ (rest s c) (m ∙ i) in
+        carry (λ y o. pass_says s (Err l) ≡ pass (f y) o) w.last (rw (g w.got));
+  }
 
-  module _ {n : FieldName} {c : Cursor} (e : d ≡ field_step.Field n c) where
-    -- whatever its type is
-    pub field-fails : {l : ℕ} → ((t : Ty) → f (record { number = n.0; type = t }) ≡ false) → Passes field f s at (Refused l)
-    unfolding done
-    field-fails {l} g = record {
-      says = λ x bs i.
-          let w = then type _ (rest s c) (sym (told (field_says s) m e) ∙ i) in
-          carry (λ y o. pass_says s (Refused l) ≡ pass (f y) o) w.last (rw (g w.got));
-    }
-
-    pub field-type : {tests : Ty → Bool} {r : EndStep} → ((t : Ty) → f (record { number = n.0; type = t }) ≡ tests t) → Passes type tests s c.at r → Passes field f s at r
-    unfolding done
-    field-type {tests} {r} g v = record {
-      says = λ x bs i.
-          let w = then type _ (rest s c) (sym (told (field_says s) m e) ∙ i) in
-          carry (λ y o. pass_says s r ≡ pass (f y) o) w.last (rw (g w.got) (v.says w.got w.mid w.first));
-    }
+  pub field-type : {tests : Ty → Bool} {r : Result Cursor Refusal} → ((t : Ty) → f (record { number = n.0; type = t }) ≡ tests t) → Passes type tests s c.at r → Passes field f s at r
+  unfolding done
+  field-type {tests} {r} g v = record {
+    says = λ x bs i.
+        let w = then type _ (rest s c) (m ∙ i) in
+        carry (λ y o. pass_says s r ≡ pass (f y) o) w.last (rw (g w.got) (v.says w.got w.mid w.first));
+  }
 
 module _ (j : Job) (n : ℕ) (t : Ty) where
   pub field_zero : n ≡ 0 → field_named j (record { number = n; type = t }) ≡ false
@@ -88,33 +72,12 @@ module _ (j : Job) (n : ℕ) (t : Ty) where
 
 -- ---- Bytes below a limit
 
-pub record Below (limit : ℕ) (all s : List ℕ) (at left : ℕ) : Type 0 where
-  pub same : all_below limit all ≡ all_below limit (take left (drop at s))
-
 below_nothing : (limit n : ℕ) → all_below limit (take n []) ≡ true
 below_nothing limit zero = refl
 below_nothing limit (suc n) = refl
 
-pub below-start : (limit : ℕ) (s : List ℕ) (at n : ℕ) → Below limit (take n (drop at s)) s at n
-below-start limit s at n = record { same = refl }
-
-module _ {limit : ℕ} {all s : List ℕ} {at left : ℕ} (g : Below limit all s at left) where
-  pub below_end : left ≡ 0 → true ≡ all_below limit all
-  below_end z = rw (g.same, z)
-
-  module _ {d : ByteStep} (m : byte_says s d ≡ byte (drop at s)) where
-    pub below_out : {k : ℕ} → d ≡ byte_step.Refused k → true ≡ all_below limit all
-    below_out e = rw (g.same, byte-none (drop at s) (told (byte_says s) m e), below_nothing limit left)
-
-    module _ {x : ℕ} {c : Cursor} (e : d ≡ byte_step.Byte x c) (z : left ≡ 0 → ⊥) where
-      first : all_below limit all ≡ ltb x limit && all_below limit (take (left - 1) (rest s c))
-      first = rw (g.same, byte-read (drop at s) (told (byte_says s) m e), take-first left x (rest s c) z)
-
-      pub below_fails : limit ≤ x → false ≡ all_below limit all
-      below_fails h = rw (first, le-ltb x limit h)
-
-      pub below_more : x < limit → Below limit all s c.at (left - 1)
-      below_more h = record { same = rw (first, lt-ltb x limit h) }
+pub below_out : (limit n : ℕ) (s : List ℕ) (at : ℕ) → length s < at → true ≡ all_below limit (take n (drop at s))
+below_out limit n s at h = let l : length s ≤ at = omega arith in rw (drop_of_length-le s l, below_nothing limit n)
 
 bytes-are : (n : ℕ) (bs : List ℕ) {xs end : List ℕ} → items n byte bs ≡ read xs end → xs ≡ take n bs
 bytes-are n bs {xs} {end} e = go (dec_lt (length bs) n)
@@ -123,34 +86,21 @@ bytes-are n bs {xs} {end} e = go (dec_lt (length bs) n)
     go (yes h) = absurd (clash (sym (bytes-short n bs h) ∙ e))
     go (no h) = let i = sym e ∙ bytes-at n bs (omega arith) in cc
 
-module _ (limit : ℕ) {s : List ℕ} {at : ℕ} {d : ByteStep} (m : byte_says s d ≡ count 0 max_outlived (drop at s)) where
-  pub outlived_refused : {k : ℕ} {r : Bool} → d ≡ byte_step.Refused k → Tested (counted max_outlived byte) (all_below limit) s at r
+module _ (limit : ℕ) {s : List ℕ} {at : ℕ} {d : Result (ℕ × Cursor) Refusal} (m : says itself s d ≡ count 0 max_outlived (drop at s)) where
+  pub outlived_refused : {k : Refusal} {r : Bool} → d ≡ Err k → Tested (counted max_outlived byte) (all_below limit) s at r
   unfolding counted
-  outlived_refused e = record { says = λ xs bs i. absurd (let w = then (count 0 max_outlived) _ (drop at s) i in clash (sym (told (byte_says s) m e) ∙ w.first)) }
+  outlived_refused e = record { says = λ xs bs i. absurd (let w = then (count 0 max_outlived) _ (drop at s) i in clash (sym (told (says itself s) m e) ∙ w.first)) }
 
-  pub outlived_row : {n : ℕ} {c : Cursor} {r : Bool} → d ≡ byte_step.Byte n c → r ≡ all_below limit (take n (rest s c)) → Tested (counted max_outlived byte) (all_below limit) s at r
+  pub outlived_row : {n : ℕ} {c : Cursor} {r : Bool} → d ≡ Ok (n, c) → r ≡ all_below limit (take n (rest s c)) → Tested (counted max_outlived byte) (all_below limit) s at r
   unfolding counted
   outlived_row {n} {c} e f = record {
     says = λ xs bs i.
-        let w = sym (step (count 0 max_outlived) _ (drop at s) (told (byte_says s) m e)) ∙ i in
+        let w = sym (step (count 0 max_outlived) _ (drop at s) (told (says itself s) m e)) ∙ i in
         f ∙ ap (all_below limit) (sym (bytes-are n (rest s c) w));
   }
 
 pub outlived_declared : {h : Head} {j : Job} {s : List ℕ} {at : ℕ} {r : Bool} → Sized h j → Tested (counted max_outlived byte) (all_below h.declared) s at r → Tested (counted max_outlived byte) (all_below (length j.outlives)) s at r
 outlived_declared z v = rw z.declared v
-
--- ---- A path
-
-module _ {h : Head} {s : List ℕ} {at : ℕ} {d : PathStep} (m : path_says s d ≡ path (drop at s)) where
-  pub path-refused : {k : ℕ} {r : EndStep} → d ≡ path_step.Refused k → (j : Job) → Sized h j → Passes path (path_named j) s at r
-  path-refused e j z = none_passes (told (path_says s) m e)
-
-  module _ {p : Path} {c : Cursor} {b : Bool} (e : d ≡ path_step.Path p c) (i : b ≡ ltb p.base.0 h.variables) (j : Job) (z : Sized h j) where
-    pub path-passes : b ≡ true → Passes path (path_named j) s at (Ended c)
-    path-passes k = read-passes (told (path_says s) m e) (rw (z.variables, ← i) k)
-
-    pub path-fails : {l : ℕ} → b ≡ false → Passes path (path_named j) s at (Refused l)
-    path-fails k = read-fails (told (path_says s) m e) (rw (z.variables, ← i) k)
 
 -- ---- An action
 
@@ -166,7 +116,7 @@ module _ {h : Head} {j : Job} (z : Sized h j) (s : List ℕ) where
   unfolding items done
   alone {a} {c} n k e = carry (λ x o. ActionIs h j s a c x o) e (record { sources = []; reads = rw n; same = k ∙ sym (and-true (own_named h a)) })
 
-  pub action-is : (a : Action) (c : Cursor) {x : syntax.Action} {bs : List ℕ} → action_says s (action_step.Action a c) ≡ read x bs → ActionIs h j s a c x bs
+  pub action-is : (a : Action) (c : Cursor) {x : syntax.Action} {bs : List ℕ} → action_read s a c ≡ read x bs → ActionIs h j s a c x bs
   unfolding action_named done
   action-is Noop c e = alone refl refl e
   action-is (Init dest n) c e =
@@ -179,34 +129,30 @@ module _ {h : Head} {j : Job} (z : Sized h j) (s : List ℕ) where
   action-is (Drop p) c e = alone refl (rw z.variables) e
   action-is (StorageDead v) c e = alone refl (rw z.variables) e
 
-module _ {h : Head} {s : List ℕ} {at : ℕ} {d : ActionStep} (m : action_says s d ≡ action (drop at s)) where
-  pub action-refused : {k : ℕ} {r : EndStep} → d ≡ action_step.Refused k → (j : Job) → Sized h j → Passes action (action_named j) s at r
-  action-refused e j z = none_passes (told (action_says s) m e)
+module _ {h : Head} {s : List ℕ} {at : ℕ} (a : Action) (c : Cursor) {b : Bool} (m : action_read s a c ≡ action (drop at s)) (i : b ≡ own_named h a) (j : Job) (z : Sized h j) where
+  pub action-fails : {l : Refusal} → b ≡ false → Passes action (action_named j) s at (Err l)
+  action-fails k = record { says = λ x bs f. let w = action-is z s a c (m ∙ f) in rw (w.same, ← i, k) }
 
-  module _ {a : Action} {c : Cursor} {b : Bool} (e : d ≡ action_step.Action a c) (i : b ≡ own_named h a) (j : Job) (z : Sized h j) where
-    pub action-fails : {l : ℕ} → b ≡ false → Passes action (action_named j) s at (Refused l)
-    action-fails k = record { says = λ x bs f. let w = action-is z s a c (sym (told (action_says s) m e) ∙ f) in rw (w.same, ← i, k) }
-
-    pub action_sources : {n : ℕ} {r : EndStep} → b ≡ true → n ≡ sources_of a → Passes (items n path) (every (path_named j)) s c.at r → Passes action (action_named j) s at r
-    action_sources {n} {r} k l v = record {
-      says = λ x bs f.
-          let w = action-is z s a c (sym (told (action_says s) m e) ∙ f) in
-          rw (w.same, ← i, k) (v.says w.sources bs (rw l w.reads));
-    }
+  pub action_sources : {n : ℕ} {r : Result Cursor Refusal} → b ≡ true → n ≡ sources_of a → Passes (items n path) (every (path_named j)) s c.at r → Passes action (action_named j) s at r
+  action_sources {n} {r} k l v = record {
+    says = λ x bs f.
+        let w = action-is z s a c (m ∙ f) in
+        rw (w.same, ← i, k) (v.says w.sources bs (rw l w.reads));
+  }
 
 -- ---- A block
 
-module _ {h : Head} {s : List ℕ} {at : ℕ} {d : BlockStep} (m : block_says s d ≡ block (drop at s)) where
-  pub block_refused : {k : ℕ} {r : Bool} → d ≡ block_step.Refused k → (j : Job) → Sized h j → Tested block (block_named j) s at r
+module _ {h : Head} {s : List ℕ} {at : ℕ} {d : Result BasicBlockData Refusal} (m : block_says s d ≡ block (drop at s)) where
+  pub block_refused : {k : Refusal} {r : Bool} → d ≡ Err k → (j : Job) → Sized h j → Tested block (block_named j) s at r
   block_refused e j z = none_tested (told (block_says s) m e)
 
-  module _ {x : BasicBlockData} {b : Bool} (e : d ≡ block_step.Block x) (i : b ≡ all_below h.blocks (take x.successors (rest s x.targets))) (j : Job) (z : Sized h j) where
-    pub block-fails : b ≡ false → Tested block (block_named j) s at false
+  module _ {x : BasicBlockData} {b : Bool} (e : d ≡ Ok x) (i : b ≡ all_below h.blocks (take x.successors (rest s x.targets))) (j : Job) (z : Sized h j) where
+    pub block-fails : b ≡ false → Tested block (block_named j) s at b
     unfolding block_of done
     block-fails k = record {
       says = λ y bs f.
           let w = then (items x.actions action) _ (rest s x.code) (sym (told (block_says s) m e) ∙ f) in
-          carry (λ y o. false ≡ block_named j y) w.last (rw (z.blocks, ← i, k));
+          k ∙ carry (λ y o. false ≡ block_named j y) w.last (rw (z.blocks, ← i, k));
     }
 
     pub block-actions : {r : Bool} → b ≡ true → Tested (items x.actions action) (every (action_named j)) s x.code.at r → Tested block (block_named j) s at r
@@ -265,29 +211,14 @@ named-is {h = h} {j = j} w =
     go : (p o v u c : Bool) {a a' b b' k : Bool} → a ≡ a' → b ≡ b' → k ≡ u && c → a && p && o && v && u && b && c ≡ a' && p && o && v && b' && k
     go p o v u c {a' = a'} {b' = b'} x y z = rw (x, y, z) (last (a' && p && o && v) u b' c)
 
--- what a test found that was not negated
-pub holds : {x z : Bool} → x ≡ z → not x ≡ false → z ≡ true
-holds {x} e k = sym e ∙ not-false x k
+-- a test, and one that is done where it passes
+module _ {v x z : Bool} (e : x ≡ z) where
+  pub both_done : {y r : Bool} → x ≡ true → v ≡ r → r ≡ y → v ≡ z && y
+  both_done k i f = i ∙ f ∙ rw (← e, k)
 
-module _ {s t : List ℕ} {h : Head} {j : Job} (w : Layout s t h j) where
-  pub undeclared : h.regions < h.declared → false ≡ named j
-  undeclared l = rw (named-is w, lt-leb h.declared h.regions l)
+  pub one-done : (y : Bool) → x ≡ false → v ≡ x → v ≡ z && y
+  one-done y k i = i ∙ rw (← e, k)
 
-  module _ (d : h.declared ≤ h.regions) where
-    pub structs_fail : {r : Bool} → r ≡ structs_named j → r ≡ false → false ≡ named j
-    structs_fail e k = rw (named-is w, le-leb h.declared h.regions d, ← e, k)
-
-    module _ (p : structs_named j ≡ true) where
-      pub outlives_fail : {r : Bool} → r ≡ outlived_named j → r ≡ false → false ≡ named j
-      outlives_fail e k = rw (named-is w, le-leb h.declared h.regions d, p, ← e, k)
-
-      module _ (o : outlived_named j ≡ true) where
-        pub variables_fail : {r : Bool} → r ≡ variables_named j → r ≡ false → false ≡ named j
-        variables_fail e k = rw (named-is w, le-leb h.declared h.regions d, p, o, ← e, k)
-
-        module _ (v : variables_named j ≡ true) where
-          pub no_block : h.blocks ≡ 0 → false ≡ named j
-          no_block z = rw (named-is w, le-leb h.declared h.regions d, p, o, v, z)
-
-          pub by_blocks : {r : Bool} → (h.blocks ≡ 0 → ⊥) → r ≡ blocks_named j → r ≡ named j
-          by_blocks z e = let l : ltb 0 h.blocks ≡ true = lt-ltb 0 h.blocks (omega arith) in e ∙ sym (rw (named-is w, le-leb h.declared h.regions d, p, o, v, l))
+pub some_block : (n : ℕ) → not (eqb n 0) ≡ ltb 0 n
+some_block zero = refl
+some_block (suc n) = rw (ne_eqb (suc n) 0 (λ e. omega arith), lt-ltb 0 (suc n) (omega arith))

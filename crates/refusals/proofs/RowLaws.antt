@@ -1,26 +1,37 @@
 -- Items in a row, tested one by one: a row that a cursor goes along, and a row of the table. Assumes nothing.
 use mathlib.Core.Path.{◌≡◌, refl, sym, ap, ◌∙◌}
-use mathlib.Core.Bool.{Bool, true, false, ◌&&◌}
-use mathlib.Core.List.{List, []}
-use Prim.Native.Nat.{ℕ, suc, ◌+◌, ◌-◌, ◌≤◌, ◌<◌}
+use mathlib.Core.Bool.{Bool, true, false, ◌&&◌, and-false}
+use mathlib.Core.List.{List, [], ◌∷◌}
+use Prim.Native.Nat.{ℕ, zero, suc, ◌+◌, ◌-◌, ◌<◌}
 use native.Mathlib.Omega.{arith}
-use native.Mathlib.Numerals.{add-one}
-use lib.ListN.{length, get_or, drop, drop_of_length-le}
-use lib.Seq.{drop-cons}
+use lib.ListN.{length, get_or, drop}
 use Rattle.nll_spec.specs.Lists.{every}
 use Rattle.nll_spec.specs.Syntax.{UnitTy, Field, StructDecl, Job}
-use Rattle.nll_spec.specs.Decode.{read, Reader, byte, items, counted, max_outlived, field, type, block}
+use Rattle.nll_spec.specs.Decode.{read, Reader, done, byte, items, counted, max_outlived, field, type, block}
 use Rattle.repr.specs.declared.Cursor.{Cursor}
 use Rattle.repr.specs.declared.StructDecl as declared
-use Rattle.repr.specs.declared.EndStep.{EndStep}
-use Rattle.repr.specs.declared.EndStep.TheVariants.{Ended, Refused}
+use Rattle.repr.specs.declared.refusal.Refusal.{Refusal}
+use Rattle.std.specs.Prelude.{Result, Ok, Err, is_ok}
 use Rattle.repr.specs.Stands.{Stands}
 use Rattle.record.specs.Layout.{Layout}
 use Rattle.record.specs.Access.{entry_in, Declared}
 use Rattle.record.specs.declared.Head.{Head}
 use Rattle.record.proofs.AccessLaws.{outlives-at, variable_at, block-at}
 use Rattle.repr.proofs.ItemLaws.{first_of, none_of}
-use Rattle.refusals.specs.Tests.{Sized, over, fails, pass, pass_says, is_ended, Passes, Tested}
+use Rattle.refusals.specs.Tests.{Sized, over, fails, pass, pass_says, Passes, Tested, ItemTested, no_block}
+use Rattle.refusals.specs.Rows.{Along, none, more, stop}
+use Rattle.repr.specs.Reading.{rest}
+use native.Mathlib.Numerals.{sub-one}
+use native.Mathlib.Nat.{zero-add}
+use denote.Param.Members.{Mut}
+use Rattle.std.specs.Prelude.{Option}
+use Rattle.std.specs.List.{list_all, range_with_len, FoldsTo, AllWithin, HoldsAt}
+use Rattle.std.specs.Fn.{Called}
+use Rattle.std.specs.Option.{MatchOption}
+use Rattle.std.specs.Bool.{MatchBool}
+use Rattle.std.specs.Iterator.{YieldsThen}
+use Rattle.std.proofs.lemmas.Iterator.{YieldsList, cases_from_all}
+use Rattle.std.proofs.lemmas.List.FromFn.{get_or-range_with_len, length-range_with_len}
 
 -- ---- What the answer tells of the test
 
@@ -37,81 +48,81 @@ told_over true q e = record { passes = refl; ends = cc }
 told_over false q e = absurd (let z : ◌≡◌ {A = ℕ} 0 1 = cc in omega arith)
 
 -- whether it passed, and no more
-pub only_test : {A : Type 0} {m : Reader A} {f : A → Bool} {s : List ℕ} {at : ℕ} {d : EndStep} {r : Bool} → Passes m f s at d → r ≡ is_ended d → Tested m f s at r
+pub only_test : {A : Type 0} {m : Reader A} {f : A → Bool} {s : List ℕ} {at : ℕ} {d : Result Cursor Refusal} {r : Bool} → Passes m f s at d → r ≡ is_ok d → Tested m f s at r
 only_test {f = f} {s = s} {d = d} {r = r} v i = record { says = λ x bs e. i ∙ go d (f x) bs (v.says x bs e) }
   where
-    go : (d : EndStep) (z : Bool) (bs : List ℕ) → pass_says s d ≡ pass z bs → is_ended d ≡ z
-    go (Ended c) z bs e = sym (told_over z bs e).passes
-    go (Refused k) z bs e = sym (told_fails z bs e)
+    go : (d : Result Cursor Refusal) (z : Bool) (bs : List ℕ) → pass_says s d ≡ pass z bs → is_ok d ≡ z
+    go (Ok c) z bs e = sym (told_over z bs e).passes
+    go (Err k) z bs e = sym (told_fails z bs e)
 
 -- ---- A row that a cursor goes along
 
--- Items that are still to be read, and the test of all is that of these.
-pub record ToGo {A : Type 0} (m : Reader A) (f : A → Bool) (bs : List ℕ) (left : ℕ) (all : Bool) (end : List ℕ) : Type 0 where
-  pub others : List A
-  pub reads : items left m bs ≡ read others end
-  pub same : all ≡ every f others
+-- the test of each item is that of all
+pub along_passes : {A : Type 0} (m : Reader A) (f : A → Bool) (s : List ℕ) {Test : Cursor → Result Cursor Refusal → Type 0} → ((c : Cursor) (r : Result Cursor Refusal) → Test c r → Passes m f s c.at r) → {n : ℕ} {c : Cursor} {r : Result Cursor Refusal} → Along Test n c r → Passes (items n m) (every f) s c.at r
+unfolding items done
+along_passes m f s h (none {c = c}) = record { says = λ xs end e. let v = none_of m 0 (rest s c) refl e in rw (v.0, ← v.1) }
+along_passes m f s h (more {n = n} {c = c} {next = next} {r = r} p q) = record {
+  says = λ xs end e.
+      let u = first_of m (suc n) (rest s c) (λ z. omega arith) e in
+      let t = told_over (f u.item) u.mid ((h c (Ok next) p).says u.item u.mid u.first) in
+      let a : items n m (rest s next) ≡ read u.others end = ap (λ (k : ℕ). items k m (rest s next)) (sym (sub-one (suc n))) ∙ ap (λ (o : List ℕ). items (suc n - 1) m o) t.ends ∙ u.reads in
+      (along_passes m f s h q).says u.others end a ∙ ap (λ (z : Bool). pass z end) (sym (ap (every f) u.same ∙ ap (λ (z : Bool). z && every f u.others) t.passes));
+}
+along_passes m f s h (stop {n = n} {c = c} {k = k} p) = record {
+  says = λ xs end e.
+      let u = first_of m (suc n) (rest s c) (λ z. omega arith) e in
+      let t = told_fails (f u.item) u.mid ((h c (Err k) p).says u.item u.mid u.first) in
+      ap (λ (z : Bool). pass z end) (sym (ap (every f) u.same ∙ ap (λ (z : Bool). z && every f u.others) t));
+}
 
--- Of n items from one place on, `left` are still to be tested from another on.
-pub record Passing {A : Type 0} (m : Reader A) (f : A → Bool) (s : List ℕ) (from n at left : ℕ) : Type 0 where
-  pub goes : (xs : List A) (end : List ℕ) → items n m (drop from s) ≡ read xs end → ToGo m f (drop at s) left (every f xs) end
+-- Of n tests from one place on, `over` were passed, up to c.
+pub record Going (Test : Cursor → Result Cursor Refusal → Type 0) (n : ℕ) (from : Cursor) (over : ℕ) (c : Cursor) : Type 0 where
+  pub whole : (r : Result Cursor Refusal) → Along Test (n - over) c r → Along Test n from r
 
-pub passing_start : {A : Type 0} (m : Reader A) (f : A → Bool) (s : List ℕ) (at n : ℕ) → Passing m f s at n at n
-passing_start m f s at n = record { goes = λ xs end e. record { others = xs; reads = e; same = refl } }
+module _ {Test : Cursor → Result Cursor Refusal → Type 0} {n over : ℕ} {from c : Cursor} (g : Going Test n from over c) where
+  pub going_more : {next : Cursor} → over < n → Test c (Ok next) → Going Test n from (over + 1) next
+  going_more h t = record { whole = λ r p. g.whole r (let e : n - over ≡ suc (n - (over + 1)) = omega arith in rw e (more t p)) }
 
-module _ {A : Type 0} {m : Reader A} {f : A → Bool} {s : List ℕ} {from n at left : ℕ} (g : Passing m f s from n at left) where
-  pub passing_end : left ≡ 0 → (c : Cursor) → c.at ≡ at → Passes (items n m) (every f) s from (Ended c)
-  passing_end z c i = record {
-    says = λ xs end e.
-        let w = g.goes xs end e in
-        let v = none_of m left (drop at s) z w.reads in
-        rw (w.same, v.0, ← v.1, i);
-  }
+  pub going_stop : {k : Refusal} → over < n → Test c (Err k) → Along Test n from (Err k)
+  going_stop {k} h t = g.whole (Err k) (let e : n - over ≡ suc (n - (over + 1)) = omega arith in rw e (stop t))
 
-  module _ {d : EndStep} (z : left ≡ 0 → ⊥) (v : Passes m f s at d) where
-    pub passing_stop : {k l : ℕ} → d ≡ Refused k → Passes (items n m) (every f) s from (Refused l)
-    passing_stop i = record {
-      says = λ xs end e.
-          let w = g.goes xs end e in
-          let u = first_of m left (drop at s) z w.reads in
-          let t = told_fails (f u.item) u.mid (sym (ap (pass_says s) i) ∙ v.says u.item u.mid u.first) in
-          rw (w.same, ap (every f) u.same, t);
-    }
-
-    pub passing_more : {c : Cursor} → d ≡ Ended c → Passing m f s from n c.at (left - 1)
-    passing_more {c} i = record {
-      goes = λ xs end e.
-          let w = g.goes xs end e in
-          let u = first_of m left (drop at s) z w.reads in
-          let t = told_over (f u.item) u.mid (sym (ap (pass_says s) i) ∙ v.says u.item u.mid u.first) in
-          record { others = u.others; reads = rw t.ends u.reads; same = w.same ∙ ap (every f) u.same ∙ rw t.passes };
-    }
+  pub going_end : over ≡ n → Along Test n from (Ok c)
+  going_end h = g.whole (Ok c) (let e : n - over ≡ 0 = omega arith in rw e none)
 
 -- ---- A row of the table
 
--- The test of all is that of the items from number i on.
-pub record Testing {A : Type 0} (f : A → Bool) (xs : List A) (i : ℕ) : Type 0 where
-  pub same : every f xs ≡ every f (drop i xs)
+-- `every` is what `all` of a chain answers
+pub list_every : {A : Type 0} (f : A → Bool) (xs : List A) → list_all f xs ≡ every f xs
+list_every f [] = refl
+list_every f (x ∷ xs) = ap (λ (z : Bool). f x && z) (list_every f xs)
 
-pub testing_start : {A : Type 0} (f : A → Bool) (xs : List A) → Testing f xs 0
-testing_start f xs = record { same = refl }
+-- every item passes, by number
+every_passes : {A : Type 0} (f : A → Bool) (xs : List A) (x : A) → ((k : ℕ) → k < length xs → true ≡ f (get_or xs k x)) → true ≡ every f xs
+every_passes f [] x h = refl
+every_passes f (y ∷ ys) x h = rw (← h 0 (omega arith), ← every_passes f ys x (λ k l. h (suc k) (omega arith)))
 
-pub testing_end : {A : Type 0} {f : A → Bool} {xs : List A} {n i : ℕ} → length xs ≡ n → Testing f xs i → n ≤ i → true ≡ every f xs
-testing_end {xs = xs} {i = i} e g h = let l : length xs ≤ i = omega arith in rw (g.same, drop_of_length-le xs l)
+one_fails : {A : Type 0} (f : A → Bool) (xs : List A) (x : A) (k : ℕ) → k < length xs → false ≡ f (get_or xs k x) → false ≡ every f xs
+one_fails f [] x k l e = absurd (omega arith)
+one_fails f (y ∷ ys) x zero l e = rw (← e)
+one_fails f (y ∷ ys) x (suc k) l e = rw (← one_fails f ys x k (omega arith) e) (sym (and-false (f y)))
 
--- The answer is the test of item i. x stands for an absent one.
-pub record ItemTested {A : Type 0} (f : A → Bool) (xs : List A) (x : A) (i : ℕ) (r : Bool) : Type 0 where
-  pub says : r ≡ f (get_or xs i x)
+-- `all` over the numbers below n answers what `every` does, where the call at each of them answers the test of that item
+module _ {S F : Type 0} {steps : S → Option ℕ → S → Type 0} {g : Mut F (ℕ × Unit {0}) Bool} {s : S} {A : Type 0} {f : A → Bool} {xs : List A} (x : A) {n : ℕ} (count : length xs ≡ n) where
+  pub every_all : (u : S) (p : F) (b : Bool)
+      → (ks : List ℕ) × (o : Option ℕ) × (q : F) × YieldsThen steps s ks o u × FoldsTo (λ p k q. Called g p (k, tt) true q) p ks q × MatchOption o (b ≡ true) (λ k. (b ≡ false) × ((h : F) × Called g q (k, tt) false h))
+      → YieldsList steps (λ k. k) s (range_with_len 0 n)
+      → ((k : ℕ) (b : Bool) (q : F) → Called g p (k, tt) b q → (q ≡ p) × (k < n → ItemTested f xs x k b)) → b ≡ every f xs
+  every_all u p b ran yields calls = go b (cases_from_all u p b (λ k. k < n → true ≡ f (get_or xs k x)) (λ k. k < n → false ≡ f (get_or xs k x)) ran yields (λ k q h. let w = calls k true q h in (w.0, λ l. (w.1 l).says)) (λ k q h. let w = calls k false q h in λ l. (w.1 l).says))
+    where
+      ns : List ℕ
+      ns = range_with_len 0 n
 
-module _ {A : Type 0} {f : A → Bool} {xs : List A} {x : A} {n i : ℕ} {r : Bool} (c : length xs ≡ n) (g : Testing f xs i) (h : i < n) (e : ItemTested f xs x i r) where
-  from_item : every f (drop i xs) ≡ f (get_or xs i x) && every f (drop (suc i) xs)
-  from_item = rw (drop-cons xs i x (omega arith))
+      at : (k : ℕ) → k < n → get_or ns k 0 ≡ k
+      at k l = get_or-range_with_len 0 n k 0 l ∙ zero-add k
 
-  pub testing_fails : r ≡ false → false ≡ every f xs
-  testing_fails k = rw (g.same, from_item, ← e.says, k)
-
-  pub testing_more : r ≡ true → Testing f xs (i + 1)
-  testing_more k = record { same = rw add-one (g.same ∙ from_item ∙ rw (← e.says, k)) }
+      go : (b : Bool) → MatchBool b (AllWithin (λ k. k < n → true ≡ f (get_or xs k x)) ns 0 (length ns)) ((k : ℕ) × (k < length ns) × HoldsAt (λ k. k < n → false ≡ f (get_or xs k x)) ns k) → b ≡ every f xs
+      go true h = every_passes f xs x (λ k l. let m : k < n = omega arith in let i : k < length ns = rw (length-range_with_len 0 n) m in rw (at k m) at (h k 0 (omega arith) i) m)
+      go false h = let m : h.0 < n = rw (length-range_with_len 0 n) at h.1 in one_fails f xs x h.0 (omega arith) (rw (at h.0 m) at (h.2 0) m)
 
 -- Items, each standing where its entry of the table says: of a row of so many entries from `base` on.
 pub record TableRow {A : Type 0} (m : Reader A) (s t : List ℕ) (base many n : ℕ) (xs : List A) (x : A) : Type 0 where
@@ -134,7 +145,7 @@ module _ {s t : List ℕ} {h : Head} {j : Job} (w : Layout s t h j) where
   pub variables-row : TableRow type s t 32 64 h.variables j.variables UnitTy
   variables-row = record { stands = λ i l. variable_at w i _ l; count = w.variable_count }
 
-  pub blocks-row : TableRow block s t 96 64 h.blocks j.blocks (record { successors = []; actions = [] })
+  pub blocks-row : TableRow block s t 96 64 h.blocks j.blocks no_block
   blocks-row = record { stands = λ i l. block-at w i _ l; count = w.block_count }
 
   pub sized : Sized h j

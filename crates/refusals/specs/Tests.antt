@@ -1,5 +1,5 @@
 -- What a test of an item that stands in the record says: it passes, with where the item ends, or it fails.
-use Rattle.std.specs.Prelude.{◌≡◌, Bool, true, false, ◌&&◌, List, ℕ, ◌-◌, ◌≤◌, length, drop, ltb}
+use Rattle.std.specs.Prelude.{◌≡◌, Bool, true, false, ◌&&◌, List, ℕ, ◌-◌, ◌≤◌, [], get_or, length, drop, ltb, Result, Ok, Err}
 use Rattle.nll_spec.specs.Lists.{every}
 use Rattle.nll_spec.specs.Syntax.{Ty, Args, StructDecl, Block, Job}
 use Rattle.nll_spec.specs.Decode.{read, Reader}
@@ -8,11 +8,11 @@ use Rattle.nll_spec.specs.WellFormed.{type_named, args_named, field_named, actio
 use Rattle.repr.specs.Reading.{rest}
 use Rattle.repr.specs.declared.Action.{Action}
 use Rattle.repr.specs.declared.Action.TheVariants as action
-use Rattle.repr.specs.declared.EndStep.{EndStep}
-use Rattle.repr.specs.declared.EndStep.TheVariants as end_step
-use Rattle.repr.specs.declared.NodesStep.{NodesStep}
-use Rattle.repr.specs.declared.NodesStep.TheVariants as nodes_step
+use Rattle.repr.specs.declared.Cursor.{Cursor}
+use Rattle.repr.specs.declared.Rest.{Rest}
+use Rattle.repr.specs.declared.refusal.Refusal.{Refusal}
 use Rattle.record.specs.declared.Head.{Head}
+use Rattle.record.specs.declared.Record.{Record}
 use Rattle.repr.specs.Stands.{TypeTo, ArgsTo}
 
 -- The head has the job's counts.
@@ -34,21 +34,25 @@ abbrev pub pass : Bool → List ℕ → Pass
 pass true bs = over bs
 pass false bs = fails
 
-abbrev pub pass_says : List ℕ → EndStep → Pass
-pass_says s (end_step.Ended next) = over (rest s next)
-pass_says s (end_step.Refused k) = fails
-
-abbrev pub is_ended : EndStep → Bool
-is_ended (end_step.Ended next) = true
-is_ended (end_step.Refused k) = false
+abbrev pub pass_says : List ℕ → Result Cursor Refusal → Pass
+pass_says s (Ok next) = over (rest s next)
+pass_says s (Err k) = fails
 
 -- The answer is the test of the item that m reads there, and where the item ends.
-pub record Passes {A : Type 0} (m : Reader A) (test : A → Bool) (s : List ℕ) (at : ℕ) (r : EndStep) : Type 0 where
+pub record Passes {A : Type 0} (m : Reader A) (test : A → Bool) (s : List ℕ) (at : ℕ) (r : Result Cursor Refusal) : Type 0 where
   pub says : (x : A) (bs : List ℕ) → m (drop at s) ≡ read x bs → pass_says s r ≡ pass (test x) bs
 
 -- The answer is the test of the item that m reads there.
 pub record Tested {A : Type 0} (m : Reader A) (test : A → Bool) (s : List ℕ) (at : ℕ) (r : Bool) : Type 0 where
   pub says : (x : A) (bs : List ℕ) → m (drop at s) ≡ read x bs → r ≡ test x
+
+-- The answer is the test of item i. x stands for an absent one.
+pub record ItemTested {A : Type 0} (f : A → Bool) (xs : List A) (x : A) (i : ℕ) (r : Bool) : Type 0 where
+  pub says : r ≡ f (get_or xs i x)
+
+-- what stands for a block that is not there
+abbrev pub no_block : Block
+no_block = record { successors = []; actions = [] }
 
 -- ---- A part of a type
 
@@ -61,29 +65,29 @@ abbrev pub walk : Bool → ℕ → List ℕ → Walk
 walk true left bs = onto left bs
 walk false left bs = stays
 
-abbrev pub walk_says : List ℕ → NodesStep → Walk
-walk_says s (nodes_step.Ended left next) = onto left (rest s next)
-walk_says s (nodes_step.Refused k) = stays
+abbrev pub walk_says : List ℕ → Result Rest Refusal → Walk
+walk_says s (Ok e) = onto e.left (rest s e.next)
+walk_says s (Err k) = stays
 
 -- no more nodes are left than there were
-abbrev pub FewerNodes : ℕ → NodesStep → Type 0
-FewerNodes left (nodes_step.Ended l c) = l ≤ left
-FewerNodes left (nodes_step.Refused k) = Unit {0}
+abbrev pub FewerNodes : ℕ → Result Rest Refusal → Type 0
+FewerNodes left (Ok e) = e.left ≤ left
+FewerNodes left (Err k) = Unit {0}
 
-pub record TypeWalk (test : Ty → Bool) (s : List ℕ) (at left : ℕ) (r : NodesStep) : Type 0 where
+pub record TypeWalk (test : Ty → Bool) (s : List ℕ) (at left : ℕ) (r : Result Rest Refusal) : Type 0 where
   pub says : (t : Ty) (bs : List ℕ) → TypeTo (drop at s) t bs → type_nodes t ≤ left → walk_says s r ≡ walk (test t) (left - type_nodes t) bs
 
-pub record ArgsWalk (test : Args → Bool) (s : List ℕ) (at n left : ℕ) (r : NodesStep) : Type 0 where
+pub record ArgsWalk (test : Args → Bool) (s : List ℕ) (at n left : ℕ) (r : Result Rest Refusal) : Type 0 where
   pub says : (g : Args) (bs : List ℕ) → ArgsTo (drop at s) n g bs → arg_nodes g ≤ left → walk_says s r ≡ walk (test g) (left - arg_nodes g) bs
 
 -- ---- The names of a type
 
-pub record TypeNamed (h : Head) (s : List ℕ) (at left : ℕ) (r : NodesStep) : Type 0 where
-  pub walks : (j : Job) → Sized h j → TypeWalk (type_named j) s at left r
+pub record TypeNamed (input : Record) (at left : ℕ) (r : Result Rest Refusal) : Type 0 where
+  pub walks : (j : Job) → Sized input.head j → TypeWalk (type_named j) input.bytes.now at left r
   pub fewer : FewerNodes left r
 
-pub record ArgumentsNamed (h : Head) (s : List ℕ) (at n left : ℕ) (r : NodesStep) : Type 0 where
-  pub walks : (j : Job) → Sized h j → ArgsWalk (args_named j) s at n left r
+pub record ArgumentsNamed (input : Record) (at n left : ℕ) (r : Result Rest Refusal) : Type 0 where
+  pub walks : (j : Job) → Sized input.head j → ArgsWalk (args_named j) input.bytes.now at n left r
   pub fewer : FewerNodes left r
 
 -- ---- The names of parts

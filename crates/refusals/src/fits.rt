@@ -1,15 +1,14 @@
 // Refusal 7 of a type: arguments fit the parameters of the struct that is named, and bounds those of the struct around.
-ghost use Rattle.std.specs.Prelude.{◌≡◌, List, ◌&&◌, length};
+ghost use Rattle.std.specs.Prelude.{◌≡◌, List, ◌&&◌};
 ghost use Rattle.nll_spec.specs.Syntax.{Param, Job};
 ghost use Rattle.nll_spec.specs.Decode.{type};
 ghost use Rattle.nll_spec.specs.WellFormed.{bound_fits, region_fits, type_fits, is_region_kind};
 ghost use Rattle.repr.specs.Reading.{kind_of, region_of};
 ghost use Rattle.refusals.specs.Tests.{Passes};
-ghost use Rattle.refusals.specs.Fits.{kind_test, ParamsAt, Within, TypeFit, ArgumentsFit};
+ghost use Rattle.refusals.specs.Fits.{kind_test, params_of, ParamsAt, Within, TypeFit, ArgumentsFit};
 
-use record::Head;
-use record::access::struct_decl_at;
-use repr::{ArgumentStep, Cursor, EndStep, Kind, NodeStep, NodesStep, ParameterStep, Region};
+use record::Record;
+use repr::{Argument, Cursor, Kind, Node, Refusal, Region, Rest, StructDecl};
 
 // So many parameters of a struct, and where they begin.
 #[derive(Clone, Copy)]
@@ -18,172 +17,127 @@ pub struct Params {
     pub count: u8,
 }
 
-fn same_kind(kind: Kind, wanted: Kind) -> bool
-    ensures { result ≡ kind_test (kind_of wanted) (kind_of kind) }
-{
-    match wanted {
-        Kind::Region => match kind {
-            Kind::Region => true,
-            Kind::Type => false,
-        },
-        Kind::Type => match kind {
-            Kind::Region => false,
-            Kind::Type => true,
-        },
+impl Params {
+    pub fn of(d: StructDecl) -> Params
+        ensures { result ≡ params_of d }
+    {
+        Params {
+            declared: d.declared,
+            count: d.parameters,
+        }
     }
-}
 
-// Whether a bound index means a parameter of this kind.
-fn bound_fits(s: &[u8], around: Params, b: u8, wanted: Kind) -> bool
-    ensures { (ps : List Param) → ParamsAt s.now around ps → result ≡ bound_fits (kind_test (kind_of wanted)) ps b }
-{
-    let count = around.count;
-    if count <= b {
-        return false;
+    // Whether a bound index means a parameter of this kind.
+    fn bound_fits(self, s: &[u8], b: u8, wanted: Kind) -> bool
+        ensures { (ps : List Param) → ParamsAt s.now self ps → result ≡ bound_fits (kind_test (kind_of wanted)) ps b }
+    {
+        if self.count <= b {
+            return false;
+        }
+        let Ok(c) = self.declared.parameters(s, self.count - 1 - b) else {
+            return false;
+        };
+        match c.parameter(s) {
+            Ok((p, _)) => p.kind == wanted,
+            Err(_) => false,
+        }
     }
-    let declared = around.declared;
-    match declared.parameters(s, count - 1 - b) {
-        EndStep::Refused(_) => false,
-        EndStep::Ended(c) => match c.parameter(s) {
-            ParameterStep::Refused(_) => false,
-            ParameterStep::Parameter(p, _) => {
-                let kind = p.kind;
-                same_kind(kind, wanted)
-            }
-        },
-    }
-}
 
-fn region_fits(s: &[u8], around: Params, region: Region) -> bool
-    ensures { (ps : List Param) → ParamsAt s.now around ps → result ≡ region_fits ps (region_of region) }
-{
-    match region {
-        Region::Free(_) => true,
-        Region::Bound(b) => bound_fits(s, around, b, Kind::Region),
+    fn region_fits(self, s: &[u8], region: Region) -> bool
+        ensures { (ps : List Param) → ParamsAt s.now self ps → result ≡ region_fits ps (region_of region) }
+    {
+        match region {
+            Region::Free(_) => true,
+            Region::Bound(b) => self.bound_fits(s, b, Kind::Region),
+        }
     }
-}
 
-// Whether a region fits as an argument for a parameter of this kind.
-fn argument_fits(s: &[u8], around: Params, kind: Kind, region: Region) -> bool
-    ensures { (ps : List Param) → ParamsAt s.now around ps → result ≡ is_region_kind (kind_of kind) && region_fits ps (region_of region) }
-{
-    same_kind(kind, Kind::Region) & region_fits(s, around, region)
+    // Whether a region fits as an argument for a parameter of this kind.
+    fn argument_fits(self, s: &[u8], kind: Kind, region: Region) -> bool
+        ensures { (ps : List Param) → ParamsAt s.now self ps → result ≡ is_region_kind (kind_of kind) && region_fits ps (region_of region) }
+    {
+        kind == Kind::Region && self.region_fits(s, region)
+    }
 }
 
 // Where a type of at most `left` nodes ends, if its arguments and bounds fit.
 #[cycle(arguments_fit_type_fits)]
-fn type_fits(
-    s: &[u8],
-    layout: &[u16; 1280],
-    head: Head,
-    c: Cursor,
-    left: u8,
-    around: Params,
-) -> NodesStep
-    requires { length layout.now ≡ 1280 }
-    ensures { TypeFit s.now layout.now head around c.at left result }
+fn type_fits(input: &Record<'_>, c: Cursor, left: u8, around: Params) -> Result<Rest, Refusal>
+    ensures { TypeFit input.now around c.at left result }
 {
-    let mut at = c;
-    let mut few = left;
-    while few != 0 {
-        few -= 1;
-        match at.type_node(s) {
-            NodeStep::Refused(k) => return NodesStep::Refused(k),
-            NodeStep::Unit(next) => return NodesStep::Ended { left: few, next },
-            NodeStep::Bound(b, next) => {
-                if !bound_fits(s, around, b, Kind::Type) {
-                    return NodesStep::Refused(7);
-                }
-                return NodesStep::Ended { left: few, next };
+    if left == 0 {
+        return Err(Refusal::Arguments);
+    }
+    let left = left - 1;
+    match c.type_node(input.bytes)? {
+        Node::Unit(next) => Ok(Rest { left, next }),
+        Node::Bound(b, next) => {
+            if !around.bound_fits(input.bytes, b, Kind::Type) {
+                return Err(Refusal::Arguments);
             }
-            NodeStep::Ref {
-                kind: _,
-                region,
-                referent,
-            } => {
-                if !region_fits(s, around, region) {
-                    return NodesStep::Refused(7);
-                }
-                at = referent;
+            Ok(Rest { left, next })
+        }
+        Node::Ref {
+            region,
+            referent,
+            ..
+        } => {
+            if !around.region_fits(input.bytes, region) {
+                return Err(Refusal::Arguments);
             }
-            NodeStep::Struct {
-                name,
-                count,
-                arguments,
-            } => {
-                let named = struct_decl_at(s, layout, head, name);
-                if named.parameters != count {
-                    return NodesStep::Refused(7);
-                }
-                let declared = named.declared;
-                return arguments_fit(s, layout, head, arguments, count, few, around, declared);
+            type_fits(input, referent, left, around)
+        }
+        Node::Struct {
+            name,
+            count,
+            arguments,
+        } => {
+            let named = input.struct_decl_at(name);
+            if named.parameters != count {
+                return Err(Refusal::Arguments);
             }
+            arguments_fit(input, arguments, left, around, Params::of(named))
         }
     }
-    NodesStep::Refused(7)
 }
 
-// The same of so many arguments, of at most `left` nodes together, for as many parameters.
+// The same of as many arguments as there are parameters, of at most `left` nodes together.
 #[cycle(arguments_fit_type_fits)]
 fn arguments_fit(
-    s: &[u8],
-    layout: &[u16; 1280],
-    head: Head,
-    c: Cursor,
-    count: u8,
+    input: &Record<'_>,
+    from: Cursor,
     left: u8,
     around: Params,
-    declared: Cursor,
-) -> NodesStep
-    requires { length layout.now ≡ 1280 }
-    ensures { ArgumentsFit s.now layout.now head around declared c.at count left result }
+    of: Params,
+) -> Result<Rest, Refusal>
+    ensures { ArgumentsFit input.now around of.declared from.at of.count left result }
 {
-    let mut at = c;
-    let mut n = count;
-    let mut few = left;
-    let mut from = declared;
-    while n != 0 {
-        let ParameterStep::Parameter(p, others) = from.parameter(s) else {
-            return NodesStep::Refused(3);
-        };
-        let kind = p.kind;
-        match at.argument(s) {
-            ArgumentStep::Refused(k) => return NodesStep::Refused(k),
-            ArgumentStep::Region(region, next) => {
-                if !argument_fits(s, around, kind, region) {
-                    return NodesStep::Refused(7);
+    let mut rest = Rest { left, next: from };
+    let mut declared = of.declared;
+    for _ in 0..of.count {
+        let (p, others) = declared.parameter(input.bytes)?;
+        match rest.next.argument(input.bytes)? {
+            Argument::Region(region, next) => {
+                if !around.argument_fits(input.bytes, p.kind, region) {
+                    return Err(Refusal::Arguments);
                 }
-                at = next;
+                rest.next = next;
             }
-            ArgumentStep::Type(ty) => {
-                if !same_kind(kind, Kind::Type) {
-                    return NodesStep::Refused(7);
+            Argument::Type(ty) => {
+                if p.kind != Kind::Type {
+                    return Err(Refusal::Arguments);
                 }
-                match type_fits(s, layout, head, ty, few, around) {
-                    NodesStep::Refused(k) => return NodesStep::Refused(k),
-                    NodesStep::Ended { left: rest, next } => {
-                        few = rest;
-                        at = next;
-                    }
-                }
+                rest = type_fits(input, ty, rest.left, around)?;
             }
         }
-        from = others;
-        n -= 1;
+        declared = others;
     }
-    NodesStep::Ended {
-        left: few,
-        next: at,
-    }
+    Ok(rest)
 }
 
 // The same of a whole type.
-pub fn ty_fits(s: &[u8], layout: &[u16; 1280], head: Head, c: Cursor, around: Params) -> EndStep
-    requires { length layout.now ≡ 1280 }
-    ensures { (j : Job) (ps : List Param) → Within s.now layout.now head around j ps → Passes type (type_fits j.structs ps) s.now c.at result }
+pub fn ty_fits(input: &Record<'_>, c: Cursor, around: Params) -> Result<Cursor, Refusal>
+    ensures { (j : Job) (ps : List Param) → Within input.now around j ps → Passes type (type_fits j.structs ps) input.now.bytes.now c.at result }
 {
-    match type_fits(s, layout, head, c, 32, around) {
-        NodesStep::Refused(k) => EndStep::Refused(k),
-        NodesStep::Ended { left: _, next } => EndStep::Ended(next),
-    }
+    Ok(type_fits(input, c, 32, around)?.next)
 }

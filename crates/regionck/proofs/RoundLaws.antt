@@ -12,7 +12,7 @@ use Rattle.nll_spec.specs.Graph.{graph_of, action_at, is_walked}
 use Rattle.nll_spec.specs.Constraints.{Outlives, constraints_at, constraints_of}
 use Rattle.nll_spec.proofs.Members.{member_right}
 use Rattle.bit_set.specs.Bits.{has}
-use Rattle.record.specs.declared.Head.{Head}
+use Rattle.record.specs.declared.Record.{Record}
 use Rattle.constraint_list.specs.Listed.{count_in, room_in, constraints_in}
 use Rattle.constraint_list.proofs.ListLaws.{first_place}
 use Rattle.absent_regions.specs.Absent.{row_bit, Puts, Marks, AllIn}
@@ -29,16 +29,16 @@ use Rattle.regionck.specs.Rounds.{Sound, RunsBelow, RoundRuns}
 
 -- ---- Regions that are inner ones of no constraint of a point
 
-module _ {s t : List ℕ} {h : Head} {walked : List ℕ} {code : ℕ} where
-  inner_small : (j : Job) → Known s t h walked code j → (n : ℕ) {c : Outlives} → Member c (constraints_below j n) → c.sub < 128
+module _ {input : Record} {walked : List ℕ} {code : ℕ} where
+  inner_small : (j : Job) → Known input walked code j → (n : ℕ) {c : Outlives} → Member c (constraints_below j n) → c.sub < 128
   inner_small j k n {c} m = omega (arith, (named-below every_end j k.accepted n c m).sub, k.layout.regions, k.layout.region_limit)
 
-  pub sound_none : {absent : List ℕ} → ((i : ℕ) → has absent i ≡ false) → Sound s t h walked code absent
+  pub sound_none : {absent : List ℕ} → ((i : ℕ) → has absent i ≡ false) → Sound input walked code absent
   sound_none e = record { none = λ j k p c l m z. true≢false (sym z ∙ e (row_bit p c.sub)) }
 
   -- those of the constraints of a point, which the list has, are put into its row
-  pub sound_more : {ls ls' absent absent' : List ℕ} {p : Point} → Sound s t h walked code absent → count_in ls ≡ 0 → 264 ≤ room_in ls → PointAdds s t h walked p ls ls' → p < code → Puts ls' p absent absent'
-      → Sound s t h walked code absent'
+  pub sound_more : {ls ls' absent absent' : List ℕ} {p : Point} → Sound input walked code absent → count_in ls ≡ 0 → 264 ≤ room_in ls → PointAdds input walked p ls ls' → p < code → Puts ls' p absent absent'
+      → Sound input walked code absent'
   sound_more {ls} {ls'} {absent} {absent'} {p} sound e room y l puts = record {
     none = λ j k q c i m z.
         let next = select-below (λ (x : ℕ). constraints_at j x (action_at (graph_of j) x)) (is_walked (graph_of j)) q in
@@ -54,14 +54,14 @@ module _ {s t : List ℕ} {h : Head} {walked : List ℕ} {code : ℕ} where
 
 -- ---- A round
 
-module _ {s t : List ℕ} {h : Head} {walked : List ℕ} {shape : Shape} {rule : declared.EndRule} {first succ chain last ws : List ℕ} where
-  pub below_none : RunsBelow s t h walked shape rule first succ chain last ws ws no_marks 0
+module _ {input : Record} {walked : List ℕ} {shape : Shape} {rule : declared.EndRule} {first succ chain last ws : List ℕ} where
+  pub below_none : RunsBelow input walked shape rule first succ chain last ws ws no_marks 0
   below_none = record { ran = λ j k g. ran-none (setting_of (rule_of rule) j) last ws no_marks }
 
   -- the constraints of the list, which begin with those of the next point
-  pub below_more : {ls : List ℕ} {n m : ℕ} {ws₁ grew₁ ws₂ grew₂ : List ℕ} → RunsBelow s t h walked shape rule first succ chain last ws ws₁ grew₁ n
-      → Holding s t h walked shape.code ls n m → Runs shape rule first succ chain last (constraints_in ls) ws₁ grew₁ ws₂ grew₂
-      → RunsBelow s t h walked shape rule first succ chain last ws ws₂ grew₂ m
+  pub below_more : {ls : List ℕ} {n m : ℕ} {ws₁ grew₁ ws₂ grew₂ : List ℕ} → RunsBelow input walked shape rule first succ chain last ws ws₁ grew₁ n
+      → Holding input walked shape.code ls n m → Runs shape rule first succ chain last (constraints_in ls) ws₁ grew₁ ws₂ grew₂
+      → RunsBelow input walked shape rule first succ chain last ws ws₂ grew₂ m
   below_more {ls} {n} {m} {ws₁} {grew₁} {ws₂} {grew₂} x held y =
       record {
         ran = λ j k g.
@@ -73,8 +73,8 @@ module _ {s t : List ℕ} {h : Head} {walked : List ℕ} {shape : Shape} {rule :
       }
 
   -- the constraints of a point that is passed by
-  pub below-passed : {absent grew marks : List ℕ} {p : Point} {b : Bool} {ws₁ grew₁ : List ℕ} → RunsBelow s t h walked shape rule first succ chain last ws ws₁ grew₁ p → p < shape.code
-      → Sound s t h walked shape.code absent → Marks last grew 128 marks → AllIn absent p marks b → b ≡ true → RunsBelow s t h walked shape rule first succ chain last ws ws₁ grew₁ (p + 1)
+  pub below-passed : {absent grew marks : List ℕ} {p : Point} {b : Bool} {ws₁ grew₁ : List ℕ} → RunsBelow input walked shape rule first succ chain last ws ws₁ grew₁ p → p < shape.code
+      → Sound input walked shape.code absent → Marks last grew 128 marks → AllIn absent p marks b → b ≡ true → RunsBelow input walked shape rule first succ chain last ws ws₁ grew₁ (p + 1)
   below-passed {p = p} {ws₁ = ws₁} {grew₁ = grew₁} x l sound marks all e =
       record {
         ran = λ j k g.
@@ -86,12 +86,12 @@ module _ {s t : List ℕ} {h : Head} {walked : List ℕ} {shape : Shape} {rule :
             sound.none j k p c l m (all.held e c.sub w (marks.all c.sub w (inl z))))));
       }
 
-  pub below_code : {ws' grew : List ℕ} (n : ℕ) → n ≡ shape.code → RunsBelow s t h walked shape rule first succ chain last ws ws' grew n → RunsBelow s t h walked shape rule first succ chain last ws ws' grew shape.code
-  below_code {ws'} {grew} n e x = subst (λ (k : ℕ). RunsBelow s t h walked shape rule first succ chain last ws ws' grew k) e x
+  pub below_code : {ws' grew : List ℕ} (n : ℕ) → n ≡ shape.code → RunsBelow input walked shape rule first succ chain last ws ws' grew n → RunsBelow input walked shape rule first succ chain last ws ws' grew shape.code
+  below_code {ws'} {grew} n e x = subst (λ (k : ℕ). RunsBelow input walked shape rule first succ chain last ws ws' grew k) e x
 
   -- then more of them are run
-  pub below_all : {recent recent₁ recent₂ ws₁ grew₁ ws₂ grew₂ : List ℕ} → RunsBelow s t h walked shape rule first succ chain last ws ws₁ grew₁ shape.code → OwnKept s t h walked shape.code recent recent₁
-      → RunsMore s t h walked shape rule first succ chain recent₁ ws₁ grew₁ recent₂ ws₂ grew₂ → RoundRuns s t h walked shape rule first succ chain last recent ws ws₂ grew₂
+  pub below_all : {recent recent₁ recent₂ ws₁ grew₁ ws₂ grew₂ : List ℕ} → RunsBelow input walked shape rule first succ chain last ws ws₁ grew₁ shape.code → OwnKept input walked shape.code recent recent₁
+      → RunsMore input walked shape rule first succ chain recent₁ ws₁ grew₁ recent₂ ws₂ grew₂ → RoundRuns input walked shape rule first succ chain last recent ws ws₂ grew₂
   unfolding constraints_of
   below_all {ws₁ = ws₁} {grew₁ = grew₁} x own y =
       record {

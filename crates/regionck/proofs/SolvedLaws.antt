@@ -30,7 +30,7 @@ use Rattle.bit_set.specs.Missing.{falses, missing}
 use Rattle.bit_set.proofs.BitLaws.{words_ext, has_out}
 use Rattle.bit_set.proofs.RowLaws.{run_has}
 use Rattle.bit_set.proofs.MissingLaws.{missing_lt}
-use Rattle.record.specs.declared.Head.{Head}
+use Rattle.record.specs.declared.Record.{Record}
 use Rattle.constraint_list.specs.Listed.{count_in, first_in}
 use Rattle.constraint_list.proofs.ListLaws.{first-none}
 use Rattle.infer.specs.Search.{rule_of}
@@ -157,12 +157,12 @@ pub record Going (ends : EndRule) (j : Job) (ws₀ ws last marks : List ℕ) (le
   pub told : Told (setting_of ends j) ws₀ ws marks
   pub less : missing (take (j.regions * word_count (point_count j)) ws) < left
 
-module _ (s t : List ℕ) (h : Head) (first succ chain walked : List ℕ) (shape : Shape) (rule : declared.EndRule) (ws₀ : List ℕ) where
+module _ (input : Record) (first succ chain walked : List ℕ) (shape : Shape) (rule : declared.EndRule) (ws₀ : List ℕ) where
   -- so for every job that is handed in
   pub record GoingOn (ws last marks : List ℕ) (left : ℕ) : Type 0 where
-    pub going : (j : Job) → Seeded s t h first succ walked shape ws₀ j → Chained chain first succ → Going (rule_of rule) j ws₀ ws last marks left
+    pub going : (j : Job) → Seeded input first succ walked shape ws₀ j → Chained chain first succ → Going (rule_of rule) j ws₀ ws last marks left
 
-  module _ (j : Job) (x : Seeded s t h first succ walked shape ws₀ j) (chained : Chained chain first succ) where
+  module _ (j : Job) (x : Seeded input first succ walked shape ws₀ j) (chained : Chained chain first succ) where
     abbrev ends : EndRule
     ends = rule_of rule
 
@@ -172,7 +172,7 @@ module _ (s t : List ℕ) (h : Head) (first succ chain walked : List ℕ) (shape
     abbrev cs : List Outlives
     cs = constraints_of j (graph_of j)
 
-    known : Known s t h walked shape.code j
+    known : Known input walked shape.code j
     known = record { layout = x.layout; accepted = x.accepted; reached = x.reached; points = x.code }
 
     points : (graph_of j).points ≡ point_count j
@@ -229,7 +229,7 @@ module _ (s t : List ℕ) (h : Head) (first succ chain walked : List ℕ) (shape
         size : length (take (j.regions * word_count (point_count j)) ws₀) ≤ j.regions * word_count (point_count j)
         size = rw length-take (omega arith)
 
-    more : {recent ws last marks ws' grew marks' : List ℕ} {left : ℕ} → Going ends j ws₀ ws last marks left → Own j recent → RoundRuns s t h walked shape rule first succ chain last recent ws ws' grew → any_marked grew 128 ≡ true → Noted grew marks marks' 128
+    more : {recent ws last marks ws' grew marks' : List ℕ} {left : ℕ} → Going ends j ws₀ ws last marks left → Own j recent → RoundRuns input walked shape rule first succ chain last recent ws ws' grew → any_marked grew 128 ≡ true → Noted grew marks marks' 128
         → Going ends j ws₀ ws' grew marks' (left - 1)
     more {recent} {ws} {last} {marks} {ws'} {grew} {marks'} {left} g own y m noted =
         record {
@@ -242,7 +242,7 @@ module _ (s t : List ℕ) (h : Head) (first succ chain walked : List ℕ) (shape
         ran : Ran e last cs ws no_marks ws' grew
         ran = y.ran j known own (given ws g.rounds.as_long)
 
-    module _ {recent ws last marks ws' grew : List ℕ} {left : ℕ} (g : Going ends j ws₀ ws last marks left) (own : Own j recent) (y : RoundRuns s t h walked shape rule first succ chain last recent ws ws' grew) (m : any_marked grew 128 ≡ false) where
+    module _ {recent ws last marks ws' grew : List ℕ} {left : ℕ} (g : Going ends j ws₀ ws last marks left) (own : Own j recent) (y : RoundRuns input walked shape rule first succ chain last recent ws ws' grew) (m : any_marked grew 128 ≡ false) where
       ran : Ran e last cs ws no_marks ws' grew
       ran = y.ran j known own (given ws g.rounds.as_long)
 
@@ -352,31 +352,31 @@ module _ (s t : List ℕ) (h : Head) (first succ chain walked : List ℕ) (shape
 
   -- The constraints of the list are the job's.
   pub record Kept (recent : List ℕ) : Type 0 where
-    pub own : (j : Job) → Seeded s t h first succ walked shape ws₀ j → Own j recent
+    pub own : (j : Job) → Seeded input first succ walked shape ws₀ j → Own j recent
 
 -- ---- The loop
 
-module _ {s t : List ℕ} {h : Head} {first succ chain walked : List ℕ} {shape : Shape} {rule : declared.EndRule} {ws₀ : List ℕ} where
-  pub kept-none : {recent : List ℕ} → count_in recent ≡ 0 → Kept s t h first succ chain walked shape rule ws₀ recent
+module _ {input : Record} {first succ chain walked : List ℕ} {shape : Shape} {rule : declared.EndRule} {ws₀ : List ℕ} where
+  pub kept-none : {recent : List ℕ} → count_in recent ≡ 0 → Kept input first succ chain walked shape rule ws₀ recent
   kept-none {recent} e = record { own = λ j x c m. absurd (no_member (subst (λ (cs : List Outlives). Member c cs) (ap (first_in recent) e ∙ first-none recent) m)) }
 
-  pub kept_more : {recent recent' : List ℕ} → Kept s t h first succ chain walked shape rule ws₀ recent → OwnKept s t h walked shape.code recent recent' → Kept s t h first succ chain walked shape rule ws₀ recent'
+  pub kept_more : {recent recent' : List ℕ} → Kept input first succ chain walked shape rule ws₀ recent → OwnKept input walked shape.code recent recent' → Kept input first succ chain walked shape rule ws₀ recent'
   kept_more k y =
       record { own = λ j x. y.kept j (record { layout = x.layout; accepted = x.accepted; reached = x.reached; points = x.code }) (k.own j x) }
 
-  pub going_start : {marks : List ℕ} {left : ℕ} → left ≡ 131073 → Cleared marks 128 → GoingOn s t h first succ chain walked shape rule ws₀ ws₀ (replicate 128 1) marks left
-  going_start e z = rw e record { going = λ j x ch. start s t h first succ chain walked shape rule ws₀ j x ch z }
+  pub going_start : {marks : List ℕ} {left : ℕ} → left ≡ 131073 → Cleared marks 128 → GoingOn input first succ chain walked shape rule ws₀ ws₀ (replicate 128 1) marks left
+  going_start e z = rw e record { going = λ j x ch. start input first succ chain walked shape rule ws₀ j x ch z }
 
-  pub going_more : {recent ws last marks ws' grew marks' : List ℕ} {left next : ℕ} → next ≡ left - 1 → GoingOn s t h first succ chain walked shape rule ws₀ ws last marks left → Kept s t h first succ chain walked shape rule ws₀ recent
-      → RoundRuns s t h walked shape rule first succ chain last recent ws ws' grew → any_marked grew 128 ≡ true → Noted grew marks marks' 128 → GoingOn s t h first succ chain walked shape rule ws₀ ws' grew marks' next
-  going_more e g k y m noted = rw e record { going = λ j x ch. more s t h first succ chain walked shape rule ws₀ j x ch (g.going j x ch) (k.own j x) y m noted }
+  pub going_more : {recent ws last marks ws' grew marks' : List ℕ} {left next : ℕ} → next ≡ left - 1 → GoingOn input first succ chain walked shape rule ws₀ ws last marks left → Kept input first succ chain walked shape rule ws₀ recent
+      → RoundRuns input walked shape rule first succ chain last recent ws ws' grew → any_marked grew 128 ≡ true → Noted grew marks marks' 128 → GoingOn input first succ chain walked shape rule ws₀ ws' grew marks' next
+  going_more e g k y m noted = rw e record { going = λ j x ch. more input first succ chain walked shape rule ws₀ j x ch (g.going j x ch) (k.own j x) y m noted }
 
-  pub going_done : {recent ws last marks ws' grew : List ℕ} {left : ℕ} → GoingOn s t h first succ chain walked shape rule ws₀ ws last marks left → Kept s t h first succ chain walked shape rule ws₀ recent
-      → RoundRuns s t h walked shape rule first succ chain last recent ws ws' grew → any_marked grew 128 ≡ false
-      → (j : Job) → Seeded s t h first succ walked shape ws₀ j → Chained chain first succ → Solved (rule_of rule) j ws₀ ws' marks
-  going_done g k y m j x ch = done s t h first succ chain walked shape rule ws₀ j x ch (g.going j x ch) (k.own j x) y m
+  pub going_done : {recent ws last marks ws' grew : List ℕ} {left : ℕ} → GoingOn input first succ chain walked shape rule ws₀ ws last marks left → Kept input first succ chain walked shape rule ws₀ recent
+      → RoundRuns input walked shape rule first succ chain last recent ws ws' grew → any_marked grew 128 ≡ false
+      → (j : Job) → Seeded input first succ walked shape ws₀ j → Chained chain first succ → Solved (rule_of rule) j ws₀ ws' marks
+  going_done g k y m j x ch = done input first succ chain walked shape rule ws₀ j x ch (g.going j x ch) (k.own j x) y m
 
   -- the rounds do not run out
-  pub going_out : {ws last marks : List ℕ} {left : ℕ} → left ≡ 0 → GoingOn s t h first succ chain walked shape rule ws₀ ws last marks left
-      → (j : Job) → Seeded s t h first succ walked shape ws₀ j → Chained chain first succ → Solved (rule_of rule) j ws₀ ws marks
+  pub going_out : {ws last marks : List ℕ} {left : ℕ} → left ≡ 0 → GoingOn input first succ chain walked shape rule ws₀ ws last marks left
+      → (j : Job) → Seeded input first succ walked shape ws₀ j → Chained chain first succ → Solved (rule_of rule) j ws₀ ws marks
   going_out e g j x ch = absurd (omega (arith, e, (g.going j x ch).less))

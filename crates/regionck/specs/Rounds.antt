@@ -11,8 +11,8 @@ use Rattle.nll_spec.specs.Regions.{EndRule, seed_table, solve, is_grown}
 use Rattle.nll_spec.specs.Output.{word_count, words_needed, bit}
 use Rattle.bit_set.specs.Bits.{has}
 use Rattle.bit_set.specs.Rows.{Says}
-use Rattle.record.specs.Layout.{Layout}
-use Rattle.record.specs.declared.Head.{Head}
+use Rattle.record.specs.Layout.{Holds}
+use Rattle.record.specs.declared.Record.{Record}
 use Rattle.graph.specs.Tables.{Edges}
 use Rattle.graph.specs.Search.{WalkedIn}
 use Rattle.infer.specs.Search.{rule_of}
@@ -23,17 +23,17 @@ use Rattle.absent_regions.specs.Absent.{row_bit}
 use Rattle.rerun.specs.Rerun.{setting_of, no_marks, walked_at, constraints_below, Known, Own}
 
 -- No region of a point's row is the inner one of a constraint of the point.
-pub record Sound (s t : List ℕ) (h : Head) (walked : List ℕ) (code : ℕ) (absent : List ℕ) : Type 0 where
-  pub none : (j : Job) → Known s t h walked code j → (p : Point) (c : Outlives) → p < code → Member c (walked_at j p) → has absent (row_bit p c.sub) ≡ true → ⊥
+pub record Sound (input : Record) (walked : List ℕ) (code : ℕ) (absent : List ℕ) : Type 0 where
+  pub none : (j : Job) → Known input walked code j → (p : Point) (c : Outlives) → p < code → Member c (walked_at j p) → has absent (row_bit p c.sub) ≡ true → ⊥
 
 -- The constraints of the first n points are run, from no marks on.
-pub record RunsBelow (s t : List ℕ) (h : Head) (walked : List ℕ) (shape : Shape) (rule : declared.EndRule) (first succ chain last ws ws' grew : List ℕ) (n : ℕ) : Type 0 where
-  pub ran : (j : Job) → Known s t h walked shape.code j → Given (setting_of (rule_of rule) j) shape rule first succ chain ws no_marks
+pub record RunsBelow (input : Record) (walked : List ℕ) (shape : Shape) (rule : declared.EndRule) (first succ chain last ws ws' grew : List ℕ) (n : ℕ) : Type 0 where
+  pub ran : (j : Job) → Known input walked shape.code j → Given (setting_of (rule_of rule) j) shape rule first succ chain ws no_marks
       → Ran (setting_of (rule_of rule) j) last (constraints_below j n) ws no_marks ws' grew
 
 -- All constraints of a job are run, from no marks on, if those of `recent` are its own.
-pub record RoundRuns (s t : List ℕ) (h : Head) (walked : List ℕ) (shape : Shape) (rule : declared.EndRule) (first succ chain last recent ws ws' grew : List ℕ) : Type 0 where
-  pub ran : (j : Job) → Known s t h walked shape.code j → Own j recent → Given (setting_of (rule_of rule) j) shape rule first succ chain ws no_marks
+pub record RoundRuns (input : Record) (walked : List ℕ) (shape : Shape) (rule : declared.EndRule) (first succ chain last recent ws ws' grew : List ℕ) : Type 0 where
+  pub ran : (j : Job) → Known input walked shape.code j → Own j recent → Given (setting_of (rule_of rule) j) shape rule first succ chain ws no_marks
       → Ran (setting_of (rule_of rule) j) last (constraints_of j (graph_of j)) ws no_marks ws' grew
 
 -- The first n regions have no mark.
@@ -42,8 +42,8 @@ pub record Cleared (marks : List ℕ) (n : ℕ) : Type 0 where
   pub none : (r : RegionName) → r < n → get_or marks r 0 ≡ 0
 
 -- What is handed in is that of an accepted job, and the words say the seeds.
-pub record Seeded (s t : List ℕ) (h : Head) (first succ walked : List ℕ) (shape : Shape) (ws : List ℕ) (j : Job) : Type 0 where
-  pub layout : Layout s t h j
+pub record Seeded (input : Record) (first succ walked : List ℕ) (shape : Shape) (ws : List ℕ) (j : Job) : Type 0 where
+  pub layout : Holds input j
   pub accepted : refusal j ≡ 0
   pub edges : Edges (graph_of j) first succ
   pub reached : WalkedIn j walked

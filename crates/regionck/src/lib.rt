@@ -11,7 +11,7 @@ ghost use Rattle.regionck.specs.Rounds.{Cleared, Seeded, Solved};
 
 use graph::tables::FuncGraph;
 use infer::{EndRule, Setup, Shape};
-use record::Head;
+use record::Record;
 use rerun::keep;
 use rerun::marks::note;
 use round::{collect, round};
@@ -33,9 +33,7 @@ fn clear(grown: &mut [u8; 128])
 // by which regions were marked; the rows of `absent` get regions that no constraint of a point has as its inner one; `before` is for the words before a round, and may be
 // shorter.
 fn solve(
-    s: &[u8],
-    layout: &[u16; 1280],
-    head: Head,
+    input: &Record<'_>,
     walked: &[u32; 32],
     setup: &Setup,
     words: &mut [u32],
@@ -45,18 +43,18 @@ fn solve(
     absent: &mut [u32],
     before: &mut [u32],
 )
-    requires { (length layout.now ≡ 1280) × (length grown.old ≡ 128) × ((i : ℕ) → has absent.old i ≡ false) }
-    ensures { (length grown.new ≡ 128) × ((j : Job) → Seeded s.now layout.now head setup.now.graph.now.first setup.now.graph.now.succ walked.now setup.now.shape words.old j
+    requires { (length grown.old ≡ 128) × ((i : ℕ) → has absent.old i ≡ false) }
+    ensures { (length grown.new ≡ 128) × ((j : Job) → Seeded input.now setup.now.graph.now.first setup.now.graph.now.succ walked.now setup.now.shape words.old j
         → Chained setup.now.chain.now setup.now.graph.now.first setup.now.graph.now.succ → Solved (rule_of setup.now.rule) j words.old words.new grown.new) }
 {
     clear(grown);
     constraint_list::clear(recent);
-    let to = collect(s, layout, head, walked, setup.shape.code, list);
+    let to = collect(input, walked, setup.shape.code, list);
     let mut last = [1; 128];
     for _ in 0..ROUNDS {
         keep(words, before);
         last = round(
-            s, layout, head, walked, setup, words, &last, recent, absent, before, list, to,
+            input, walked, setup, words, &last, recent, absent, before, list, to,
         );
         if !infer::any_marked(&last) {
             return;
@@ -68,25 +66,21 @@ fn solve(
 // The same by tables of so many words each.
 #[inline(never)]
 fn with_tables<const LIST: usize, const RECENT: usize, const ABSENT: usize, const BEFORE: usize>(
-    s: &[u8],
-    layout: &[u16; 1280],
-    head: Head,
+    input: &Record<'_>,
     walked: &[u32; 32],
     setup: &Setup,
     words: &mut [u32],
     grown: &mut [u8; 128],
 )
-    requires { (length layout.now ≡ 1280) × (length grown.old ≡ 128) × (LIST ≤ 4097) × (RECENT ≤ 4097) × (ABSENT ≤ 4096) × (BEFORE ≤ 4096) }
-    ensures { (length grown.new ≡ 128) × ((j : Job) → Seeded s.now layout.now head setup.now.graph.now.first setup.now.graph.now.succ walked.now setup.now.shape words.old j → Chained setup.now.chain.now setup.now.graph.now.first setup.now.graph.now.succ → Solved (rule_of setup.now.rule) j words.old words.new grown.new) }
+    requires { (length grown.old ≡ 128) × (LIST ≤ 4097) × (RECENT ≤ 4097) × (ABSENT ≤ 4096) × (BEFORE ≤ 4096) }
+    ensures { (length grown.new ≡ 128) × ((j : Job) → Seeded input.now setup.now.graph.now.first setup.now.graph.now.succ walked.now setup.now.shape words.old j → Chained setup.now.chain.now setup.now.graph.now.first setup.now.graph.now.succ → Solved (rule_of setup.now.rule) j words.old words.new grown.new) }
 {
     let mut list = [0; LIST];
     let mut recent = [0; RECENT];
     let mut absent = [0; ABSENT];
     let mut before = [0; BEFORE];
     solve(
-        s,
-        layout,
-        head,
+        input,
         walked,
         setup,
         words,
@@ -100,9 +94,7 @@ fn with_tables<const LIST: usize, const RECENT: usize, const ABSENT: usize, cons
 
 // The words hold the regions' seeds before, and their least sets after. `grown` marks, by 1, the declared regions whose sets exceed their seeds.
 pub fn regionck(
-    s: &[u8],
-    layout: &[u16; 1280],
-    head: Head,
+    input: &Record<'_>,
     graph: &FuncGraph,
     walked: &[u32; 32],
     shape: Shape,
@@ -110,8 +102,8 @@ pub fn regionck(
     words: &mut [u32],
     grown: &mut [u8; 128],
 )
-    requires { (length layout.now ≡ 1280) × (length grown.old ≡ 128) }
-    ensures { (length grown.new ≡ 128) × ((j : Job) → Seeded s.now layout.now head graph.now.first graph.now.succ walked.now shape words.old j
+    requires { (length grown.old ≡ 128) }
+    ensures { (length grown.new ≡ 128) × ((j : Job) → Seeded input.now graph.now.first graph.now.succ walked.now shape words.old j
         → Solved (rule_of rule) j words.old words.new grown.new) }
 {
     let chain = dfs::chains(graph, shape.code);
@@ -122,10 +114,10 @@ pub fn regionck(
         rule,
     };
     if shape.code <= 32 {
-        with_tables::<393, 193, 128, 1>(s, layout, head, walked, &setup, words, grown);
+        with_tables::<393, 193, 128, 1>(input, walked, &setup, words, grown);
     } else if shape.code <= 128 {
-        with_tables::<1025, 513, 512, 1>(s, layout, head, walked, &setup, words, grown);
+        with_tables::<1025, 513, 512, 1>(input, walked, &setup, words, grown);
     } else {
-        with_tables::<4097, 4097, 4096, 4096>(s, layout, head, walked, &setup, words, grown);
+        with_tables::<4097, 4097, 4096, 4096>(input, walked, &setup, words, grown);
     }
 }

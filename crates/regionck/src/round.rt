@@ -3,11 +3,11 @@ ghost use Rattle.std.specs.Prelude.{◌≡◌, cond, List, [], ℕ, ◌+◌, ◌
 ghost use Rattle.nll_spec.specs.Output.{word_bits};
 ghost use Rattle.bit_set.specs.Bits.{with_bit};
 ghost use Rattle.constraint_list.specs.Listed.{count_in, Draws};
-ghost use Rattle.rerun.specs.Rerun.{Holding, OwnKept};
+ghost use Rattle.rerun.specs.Rerun.{under, Holding, OwnKept};
 ghost use Rattle.regionck.specs.Rounds.{Sound, RunsBelow, RoundRuns};
 
 use infer::Setup;
-use record::Head;
+use record::Record;
 use rerun::point::point;
 use rerun::{make_room, repeat};
 
@@ -15,32 +15,22 @@ use rerun::{make_room, repeat};
 const MOST: usize = 264;
 
 // Puts the constraints of the first points into the list, of as many as it has room for whatever a point makes. Returns the first point left out.
-pub fn collect(
-    s: &[u8],
-    layout: &[u16; 1280],
-    head: Head,
-    walked: &[u32; 32],
-    code: usize,
-    list: &mut [u32],
-) -> usize
-    requires { length layout.now ≡ 1280 }
-    ensures { Holding s.now layout.now head walked.now code list.new 0 result }
+pub fn collect(input: &Record<'_>, walked: &[u32; 32], code: usize, list: &mut [u32]) -> usize
+    ensures { Holding input.now walked.now code list.new 0 result }
 {
     constraint_list::clear(list);
     for p in 0..code {
         if constraint_list::room(list) < MOST {
             return p;
         }
-        point(s, layout, head, walked, p, list);
+        point(input, walked, p, list);
     }
     code
 }
 
 // Runs the constraints of point p. It is passed by if no region with a mark is the inner one of a constraint of the point, by its row of `absent`.
 fn visit(
-    s: &[u8],
-    layout: &[u16; 1280],
-    head: Head,
+    input: &Record<'_>,
     walked: &[u32; 32],
     setup: &Setup,
     words: &mut [u32],
@@ -50,29 +40,27 @@ fn visit(
     absent: &mut [u32],
     p: usize,
 )
-    requires { (length layout.now ≡ 1280) × (p < setup.now.shape.code) × Sound s.now layout.now head walked.now setup.now.shape.code absent.old }
-    ensures { ((ws : List ℕ) → RunsBelow s.now layout.now head walked.now setup.now.shape setup.now.rule setup.now.graph.now.first setup.now.graph.now.succ setup.now.chain.now
+    requires { (p < setup.now.shape.code) × Sound input.now walked.now setup.now.shape.code absent.old }
+    ensures { ((ws : List ℕ) → under setup.now (RunsBelow input.now walked.now)
         last.now ws words.old grew.old p
-        → RunsBelow s.now layout.now head walked.now setup.now.shape setup.now.rule setup.now.graph.now.first setup.now.graph.now.succ setup.now.chain.now
+        → under setup.now (RunsBelow input.now walked.now)
         last.now ws words.new grew.new (p + 1))
-        × OwnKept s.now layout.now head walked.now setup.now.shape.code recent.old recent.new
-        × Sound s.now layout.now head walked.now setup.now.shape.code absent.new }
+        × OwnKept input.now walked.now setup.now.shape.code recent.old recent.new
+        × Sound input.now walked.now setup.now.shape.code absent.new }
 {
     let marks = absent_regions::marked(last, grew);
     if absent_regions::all_in(absent, p, &marks) {
         return;
     }
     let mut list = [0; 265];
-    point(s, layout, head, walked, p, &mut list);
+    point(input, walked, p, &mut list);
     absent_regions::put(&list, p, absent);
     setup.run(words, last, grew, recent, &list);
 }
 
 // Runs the constraints of point `from` and of those after it.
 fn rest(
-    s: &[u8],
-    layout: &[u16; 1280],
-    head: Head,
+    input: &Record<'_>,
     walked: &[u32; 32],
     setup: &Setup,
     words: &mut [u32],
@@ -82,27 +70,23 @@ fn rest(
     absent: &mut [u32],
     from: usize,
 )
-    requires { (length layout.now ≡ 1280) × (from ≤ setup.now.shape.code) × Sound s.now layout.now head walked.now setup.now.shape.code absent.old }
-    ensures { ((ws : List ℕ) → RunsBelow s.now layout.now head walked.now setup.now.shape setup.now.rule setup.now.graph.now.first setup.now.graph.now.succ setup.now.chain.now
+    requires { (from ≤ setup.now.shape.code) × Sound input.now walked.now setup.now.shape.code absent.old }
+    ensures { ((ws : List ℕ) → under setup.now (RunsBelow input.now walked.now)
         last.now ws words.old grew.old from
-        → RunsBelow s.now layout.now head walked.now setup.now.shape setup.now.rule setup.now.graph.now.first setup.now.graph.now.succ setup.now.chain.now
+        → under setup.now (RunsBelow input.now walked.now)
         last.now ws words.new grew.new setup.now.shape.code)
-        × OwnKept s.now layout.now head walked.now setup.now.shape.code recent.old recent.new
-        × Sound s.now layout.now head walked.now setup.now.shape.code absent.new }
+        × OwnKept input.now walked.now setup.now.shape.code recent.old recent.new
+        × Sound input.now walked.now setup.now.shape.code absent.new }
 {
     for p in from..setup.shape.code {
-        visit(
-            s, layout, head, walked, setup, words, last, grew, recent, absent, p,
-        );
+        visit(input, walked, setup, words, last, grew, recent, absent, p);
     }
 }
 
 // Runs the constraints of each point of walked blocks. The list has the constraints of the points before `to`; `recent` gets those by which regions are marked, and is
 // emptied where it is short of room.
 fn sweep(
-    s: &[u8],
-    layout: &[u16; 1280],
-    head: Head,
+    input: &Record<'_>,
     walked: &[u32; 32],
     setup: &Setup,
     words: &mut [u32],
@@ -112,27 +96,25 @@ fn sweep(
     list: &[u32],
     to: usize,
 ) -> [u8; 128]
-    requires { (length layout.now ≡ 1280) × Holding s.now layout.now head walked.now setup.now.shape.code list.now 0 to
-        × Sound s.now layout.now head walked.now setup.now.shape.code absent.old }
-    ensures { RunsBelow s.now layout.now head walked.now setup.now.shape setup.now.rule setup.now.graph.now.first setup.now.graph.now.succ setup.now.chain.now
+    requires { Holding input.now walked.now setup.now.shape.code list.now 0 to
+        × Sound input.now walked.now setup.now.shape.code absent.old }
+    ensures { under setup.now (RunsBelow input.now walked.now)
         last.now words.old words.new result setup.now.shape.code
-        × OwnKept s.now layout.now head walked.now setup.now.shape.code recent.old recent.new
-        × Sound s.now layout.now head walked.now setup.now.shape.code absent.new }
+        × OwnKept input.now walked.now setup.now.shape.code recent.old recent.new
+        × Sound input.now walked.now setup.now.shape.code absent.new }
 {
     let mut grew = [0; 128];
     make_room(recent);
     setup.run(words, last, &mut grew, recent, list);
     rest(
-        s, layout, head, walked, setup, words, last, &mut grew, recent, absent, to,
+        input, walked, setup, words, last, &mut grew, recent, absent, to,
     );
     grew
 }
 
 // The same, and then some of them again. `before` has the words as they are before.
 pub fn round(
-    s: &[u8],
-    layout: &[u16; 1280],
-    head: Head,
+    input: &Record<'_>,
     walked: &[u32; 32],
     setup: &Setup,
     words: &mut [u32],
@@ -143,17 +125,15 @@ pub fn round(
     list: &[u32],
     to: usize,
 ) -> [u8; 128]
-    requires { (length layout.now ≡ 1280) × Holding s.now layout.now head walked.now setup.now.shape.code list.now 0 to × Sound s.now layout.now head walked.now setup.now.shape.code absent.old }
-    ensures { RoundRuns s.now layout.now head walked.now setup.now.shape setup.now.rule setup.now.graph.now.first setup.now.graph.now.succ setup.now.chain.now
+    requires { Holding input.now walked.now setup.now.shape.code list.now 0 to × Sound input.now walked.now setup.now.shape.code absent.old }
+    ensures { under setup.now (RoundRuns input.now walked.now)
         last.now recent.old words.old words.new result
-        × OwnKept s.now layout.now head walked.now setup.now.shape.code recent.old recent.new
-        × Sound s.now layout.now head walked.now setup.now.shape.code absent.new }
+        × OwnKept input.now walked.now setup.now.shape.code recent.old recent.new
+        × Sound input.now walked.now setup.now.shape.code absent.new }
 {
-    let mut grew = sweep(
-        s, layout, head, walked, setup, words, last, recent, absent, list, to,
-    );
+    let mut grew = sweep(input, walked, setup, words, last, recent, absent, list, to);
     repeat(
-        s, layout, head, walked, setup, words, &mut grew, recent, before, absent, list, to,
+        input, walked, setup, words, &mut grew, recent, before, absent, list, to,
     );
     grew
 }

@@ -22,10 +22,6 @@ use Rattle.repr.specs.declared.Region.{Region}
 use Rattle.repr.specs.declared.Region.TheVariants as regions
 use Rattle.repr.specs.declared.RegionName.{RegionName}
 use Rattle.repr.specs.declared.StructName.{StructName}
-use Rattle.repr.specs.declared.NodeStep.{NodeStep}
-use Rattle.repr.specs.declared.NodeStep.TheVariants as node_step
-use Rattle.repr.specs.declared.NodesStep.{NodesStep}
-use Rattle.repr.specs.declared.NodesStep.TheVariants as nodes_step
 use Rattle.constraint_list.specs.Listed.{Adds}
 use Rattle.constraint_list.proofs.ListLaws.{adds_none, adds-append}
 use Rattle.repr.specs.Stands.{ArgsTo}
@@ -34,9 +30,6 @@ use Rattle.repr.proofs.StandLaws.{NodeIs, node-is, on-node, none_is, args-passed
 use Rattle.repr.proofs.NodeLaws.{type-nodes, unit-nodes, ref_nodes, struct_nodes, region-nodes, first-nodes, tail-nodes}
 use Rattle.beside.specs.Beside.{heads_of, ParameterSays, TypesFirst, PairIs, FirstsSay}
 use Rattle.relate.specs.Relates.{Types, Arguments, Ends, Fewer, ParametersSay, relate_first, OthersAt, Others, TypesRelate, FirstRelates, ArgumentsRelate, Relates, RelatesRef}
-use Rattle.relate.specs.declared.Site.{Site}
-use Rattle.relate.specs.declared.Both.{Both}
-use Rattle.relate.specs.declared.Both.TheVariants.{Ended, Stopped}
 use Rattle.beside.specs.declared.Row.{Row}
 use Rattle.beside.specs.declared.Heads.{Heads}
 use Rattle.beside.specs.declared.Heads.TheVariants as heads
@@ -44,6 +37,17 @@ use Rattle.beside.specs.declared.Pair.{Pair}
 use Rattle.beside.specs.declared.Pair.TheVariants as pairs
 use Rattle.beside.specs.declared.Parameter.{Parameter}
 use Rattle.beside.proofs.BesideLaws.{HeadsAre, heads_by}
+use Rattle.repr.specs.declared.refusal.Refusal.{Refusal}
+use Rattle.repr.specs.declared.Node.{Node}
+use Rattle.repr.specs.declared.Node.TheVariants as nodes
+use Rattle.repr.specs.declared.Rest.{Rest}
+use Rattle.record.specs.declared.Record.{Record}
+use Rattle.relate.specs.declared.Both.{Both}
+use Rattle.std.specs.Prelude.{Option, Some, None, Result, Ok, Err}
+
+-- where two parts end, with the nodes that are left
+abbrev ended : ℕ → Cursor → Cursor → Option Both
+ended left c d = Some (record { left = left; a = c; b = d })
 
 -- ---- Two regions
 
@@ -109,20 +113,20 @@ types_alike {more = more} {t = t} {u = u} h e f i = (and-eq-true_iff (same_shape
 
 -- ---- Nodes that are left
 
-pub fewer-still : {l left : ℕ} (r : Both) → Fewer l r → l ≤ left → Fewer left r
-fewer-still (Ended k c d) h g = omega arith
-fewer-still Stopped h g = tt
+pub fewer-still : {l left : ℕ} (r : Option Both) → Fewer l r → l ≤ left → Fewer left r
+fewer-still (Some o) h g = omega arith
+fewer-still None h g = tt
 
-pub rest-fewer : {left l : ℕ} {c d : Cursor} (r : Both) → Fewer left r → r ≡ Ended l c d → l ≤ left
-rest-fewer {left} r h e = subst (λ (x : Both). Fewer left x) e h
+pub rest-fewer : {left l : ℕ} {c d : Cursor} (r : Option Both) → Fewer left r → r ≡ ended l c d → l ≤ left
+rest-fewer {left} r h e = subst (λ (x : Option Both). Fewer left x) e h
 
 -- ---- Two types
 
-module _ {a : List ℕ} {x : ℕ} {b : List ℕ} {y left : ℕ} {j k : NodeStep} {h : Heads} (ma : NodeSays node a x j) (nb : NodeSays node b y k) (eh : h ≡ heads_of j k) where
-  on_heads : {w : Heads} → h ≡ w → (t u : Ty) (p q : List ℕ) → Types a x b y left t u p q → HeadsAre a b t u p q w
+module _ {a : List ℕ} {x : ℕ} {b : List ℕ} {y left : ℕ} {j k : Result Node Refusal} {h : Option Heads} (ma : NodeSays node a x j) (nb : NodeSays node b y k) (eh : h ≡ heads_of j k) where
+  on_heads : {w : Option Heads} → h ≡ w → (t u : Ty) (p q : List ℕ) → Types a x b y left t u p q → HeadsAre a b t u p q w
   on_heads f t u p q w = heads_by ma nb eh f w.a_stands w.b_stands
 
-  module _ {k' : BorrowKind} {r o : Region} {c d : Cursor} (f : h ≡ heads.Refs k' r c o d) (z : left ≡ 0 → ⊥) where
+  module _ {k' : BorrowKind} {r o : Region} {c d : Cursor} (f : h ≡ Some (heads.Refs k' r c o d)) (z : left ≡ 0 → ⊥) where
     ref_parts : (t u : Ty) (p q : List ℕ) (w : Types a x b y left t u p q) → Types a c.at b d.at (left - 1) (on_heads f t u p q w).first (on_heads f t u p q w).second p q
     ref_parts t u p q w =
         let i = on_heads f t u p q w in
@@ -132,7 +136,7 @@ module _ {a : List ℕ} {x : ℕ} {b : List ℕ} {y left : ℕ} {j k : NodeStep}
         let fb = w.b_few in
         record { a_stands = i.a_stands; b_stands = i.b_stands; a_few = omega arith; b_few = omega arith; alike = sym i.alike ∙ w.alike }
 
-  module _ {name : StructName} {c d : Row} (f : h ≡ heads.Structs name c d) (z : left ≡ 0 → ⊥) where
+  module _ {name : StructName} {c d : Row} (f : h ≡ Some (heads.Structs name c d)) (z : left ≡ 0 → ⊥) where
     struct_parts : (t u : Ty) (p q : List ℕ) (w : Types a x b y left t u p q) → Arguments a c b d (left - 1) (on_heads f t u p q w).first (on_heads f t u p q w).second p q
     struct_parts t u p q w =
         let i = on_heads f t u p q w in
@@ -142,37 +146,37 @@ module _ {a : List ℕ} {x : ℕ} {b : List ℕ} {y left : ℕ} {j k : NodeStep}
         let fb = w.b_few in
         record { a_stand = i.a_stand; b_stand = i.b_stand; a_few = omega arith; b_few = omega arith; alike = sym i.alike ∙ w.alike }
 
-module _ {s t : List ℕ} {site : Site} {a : List ℕ} {x : ℕ} {b : List ℕ} {y left : ℕ} {v : syntax.Variance} {ls : List ℕ} where
-  pub types_none : left ≡ 0 → TypesRelate s t site a x b y left v ls ls Stopped
+module _ {input : Record} {at : syntax.Point} {a : List ℕ} {x : ℕ} {b : List ℕ} {y left : ℕ} {v : syntax.Variance} {ls : List ℕ} where
+  pub types_none : left ≡ 0 → TypesRelate input at a x b y left v ls ls None
   types_none z = record { adds = λ j l m n p q w. absurd (none m w.a_few); ends = λ m n p q w. none m w.a_few; fewer = tt }
     where
       none : (m : Ty) → type_nodes m ≤ left → ⊥
       none m h = let k = type-nodes m in absurd (omega arith)
 
-  module _ {j k : NodeStep} {h : Heads} (ma : NodeSays node a x j) (nb : NodeSays node b y k) (eh : h ≡ heads_of j k) where
-    pub types_differ : h ≡ heads.Differ → TypesRelate s t site a x b y left v ls ls Stopped
+  module _ {j k : Result Node Refusal} {h : Option Heads} (ma : NodeSays node a x j) (nb : NodeSays node b y k) (eh : h ≡ heads_of j k) where
+    pub types_differ : h ≡ None → TypesRelate input at a x b y left v ls ls None
     types_differ f = record {
       adds = λ j l m n p q w. absurd (true≢false (sym w.alike ∙ on_heads ma nb eh f m n p q w));
       ends = λ m n p q w. true≢false (sym w.alike ∙ on_heads ma nb eh f m n p q w);
       fewer = tt;
     }
 
-    pub types_units : {c d : Cursor} → h ≡ heads.Units c d → TypesRelate s t site a x b y left v ls ls (Ended (left - 1) c d)
+    pub types_units : {c d : Cursor} → h ≡ Some (heads.Units c d) → TypesRelate input at a x b y left v ls ls (ended (left - 1) c d)
     types_units f = record {
-      adds = λ j l m n p q w. adds_none (unit_relates site.at j.structs v n (on_heads ma nb eh f m n p q w).a_same);
+      adds = λ j l m n p q w. adds_none (unit_relates at j.structs v n (on_heads ma nb eh f m n p q w).a_same);
       ends = λ m n p q w. let o = on_heads ma nb eh f m n p q w in let i = unit-nodes o.a_same in record { nodes = omega arith; a_ends = o.a_ends; b_ends = o.b_ends };
       fewer = omega arith;
     }
 
-    module _ {k' : BorrowKind} {r o : Region} {c d : Cursor} (f : h ≡ heads.Refs k' r c o d) (z : left ≡ 0 → ⊥) where
-      pub types_refs : {vi vr vw : syntax.Variance} {ls₁ ls₂ : List ℕ} {res : Both} → vi ≡ invert v → vr ≡ referent_variance (borrow_kind_of k') → vw ≡ within v vr
-          → Adds (relate_regions site.at vi (region_of r) (region_of o)) ls ls₁
-          → TypesRelate s t site a c.at b d.at (left - 1) vw ls₁ ls₂ res
-          → TypesRelate s t site a x b y left v ls ls₂ res
+    module _ {k' : BorrowKind} {r o : Region} {c d : Cursor} (f : h ≡ Some (heads.Refs k' r c o d)) (z : left ≡ 0 → ⊥) where
+      pub types_refs : {vi vr vw : syntax.Variance} {ls₁ ls₂ : List ℕ} {res : Option Both} → vi ≡ invert v → vr ≡ referent_variance (borrow_kind_of k') → vw ≡ within v vr
+          → Adds (relate_regions at vi (region_of r) (region_of o)) ls ls₁
+          → TypesRelate input at a c.at b d.at (left - 1) vw ls₁ ls₂ res
+          → TypesRelate input at a x b y left v ls ls₂ res
       types_refs {vi} {vr} {vw} {ls₂ = ls₂} {res = res} ei er ew one more = record {
         adds = λ j l m n p q w.
             let i = on_heads ma nb eh f m n p q w in
-            subst (λ (cs : List Outlives). Adds cs ls ls₂) (ref_relates site.at j.structs v i.a_same i.b_same ei er ew)
+            subst (λ (cs : List Outlives). Adds cs ls ls₂) (ref_relates at j.structs v i.a_same i.b_same ei er ew)
             (adds-append one (more.adds j l i.first i.second p q (ref_parts ma nb eh f z m n p q w)));
         ends = λ m n p q w.
             let i = on_heads ma nb eh f m n p q w in
@@ -182,14 +186,14 @@ module _ {s t : List ℕ} {site : Site} {a : List ℕ} {x : ℕ} {b : List ℕ} 
         fewer = fewer-still res more.fewer (omega arith);
       }
 
-    module _ {name : StructName} {c d : Row} (f : h ≡ heads.Structs name c d) (z : left ≡ 0 → ⊥) where
-      pub types_structs : {params : Row} {ls₁ : List ℕ} {res : Both} → ParametersSay s t site.head name.0 params
-          → ArgumentsRelate s t site params a c b d (left - 1) v ls ls₁ res
-          → TypesRelate s t site a x b y left v ls ls₁ res
+    module _ {name : StructName} {c d : Row} (f : h ≡ Some (heads.Structs name c d)) (z : left ≡ 0 → ⊥) where
+      pub types_structs : {params : Row} {ls₁ : List ℕ} {res : Option Both} → ParametersSay input name.0 params
+          → ArgumentsRelate input at params a c b d (left - 1) v ls ls₁ res
+          → TypesRelate input at a x b y left v ls ls₁ res
       types_structs {ls₁ = ls₁} {res = res} declared more = record {
         adds = λ j l m n p q w.
             let i = on_heads ma nb eh f m n p q w in
-            subst (λ (cs : List Outlives). Adds cs ls ls₁) (struct_relates site.at j.structs v i.a_same i.b_same)
+            subst (λ (cs : List Outlives). Adds cs ls ls₁) (struct_relates at j.structs v i.a_same i.b_same)
             (more.adds j l (struct_of j.structs name.0).params (declared.says j l) i.first i.second p q (struct_parts ma nb eh f z m n p q w));
         ends = λ m n p q w.
             let i = on_heads ma nb eh f m n p q w in
@@ -219,14 +223,14 @@ others-at {h = h} k e i j fa fb sa sb alike =
     let u = ap arg_nodes e in
     record { stand = record { a_stand = rw e sa; b_stand = sb; a_few = omega arith; b_few = omega arith; alike = rw e alike }; nodes = omega arith }
 
-module _ {a : List ℕ} {x : Row} {b : List ℕ} {y : Row} {left : ℕ} (zx : x.count ≡ 0 → ⊥) {pair : Pair} (np : FirstsSay a x.from.at b y pair) where
-  on_pair : {w : Pair} → pair ≡ w → (g h : Args) (p q : List ℕ) → Arguments a x b y left g h p q → PairIs a b x.count y.count g h p q w
-  on_pair e g h p q w = subst (λ (u : Pair). PairIs a b x.count y.count g h p q u) e (np.says x.count g h p q zx w.a_stand w.b_stand w.b_few)
+module _ {a : List ℕ} {x : Row} {b : List ℕ} {y : Row} {left : ℕ} (zx : x.count ≡ 0 → ⊥) {pair : Option Pair} (np : FirstsSay a x.from.at b y pair) where
+  on_pair : {w : Option Pair} → pair ≡ w → (g h : Args) (p q : List ℕ) → Arguments a x b y left g h p q → PairIs a b x.count y.count g h p q w
+  on_pair e g h p q w = subst (λ (u : Option Pair). PairIs a b x.count y.count g h p q u) e (np.says x.count g h p q zx w.a_stand w.b_stand w.b_few)
 
-  unit-few : {c d : Cursor} (e : pair ≡ pairs.Units c d) (g h : Args) (p q : List ℕ) (w : Arguments a x b y left g h p q) → arg_nodes g ≡ 1 + arg_nodes (on_pair e g h p q w).more
+  unit-few : {c d : Cursor} (e : pair ≡ Some (pairs.Units c d)) (g h : Args) (p q : List ℕ) (w : Arguments a x b y left g h p q) → arg_nodes g ≡ 1 + arg_nodes (on_pair e g h p q w).more
   unit-few e g h p q w = let i = on_pair e g h p q w in let k = first-nodes i.same in let l = unit-nodes {t = UnitTy} refl in omega arith
 
-  first_parts : {c d : Cursor} (e : pair ≡ pairs.Types c d) (g h : Args) (p q : List ℕ) (w : Arguments a x b y left g h p q)
+  first_parts : {c d : Cursor} (e : pair ≡ Some (pairs.Types c d)) (g h : Args) (p q : List ℕ) (w : Arguments a x b y left g h p q)
       → Types a c.at b d.at left (on_pair e g h p q w).first.item (on_pair e g h p q w).second.item (on_pair e g h p q w).first.mid (on_pair e g h p q w).second.mid
   first_parts e g h p q w =
       let i = on_pair e g h p q w in
@@ -236,46 +240,46 @@ module _ {a : List ℕ} {x : Row} {b : List ℕ} {y : Row} {left : ℕ} (zx : x.
       let fb = w.b_few in
       record { a_stands = i.first.first; b_stands = i.second.first; a_few = omega arith; b_few = omega arith; alike = (types_alike h i.first.same (head_is h i.second.same) w.alike).0 }
 
-module _ {s t : List ℕ} {site : Site} {a : List ℕ} {x : Row} {b : List ℕ} {y : Row} {left : ℕ} {v : syntax.Variance} {ls : List ℕ} (zx : x.count ≡ 0 → ⊥) {pair : Pair} (np : FirstsSay a x.from.at b y pair) where
-  pub first-differ : pair ≡ pairs.Differ → FirstRelates s t site a x b y left v ls ls Stopped
+module _ {input : Record} {at : syntax.Point} {a : List ℕ} {x : Row} {b : List ℕ} {y : Row} {left : ℕ} {v : syntax.Variance} {ls : List ℕ} (zx : x.count ≡ 0 → ⊥) {pair : Option Pair} (np : FirstsSay a x.from.at b y pair) where
+  pub first-differ : pair ≡ None → FirstRelates input at a x b y left v ls ls None
   first-differ e = record { adds = λ j l g h p q w. absurd (true≢false (sym w.alike ∙ on_pair zx np e g h p q w)); ends = λ g h p q w. true≢false (sym w.alike ∙ on_pair zx np e g h p q w); fewer = tt }
 
-  pub first-regions : {r o : Region} {c d : Cursor} {ls₁ : List ℕ} → pair ≡ pairs.Regions r c o d → Adds (relate_regions site.at v (region_of r) (region_of o)) ls ls₁
-      → FirstRelates s t site a x b y left v ls ls₁ (Ended left c d)
+  pub first-regions : {r o : Region} {c d : Cursor} {ls₁ : List ℕ} → pair ≡ Some (pairs.Regions r c o d) → Adds (relate_regions at v (region_of r) (region_of o)) ls ls₁
+      → FirstRelates input at a x b y left v ls ls₁ (ended left c d)
   first-regions {ls₁ = ls₁} e one = record {
     adds = λ j l g h p q w.
         let i = on_pair zx np e g h p q w in
-        subst (λ (cs : List Outlives). Adds cs ls ls₁) (region-first site.at j.structs v h i.same i.second.region) one;
+        subst (λ (cs : List Outlives). Adds cs ls ls₁) (region-first at j.structs v h i.same i.second.region) one;
     ends = λ g h p q w.
         let i = on_pair zx np e g h p q w in
         others-at 0 (tail_of g i.same) (omega (arith, region-nodes i.same)) (omega arith) w.a_few w.b_few i.others i.second.others (regions-alike h i.same w.alike);
     fewer = le_refl left;
   }
 
-  module _ {c d : Cursor} (e : pair ≡ pairs.Units c d) where
-    pub first_spent : left ≡ 0 → FirstRelates s t site a x b y left v ls ls Stopped
+  module _ {c d : Cursor} (e : pair ≡ Some (pairs.Units c d)) where
+    pub first_spent : left ≡ 0 → FirstRelates input at a x b y left v ls ls None
     first_spent f = record { adds = λ j l g h p q w. absurd (spent g h p q w); ends = spent; fewer = tt }
       where
         spent : (g h : Args) (p q : List ℕ) → Arguments a x b y left g h p q → ⊥
         spent g h p q w = let k = unit-few zx np e g h p q w in let l = w.a_few in absurd (omega arith)
 
-    pub first_units : FirstRelates s t site a x b y left v ls ls (Ended (left - 1) c d)
+    pub first_units : FirstRelates input at a x b y left v ls ls (ended (left - 1) c d)
     first_units = record {
       adds = λ j l g h p q w.
           let i = on_pair zx np e g h p q w in
-          adds_none (sym (type-first site.at j.structs v h i.same i.second.unit) ∙ unit_relates site.at j.structs v UnitTy refl);
+          adds_none (sym (type-first at j.structs v h i.same i.second.unit) ∙ unit_relates at j.structs v UnitTy refl);
       ends = λ g h p q w.
           let i = on_pair zx np e g h p q w in
           others-at 1 (tail-is g i.same) (unit-few zx np e g h p q w) refl w.a_few w.b_few i.others i.second.others (types_alike h i.same i.second.unit w.alike).1;
       fewer = omega arith;
     }
 
-  pub first_types : {c d : Cursor} {ls₁ : List ℕ} {res : Both} → pair ≡ pairs.Types c d → TypesRelate s t site a c.at b d.at left v ls ls₁ res
-      → FirstRelates s t site a x b y left v ls ls₁ res
+  pub first_types : {c d : Cursor} {ls₁ : List ℕ} {res : Option Both} → pair ≡ Some (pairs.Types c d) → TypesRelate input at a c.at b d.at left v ls ls₁ res
+      → FirstRelates input at a x b y left v ls ls₁ res
   first_types {ls₁ = ls₁} {res = res} e u = record {
     adds = λ j l g h p q w.
         let i = on_pair zx np e g h p q w in
-        subst (λ (cs : List Outlives). Adds cs ls ls₁) (type-first site.at j.structs v h i.first.same (head_is h i.second.same))
+        subst (λ (cs : List Outlives). Adds cs ls ls₁) (type-first at j.structs v h i.first.same (head_is h i.second.same))
         (u.adds j l i.first.item i.second.item i.first.mid i.second.mid (first_parts zx np e g h p q w));
     ends = λ g h p q w.
         let i = on_pair zx np e g h p q w in
@@ -283,58 +287,58 @@ module _ {s t : List ℕ} {site : Site} {a : List ℕ} {x : Row} {b : List ℕ} 
     fewer = u.fewer;
   }
     where
-      go : (g h : Args) (p q : List ℕ) → Arguments a x b y left g h p q → {f k : List ℕ} (i : TypesFirst f (x.count - 1) k (y.count - 1) g h p q) (r : Both) → Ends a b (left - type_nodes i.first.item) i.first.mid i.second.mid r
+      go : (g h : Args) (p q : List ℕ) → Arguments a x b y left g h p q → {f k : List ℕ} (i : TypesFirst f (x.count - 1) k (y.count - 1) g h p q) (r : Option Both) → Ends a b (left - type_nodes i.first.item) i.first.mid i.second.mid r
           → Others a x.count b y.count left g h p q r
-      go g h p q w i (Ended l c d) o =
+      go g h p q w i (Some o') o =
           others-at (type_nodes i.first.item) (tail-is g i.first.same) (first-nodes i.first.same) o.nodes w.a_few w.b_few
           (subst (λ (z : List ℕ). ArgsTo z (x.count - 1) i.first.more p) (sym o.a_ends) i.first.others)
           (rw (tail-is h i.second.same) (subst (λ (z : List ℕ). ArgsTo z (y.count - 1) i.second.more q) (sym o.b_ends) i.second.others))
           (types_alike h i.first.same (head_is h i.second.same) w.alike).1
-      go g h p q w i Stopped o = o
+      go g h p q w i None o = o
 
 -- ---- Two rows of arguments
 
-module _ {s t : List ℕ} {site : Site} {a : List ℕ} {x : Row} {b : List ℕ} {y : Row} {left : ℕ} {v : syntax.Variance} {ls ls₁ : List ℕ} {one : Both} (u : FirstRelates s t site a x b y left v ls ls₁ one) where
-  on-first : {w : Both} → one ≡ w → (g h : Args) (p q : List ℕ) → Arguments a x b y left g h p q → Others a x.count b y.count left g h p q w
-  on-first e g h p q w = subst (λ (z : Both). Others a x.count b y.count left g h p q z) e (u.ends g h p q w)
+module _ {input : Record} {at : syntax.Point} {a : List ℕ} {x : Row} {b : List ℕ} {y : Row} {left : ℕ} {v : syntax.Variance} {ls ls₁ : List ℕ} {one : Option Both} (u : FirstRelates input at a x b y left v ls ls₁ one) where
+  on-first : {w : Option Both} → one ≡ w → (g h : Args) (p q : List ℕ) → Arguments a x b y left g h p q → Others a x.count b y.count left g h p q w
+  on-first e g h p q w = subst (λ (z : Option Both). Others a x.count b y.count left g h p q z) e (u.ends g h p q w)
 
-  others-stand : {l : ℕ} {c d : Cursor} → one ≡ Ended l c d → {x' y' : Row} → (x'.from ≡ c) × (x'.count ≡ x.count - 1) → (y'.from ≡ d) × (y'.count ≡ y.count - 1)
+  others-stand : {l : ℕ} {c d : Cursor} → one ≡ ended l c d → {x' y' : Row} → (x'.from ≡ c) × (x'.count ≡ x.count - 1) → (y'.from ≡ d) × (y'.count ≡ y.count - 1)
       → (g h : Args) (p q : List ℕ) → Arguments a x b y left g h p q → Arguments a x' b y' l (tail_args g) (tail_args h) p q
   others-stand e ex ey g h p q w =
       let i = (on-first e g h p q w).stand in
       record { a_stand = rw (ex.0, ex.1) i.a_stand; b_stand = rw (ey.0, ey.1) i.b_stand; a_few = i.a_few; b_few = i.b_few; alike = i.alike }
 
-module _ {s t : List ℕ} {site : Site} {params : Row} {a : List ℕ} {x : Row} {b : List ℕ} {y : Row} {left : ℕ} {v : syntax.Variance} {ls : List ℕ} where
-  module _ {r : NodesStep} (n : repr_types.ArgumentsSay b y.from.at y.count 32 r) (z : x.count ≡ 0) where
-    pub arguments_short : {k : ℕ} → r ≡ nodes_step.Refused k → ArgumentsRelate s t site params a x b y left v ls ls Stopped
+module _ {input : Record} {at : syntax.Point} {params : Row} {a : List ℕ} {x : Row} {b : List ℕ} {y : Row} {left : ℕ} {v : syntax.Variance} {ls : List ℕ} where
+  module _ {r : Result Rest Refusal} (n : repr_types.ArgumentsSay b y.from.at y.count 32 r) (z : x.count ≡ 0) where
+    pub arguments_short : {k : Refusal} → r ≡ Err k → ArgumentsRelate input at params a x b y left v ls ls None
     arguments_short e = record { adds = λ j l ds o g h p q w. absurd (short g h p q w); ends = short; fewer = tt }
       where
         short : (g h : Args) (p q : List ℕ) → Arguments a x b y left g h p q → ⊥
         short g h p q w = clash (sym (ap (nodes_says b) e) ∙ args-passed n w.b_stand w.b_few)
 
-    pub arguments_none : {l : ℕ} {d : Cursor} → r ≡ nodes_step.Ended l d → ArgumentsRelate s t site params a x b y left v ls ls (Ended left x.from d)
+    pub arguments_none : {end : Rest} → r ≡ Ok end → ArgumentsRelate input at params a x b y left v ls ls (ended left x.from end.next)
     unfolding arg_nodes
-    arguments_none {l} {d} e = record {
-      adds = λ j l ds o g h p q w. adds_none (none_relates site.at j.structs v ds h (none_is z w.a_stand).same);
+    arguments_none {end} e = record {
+      adds = λ j l ds o g h p q w. adds_none (none_relates at j.structs v ds h (none_is z w.a_stand).same);
       ends = λ g h p q w.
           let i = none_is z w.a_stand in
           let k = sym (ap (nodes_says b) e) ∙ args-passed n w.b_stand w.b_few in
-          let f : rest b d ≡ q = cc in
+          let f : rest b end.next ≡ q = cc in
           record { nodes = rw (i.same, sub-zero); a_ends = i.ends; b_ends = f };
       fewer = le_refl left;
     }
 
-  module _ {own : Parameter} (par : ParameterSays s params own) {vw : syntax.Variance} (ew : vw ≡ within v (variance_of own.variance)) {ls₁ : List ℕ} {one : Both} (u : FirstRelates s t site a x b y left vw ls ls₁ one) where
-    pub arguments_stopped : one ≡ Stopped → ArgumentsRelate s t site params a x b y left v ls ls₁ Stopped
+  module _ {own : Parameter} (par : ParameterSays input.bytes.now params own) {vw : syntax.Variance} (ew : vw ≡ within v (variance_of own.variance)) {ls₁ : List ℕ} {one : Option Both} (u : FirstRelates input at a x b y left vw ls ls₁ one) where
+    pub arguments_stopped : one ≡ None → ArgumentsRelate input at params a x b y left v ls ls₁ None
     arguments_stopped e = record { adds = λ j l ds o g h p q w. absurd (on-first u e g h p q w); ends = on-first u e; fewer = tt }
 
-    module _ {rem : ℕ} {c d : Cursor} (e : one ≡ Ended rem c d) {x' y' : Row} (ex : (x'.from ≡ c) × (x'.count ≡ x.count - 1)) (ey : (y'.from ≡ d) × (y'.count ≡ y.count - 1)) where
-      pub arguments_more : {ls₂ : List ℕ} {res : Both} → ArgumentsRelate s t site own.others a x' b y' rem v ls₁ ls₂ res
-          → ArgumentsRelate s t site params a x b y left v ls ls₂ res
+    module _ {rem : ℕ} {c d : Cursor} (e : one ≡ ended rem c d) {x' y' : Row} (ex : (x'.from ≡ c) × (x'.count ≡ x.count - 1)) (ey : (y'.from ≡ d) × (y'.count ≡ y.count - 1)) where
+      pub arguments_more : {ls₂ : List ℕ} {res : Option Both} → ArgumentsRelate input at own.others a x' b y' rem v ls₁ ls₂ res
+          → ArgumentsRelate input at params a x b y left v ls ls₂ res
       arguments_more {ls₂} {res} more = record {
         adds = λ j l ds o g h p q w.
             let k = par.says ds o in
-            subst (λ (cs : List Outlives). Adds cs ls ls₂) (rows-relate site.at j.structs g v ds h k.variance ew)
+            subst (λ (cs : List Outlives). Adds cs ls ls₂) (rows-relate at j.structs g v ds h k.variance ew)
             (adds-append (u.adds j l g h p q w) (more.adds j l (tail ds) k.others (tail_args g) (tail_args h) p q (others-stand u e ex ey g h p q w)));
         ends = λ g h p q w. subst (λ (l : ℕ). Ends a b l p q res) (on-first u e g h p q w).nodes (more.ends (tail_args g) (tail_args h) p q (others-stand u e ex ey g h p q w));
         fewer = fewer-still res more.fewer (rest-fewer one u.fewer e);
@@ -342,35 +346,39 @@ module _ {s t : List ℕ} {site : Site} {params : Row} {a : List ℕ} {x : Row} 
 
 -- ---- Whole types
 
-module _ {s t : List ℕ} {site : Site} {a : List ℕ} {x : ℕ} {b : List ℕ} {y : ℕ} {v : syntax.Variance} {ls : List ℕ} where
-  pub whole_types : {ls' : List ℕ} {r : Both} → TypesRelate s t site a x b y 32 v ls ls' r → Relates s t site a x b y v ls ls'
+module _ {input : Record} {at : syntax.Point} {a : List ℕ} {x : ℕ} {b : List ℕ} {y : ℕ} {v : syntax.Variance} {ls : List ℕ} where
+  pub whole_types : {ls' : List ℕ} {r : Option Both} → TypesRelate input at a x b y 32 v ls ls' r → Relates input at a x b y v ls ls'
   whole_types w = record {
     adds = λ j l m n p q h i k.
         w.adds j l m n p.over q.over (record { a_stands = p.stands; b_stands = q.stands; a_few = h; b_few = i; alike = is_true _ k });
   }
 
-  module _ {d : NodeStep} (m : NodeSays node a x d) {o : RegionName} where
-    pub ref_other : ((j : BorrowKind) (r : Region) (c : Cursor) → d ≡ node_step.Ref j r c → ⊥) → RelatesRef o.0 s t site a x b y v ls ls
+  module _ {d : Result Node Refusal} (m : NodeSays node a x d) {o : RegionName} where
+    pub ref_other : ((j : BorrowKind) (r : Region) (c : Cursor) → d ≡ Ok (nodes.Ref j r c) → ⊥) → RelatesRef o.0 input at a x b y v ls ls
     unfolding same_shape
     ref_other f = record { adds = λ j l t u k p q h i e. absurd (go t u k p.over d f (node-is m p.stands) (is_true _ e)) }
       where
-        go : (t u : Ty) (k : syntax.BorrowKind) (over : List ℕ) (n : NodeStep) → ((j : BorrowKind) (r : Region) (c : Cursor) → n ≡ node_step.Ref j r c → ⊥) → NodeIs a t over n → same_shape t (RefTy k (Free o.0) u) ≡ true → ⊥
-        go t u k over (node_step.Unit c) e w i = true≢false (sym i ∙ rw w.same)
-        go t u k over (node_step.Ref j r c) e w i = e j r c refl
-        go t u k over (node_step.Struct z n c) e w i = true≢false (sym i ∙ rw w.same)
-        go t u k over (node_step.Bound j c) e w i = true≢false (sym i ∙ rw w.same)
-        go t u k over (node_step.Refused j) e w i = w
+        go : (t u : Ty) (k : syntax.BorrowKind) (over : List ℕ) (n : Result Node Refusal) → ((j : BorrowKind) (r : Region) (c : Cursor) → n ≡ Ok (nodes.Ref j r c) → ⊥) → NodeIs a t over n → same_shape t (RefTy k (Free o.0) u) ≡ true → ⊥
+        go t u k over (Ok (nodes.Unit c)) e w i = true≢false (sym i ∙ rw w.same)
+        go t u k over (Ok (nodes.Ref j r c)) e w i = e j r c refl
+        go t u k over (Ok (nodes.Struct z n c)) e w i = true≢false (sym i ∙ rw w.same)
+        go t u k over (Ok (nodes.Bound j c)) e w i = true≢false (sym i ∙ rw w.same)
+        go t u k over (Err j) e w i = w
 
-    pub ref_adds : {k' : BorrowKind} {r : Region} {c : Cursor} {vi vr vw : syntax.Variance} {ls₁ ls₂ : List ℕ} → d ≡ node_step.Ref k' r c
+    -- another node
+    pub ref_not : {n : Node} → d ≡ Ok n → ((j : BorrowKind) (r : Region) (c : Cursor) → n ≡ nodes.Ref j r c → ⊥) → RelatesRef o.0 input at a x b y v ls ls
+    ref_not {n} e f = ref_other (λ j r c g. f j r c (let h = sym e ∙ g in cc))
+
+    pub ref_adds : {k' : BorrowKind} {r : Region} {c : Cursor} {vi vr vw : syntax.Variance} {ls₁ ls₂ : List ℕ} → d ≡ Ok (nodes.Ref k' r c)
         → vi ≡ invert v → vr ≡ referent_variance (borrow_kind_of k') → vw ≡ within v vr
-        → Adds (relate_regions site.at vi (region_of r) (Free o.0)) ls ls₁
-        → Relates s t site a c.at b y vw ls₁ ls₂
-        → RelatesRef o.0 s t site a x b y v ls ls₂
+        → Adds (relate_regions at vi (region_of r) (Free o.0)) ls ls₁
+        → Relates input at a c.at b y vw ls₁ ls₂
+        → RelatesRef o.0 input at a x b y v ls ls₂
     ref_adds {ls₂ = ls₂} f ei er ew one more = record {
       adds = λ j l t u k p q h i e.
           let w = on-node m f p.stands in
           let n = ref_nodes w.same in
-          subst (λ (cs : List Outlives). Adds cs ls ls₂) (ref_relates site.at j.structs v w.same refl ei er ew)
+          subst (λ (cs : List Outlives). Adds cs ls ls₂) (ref_relates at j.structs v w.same refl ei er ew)
           (adds-append one (more.adds j l w.referent u (record { over = p.over; stands = w.stands }) q (omega arith) i (passes _ (refs_alike {u = RefTy k (Free o.0) u} w.same refl (is_true _ e)))));
     }
 

@@ -1,5 +1,5 @@
 -- What relating two types does: it adds the constraints of `Constraints.relate` to a list, and tells where the types end.
-use Rattle.std.specs.Prelude.{◌≡◌, true, List, [], ℕ, ◌-◌, ◌≤◌, drop, T}
+use Rattle.std.specs.Prelude.{◌≡◌, true, List, [], ℕ, ◌-◌, ◌≤◌, drop, T, Option, Some, None}
 use Rattle.nll_spec.specs.Syntax.{Point, BorrowKind, Variance, RegionName, StructName, Free, Ty, RefTy, Args, NoArgs, RegionArg, TypeArg, Param, StructDecl, Job}
 use Rattle.nll_spec.specs.Decode.{max_nodes, items, param}
 use Rattle.nll_spec.specs.Types.{struct_of, head_region, head_type, tail_args, type_nodes, arg_nodes}
@@ -7,13 +7,11 @@ use Rattle.nll_spec.specs.Constraints.{Outlives, relate_regions, relate, relate_
 use Rattle.nll_spec.specs.WellFormed.{same_shape, same_shapes}
 use Rattle.repr.specs.Reading.{rest}
 use Rattle.repr.specs.Stands.{Stands, TypeTo, ArgsTo, TypeAt}
-use Rattle.record.specs.Layout.{Layout}
-use Rattle.record.specs.declared.Head.{Head}
+use Rattle.record.specs.Layout.{Holds}
+use Rattle.record.specs.declared.Record.{Record}
 use Rattle.constraint_list.specs.Listed.{Adds}
-use Rattle.relate.specs.declared.Site.{Site}
 use Rattle.beside.specs.declared.Row.{Row}
 use Rattle.relate.specs.declared.Both.{Both}
-use Rattle.relate.specs.declared.Both.TheVariants as both
 
 -- ---- Two types, or two rows of arguments, of one shape
 
@@ -38,20 +36,20 @@ pub record EndAt (l left : ℕ) (of-a p of-b q : List ℕ) : Type 0 where
   pub a_ends : of-a ≡ p
   pub b_ends : of-b ≡ q
 
-abbrev pub Ends : List ℕ → List ℕ → ℕ → List ℕ → List ℕ → Both → Type 0
-Ends a b left p q (both.Ended l c d) = EndAt l left (rest a c) p (rest b d) q
-Ends a b left p q both.Stopped = ⊥
+abbrev pub Ends : List ℕ → List ℕ → ℕ → List ℕ → List ℕ → Option Both → Type 0
+Ends a b left p q (Some o) = EndAt o.left left (rest a o.a) p (rest b o.b) q
+Ends a b left p q None = ⊥
 
 -- no more nodes are left than there were
-abbrev pub Fewer : ℕ → Both → Type 0
-Fewer left (both.Ended l c d) = l ≤ left
-Fewer left both.Stopped = Unit {0}
+abbrev pub Fewer : ℕ → Option Both → Type 0
+Fewer left (Some o) = o.left ≤ left
+Fewer left None = Unit {0}
 
 -- ---- What is added, and where both end
 
 -- The struct's parameters stand there.
-pub record ParametersSay (s t : List ℕ) (h : Head) (name : StructName) (r : Row) : Type 0 where
-  pub says : (j : Job) → Layout s t h j → Stands (items r.count param) (struct_of j.structs name).params (rest s r.from)
+pub record ParametersSay (input : Record) (name : StructName) (r : Row) : Type 0 where
+  pub says : (j : Job) → Holds input j → Stands (items r.count param) (struct_of j.structs name).params (rest input.bytes.now r.from)
 
 -- the constraints of the first arguments of two rows
 abbrev pub relate_first : Point → List StructDecl → Args → Variance → Args → List Outlives
@@ -64,28 +62,28 @@ pub record OthersAt (a : List ℕ) (x : Row) (b : List ℕ) (y : Row) (left l : 
   pub stand : Arguments a x b y l (tail_args g) (tail_args h) p q
   pub nodes : l - arg_nodes (tail_args g) ≡ left - arg_nodes g
 
-abbrev pub Others : List ℕ → ℕ → List ℕ → ℕ → ℕ → Args → Args → List ℕ → List ℕ → Both → Type 0
-Others a m b n left g h p q (both.Ended l c d) = OthersAt a (record { from = c; count = m - 1 }) b (record { from = d; count = n - 1 }) left l g h p q
-Others a m b n left g h p q both.Stopped = ⊥
+abbrev pub Others : List ℕ → ℕ → List ℕ → ℕ → ℕ → Args → Args → List ℕ → List ℕ → Option Both → Type 0
+Others a m b n left g h p q (Some o) = OthersAt a (record { from = o.a; count = m - 1 }) b (record { from = o.b; count = n - 1 }) left o.left g h p q
+Others a m b n left g h p q None = ⊥
 
-module _ (s t : List ℕ) (site : Site) where
-  pub record TypesRelate (a : List ℕ) (x : ℕ) (b : List ℕ) (y left : ℕ) (v : Variance) (ls ls' : List ℕ) (r : Both) : Type 0 where
-    pub adds : (j : Job) → Layout s t site.head j → (m n : Ty) (p q : List ℕ) → Types a x b y left m n p q
-        → Adds (relate site.at j.structs m v n) ls ls'
+module _ (input : Record) (at : Point) where
+  pub record TypesRelate (a : List ℕ) (x : ℕ) (b : List ℕ) (y left : ℕ) (v : Variance) (ls ls' : List ℕ) (r : Option Both) : Type 0 where
+    pub adds : (j : Job) → Holds input j → (m n : Ty) (p q : List ℕ) → Types a x b y left m n p q
+        → Adds (relate at j.structs m v n) ls ls'
     pub ends : (m n : Ty) (p q : List ℕ) → Types a x b y left m n p q → Ends a b (left - type_nodes m) p q r
     pub fewer : Fewer left r
 
   -- The first arguments, under their own variance.
-  pub record FirstRelates (a : List ℕ) (x : Row) (b : List ℕ) (y : Row) (left : ℕ) (v : Variance) (ls ls' : List ℕ) (r : Both) : Type 0 where
-    pub adds : (j : Job) → Layout s t site.head j → (g h : Args) (p q : List ℕ) → Arguments a x b y left g h p q
-        → Adds (relate_first site.at j.structs g v h) ls ls'
+  pub record FirstRelates (a : List ℕ) (x : Row) (b : List ℕ) (y : Row) (left : ℕ) (v : Variance) (ls ls' : List ℕ) (r : Option Both) : Type 0 where
+    pub adds : (j : Job) → Holds input j → (g h : Args) (p q : List ℕ) → Arguments a x b y left g h p q
+        → Adds (relate_first at j.structs g v h) ls ls'
     pub ends : (g h : Args) (p q : List ℕ) → Arguments a x b y left g h p q → Others a x.count b y.count left g h p q r
     pub fewer : Fewer left r
 
-  pub record ArgumentsRelate (params : Row) (a : List ℕ) (x : Row) (b : List ℕ) (y : Row) (left : ℕ) (v : Variance) (ls ls' : List ℕ) (r : Both) : Type 0 where
-    pub adds : (j : Job) → Layout s t site.head j → (ds : List Param) → Stands (items params.count param) ds (rest s params.from)
+  pub record ArgumentsRelate (params : Row) (a : List ℕ) (x : Row) (b : List ℕ) (y : Row) (left : ℕ) (v : Variance) (ls ls' : List ℕ) (r : Option Both) : Type 0 where
+    pub adds : (j : Job) → Holds input j → (ds : List Param) → Stands (items params.count param) ds (rest input.bytes.now params.from)
         → (g h : Args) (p q : List ℕ) → Arguments a x b y left g h p q
-        → Adds (relate_args site.at j.structs g v ds h) ls ls'
+        → Adds (relate_args at j.structs g v ds h) ls ls'
     pub ends : (g h : Args) (p q : List ℕ) → Arguments a x b y left g h p q → Ends a b (left - arg_nodes g) p q r
     pub fewer : Fewer left r
 
@@ -93,11 +91,11 @@ module _ (s t : List ℕ) (site : Site) where
 
   -- The constraints of the two types that stand there are added, if the types have one shape.
   pub record Relates (a : List ℕ) (x : ℕ) (b : List ℕ) (y : ℕ) (v : Variance) (ls ls' : List ℕ) : Type 0 where
-    pub adds : (j : Job) → Layout s t site.head j → (m n : Ty) → TypeAt a x m → TypeAt b y n → type_nodes m ≤ max_nodes → type_nodes n ≤ max_nodes → T (same_shape m n)
-        → Adds (relate site.at j.structs m v n) ls ls'
+    pub adds : (j : Job) → Holds input j → (m n : Ty) → TypeAt a x m → TypeAt b y n → type_nodes m ≤ max_nodes → type_nodes n ≤ max_nodes → T (same_shape m n)
+        → Adds (relate at j.structs m v n) ls ls'
 
 -- The same for a Ref of a region to the second.
-pub record RelatesRef (o : RegionName) (s t : List ℕ) (site : Site) (a : List ℕ) (x : ℕ) (b : List ℕ) (y : ℕ) (v : Variance) (ls ls' : List ℕ) : Type 0 where
-  pub adds : (j : Job) → Layout s t site.head j → (m n : Ty) (k : BorrowKind) → TypeAt a x m → TypeAt b y n → type_nodes m ≤ max_nodes → type_nodes n ≤ max_nodes
+pub record RelatesRef (o : RegionName) (input : Record) (at : Point) (a : List ℕ) (x : ℕ) (b : List ℕ) (y : ℕ) (v : Variance) (ls ls' : List ℕ) : Type 0 where
+  pub adds : (j : Job) → Holds input j → (m n : Ty) (k : BorrowKind) → TypeAt a x m → TypeAt b y n → type_nodes m ≤ max_nodes → type_nodes n ≤ max_nodes
       → T (same_shape m (RefTy k (Free o) n))
-      → Adds (relate site.at j.structs m v (RefTy k (Free o) n)) ls ls'
+      → Adds (relate at j.structs m v (RefTy k (Free o) n)) ls ls'

@@ -1,5 +1,5 @@
 // Room for a file.
-ghost use Rattle.std.specs.Prelude.{◌≡◌, ◌≤◌};
+ghost use Rattle.std.specs.Prelude.{◌≡◌, ◌≤◌, ◌↔◌, IsTrue};
 ghost use Rattle.replay.specs.declared.room.TheConstants.{ROOM};
 
 use std::io::Read;
@@ -18,7 +18,9 @@ impl FileBytes {
     ghost use Rattle.std.specs.Prelude.{◌+◌, length, replicate};
     ghost use Rattle.replay.specs.Run.{content, Appended};
 
-    pub fn new() -> FileBytes {
+    pub fn new() -> FileBytes
+        ensures { result.len ≡ 0 }
+    {
         FileBytes {
             bytes: [0; ROOM],
             len: 0,
@@ -31,7 +33,9 @@ impl FileBytes {
         &self.bytes[..self.len]
     }
 
-    pub fn is_full(&self) -> bool {
+    pub fn is_full(&self) -> bool
+        ensures { IsTrue result ↔ (self.now.len ≡ ROOM) }
+    {
         self.len == ROOM
     }
 

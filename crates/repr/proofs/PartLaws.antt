@@ -1,21 +1,21 @@
 -- Parts that hold rows: a row only counted, a row passed over, and where such a part ends. Assumes nothing.
 use mathlib.Core.Path.{◌≡◌, refl, sym, ap, subst, ◌∙◌}
 use mathlib.Core.List.{List, ◌∷◌}
-use Prim.Native.Nat.{ℕ, zero, suc, ◌-◌}
+use Prim.Native.Nat.{ℕ, zero, suc, ◌+◌, ◌-◌, ◌<◌}
 use native.Mathlib.Omega.{arith}
 use native.Mathlib.Numerals.{sub-one}
 use lib.ListN.{drop}
 use Rattle.nll_spec.specs.Decode.{Reading, refused, read, Reader, done, ◌>>=◌, count, items, counted, path, field, struct_decl}
 use Rattle.repr.specs.Reading.{rest, ended}
-use Rattle.repr.specs.Parts.{Readable, struct_of, struct_says, StructSays, ParametersRead, action_says, sources_of}
+use Rattle.repr.specs.Parts.{Readable, struct_of, struct_says, StructSays, ParametersRead, action_read, sources_of}
 use Rattle.repr.specs.declared.Cursor.{Cursor}
 use Rattle.repr.specs.declared.Action.{Action}
 use Rattle.repr.specs.declared.Action.TheVariants.{Noop, Init, Borrow, Assign, Constraint, Use, Drop, StorageDead}
-use Rattle.repr.specs.declared.ActionStep.TheVariants as action_step
 use Rattle.repr.specs.declared.StructDecl.{StructDecl}
-use Rattle.repr.specs.declared.StructStep.{StructStep}
-use Rattle.repr.specs.declared.StructStep.TheVariants as struct_step
 use Rattle.repr.proofs.ReadLaws.{step, stop, told}
+use Rattle.repr.specs.declared.refusal.Refusal.{Refusal}
+use Rattle.repr.specs.Refusals.{number_of}
+use Rattle.std.specs.Prelude.{Result, Ok, Err}
 
 -- ---- A row that is counted, and what follows it
 
@@ -111,17 +111,34 @@ module _ {A : Type 0} (item : Reader A) (bs : List ℕ) where
   row_step zero z e = absurd (z refl)
   row_step (suc n) {after} z e = end_then item _ bs e (λ x. end-done (items n item) (λ xs. x ∷ xs) after) ∙ rw (sub-one (suc n))
 
+-- Of `count` items, `over` are passed over up to c.
+pub record Passed {A : Type 0} (item : Reader A) (s : List ℕ) (at count c over : ℕ) : Type 0 where
+  pub same : ended (items count item (drop at s)) ≡ ended (items (count - over) item (drop c s))
+
+pub passed-none : {A : Type 0} {item : Reader A} {s : List ℕ} {at count : ℕ} → Passed item s at count at 0
+passed-none {A} {item} {s} {at} {count} = record { same = ap (λ (n : ℕ). ended (items n item (drop at s))) (omega arith) }
+
+module _ {A : Type 0} {item : Reader A} {s : List ℕ} {at count c over : ℕ} (p : Passed item s at count c over) where
+  pub passed_more : {next : ℕ} → over < count → ended (item (drop c s)) ≡ read tt (drop next s) → Passed item s at count next (over + 1)
+  passed_more {next} h e = record { same = p.same ∙ row_step item (drop c s) (count - over) (omega arith) e ∙ ap (λ (n : ℕ). ended (items n item (drop next s))) (omega arith) }
+
+  pub passed_stop : {k : ℕ} → over < count → ended (item (drop c s)) ≡ refused k → refused k ≡ ended (items count item (drop at s))
+  passed_stop h e = sym (p.same ∙ row_stop item (drop c s) (count - over) (omega arith) e)
+
+  pub passed-all : over ≡ count → read tt (drop c s) ≡ ended (items count item (drop at s))
+  passed-all e = sym (p.same ∙ row-none item (drop c s) (omega arith))
+
 -- ---- A struct ends after its fields
 
-pub struct_rest : {s : List ℕ} {at : ℕ} {r : StructStep} (d : StructDecl) → StructSays s at r → r ≡ struct_step.Struct d → ended (struct_decl (drop at s)) ≡ ended (items d.fields field (rest s d.members))
+pub struct_rest : {s : List ℕ} {at : ℕ} {r : Result StructDecl Refusal} (d : StructDecl) → StructSays s at r → r ≡ Ok d → ended (struct_decl (drop at s)) ≡ ended (items d.fields field (rest s d.members))
 unfolding struct_of
 struct_rest {s} d h i =
-    let p = subst (λ (x : StructStep). ParametersRead s x) i h.declared in
+    let p = subst (λ (x : Result StructDecl Refusal). ParametersRead s x) i h.declared in
     ap ended (told (struct_says s) h.same i ∙ step _ _ _ p.reads) ∙ end-done (items d.fields field) _ (rest s d.members)
 
 -- ---- An action ends after its sources
 
-pub action-rest : (s : List ℕ) (a : Action) (next : Cursor) → ended (action_says s (action_step.Action a next)) ≡ ended (items (sources_of a) path (rest s next))
+pub action-rest : (s : List ℕ) (a : Action) (next : Cursor) → ended (action_read s a next) ≡ ended (items (sources_of a) path (rest s next))
 unfolding items done
 action-rest s Noop next = refl
 action-rest s (Init dest n) next = end-done (items n path) _ (rest s next)

@@ -11,7 +11,7 @@ use Rattle.nll_spec.specs.Syntax.{BorrowKind, Mut, Shared, Region, Free, BoundRe
 use Rattle.nll_spec.specs.Syntax.{Ty, UnitTy, RefTy, StructTy, BoundTy, Args, NoArgs, RegionArg, TypeArg}
 use Rattle.nll_spec.specs.Decode.{Reading, refused, read, Reader, done, refuse, ◌>>=◌, byte, count, pick, one_of, max_params, Part, part, borrow_kind, region, node_tag, args, tagged, type_within}
 use Rattle.nll_spec.specs.Types.{arg_count, type_nodes, arg_nodes}
-use Rattle.repr.proofs.ReadLaws.{step, count_in_lem}
+use Rattle.repr.proofs.ReadLaws.{step, count_in}
 pub use Rattle.repr.proofs.ReadLaws.{clash}
 use Rattle.repr.specs.Spelling.{kind_byte, region_tag, region_number, spell, spell_args, Fine, FineArgs}
 
@@ -202,7 +202,7 @@ mutual
       step borrow_kind _ _ (kind_spells k _) ∙ step region _ _ (region_spells r _) ∙ step (type_within d (left - 1)) _ _ (type_spells t f d (left - 1) over (omega arith) m) ∙ rw e)
   type_spells (StructTy s given) f deep left over h l = node_spells deep left 2 _ (omega arith) l (λ d m.
       let e : left - 1 - arg_nodes given ≡ left - suc (arg_nodes given) = omega arith in
-      step byte _ _ refl ∙ step (count 0 max_params) _ _ (count_in_lem 0 max_params _ refl (omega arith) f.0) ∙ step (args (type_within d) (arg_count given) (left - 1)) _ _ (args_spells given f.1 d (left - 1) over (omega arith) m) ∙ rw e)
+      step byte _ _ refl ∙ step (count 0 max_params) _ _ (count_in 0 max_params _ refl (omega arith) f.0) ∙ step (args (type_within d) (arg_count given) (left - 1)) _ _ (args_spells given f.1 d (left - 1) over (omega arith) m) ∙ rw e)
   type_spells (BoundTy b) f deep left over h l = node_spells deep left 3 _ h l (λ d k. step byte _ _ refl)
 
   pub args_spells : (given : Args) → FineArgs given → (deep left : ℕ) (over : List ℕ) → arg_nodes given ≤ left → left < deep → args (type_within deep) (arg_count given) left (spell_args given ++ over) ≡ read (part given (left - arg_nodes given)) over

@@ -14,15 +14,18 @@ use Rattle.repr.specs.Types.{node, node_says, NodeSays, argument_says, ArgumentS
 use Rattle.repr.specs.declared.Cursor.{Cursor}
 use Rattle.repr.specs.declared.BorrowKind.{BorrowKind}
 use Rattle.repr.specs.declared.Region.{Region}
-use Rattle.repr.specs.declared.NodeStep.{NodeStep}
-use Rattle.repr.specs.declared.NodeStep.TheVariants as node_step
-use Rattle.repr.specs.declared.ArgumentStep.{ArgumentStep}
-use Rattle.repr.specs.declared.ArgumentStep.TheVariants as argument_step
-use Rattle.repr.specs.declared.NodesStep.{NodesStep}
 use Rattle.repr.proofs.ReadLaws.{step}
 use Rattle.repr.specs.Stands.{TypeTo, ArgsTo, TypeAt, FirstType}
 use Rattle.repr.specs.Spelling.{spell, Fine}
 use Rattle.repr.proofs.SpellLaws.{clash, carry, then, tag_read, Spelt, type_spelt, SpeltArgs, args_spelt, type_spells, args_spells}
+use Rattle.repr.specs.declared.Node.{Node}
+use Rattle.repr.specs.declared.Node.TheVariants as nodes
+use Rattle.repr.specs.declared.Argument.{Argument}
+use Rattle.repr.specs.declared.Argument.TheVariants as arguments
+use Rattle.repr.specs.declared.Rest.{Rest}
+use Rattle.repr.specs.declared.refusal.Refusal.{Refusal}
+use Rattle.repr.specs.Refusals.{number_of}
+use Rattle.std.specs.Prelude.{Result, Ok, Err}
 
 -- ---- Bytes
 
@@ -93,36 +96,36 @@ pub record StructIs (s : List ℕ) (t : Ty) (over : List ℕ) (name n : ℕ) (c 
   pub same : t ≡ StructTy name given
   pub stands : ArgsTo (rest s c) n given over
 
-abbrev pub NodeIs : List ℕ → Ty → List ℕ → NodeStep → Type 0
-NodeIs s t over (node_step.Unit c) = LeafIs s t over UnitTy c
-NodeIs s t over (node_step.Ref k r c) = RefIs s t over k r c
-NodeIs s t over (node_step.Struct name n c) = StructIs s t over name.0 n c
-NodeIs s t over (node_step.Bound b c) = LeafIs s t over (BoundTy b) c
-NodeIs s t over (node_step.Refused k) = ⊥
+abbrev pub NodeIs : List ℕ → Ty → List ℕ → Result Node Refusal → Type 0
+NodeIs s t over (Ok (nodes.Unit c)) = LeafIs s t over UnitTy c
+NodeIs s t over (Ok (nodes.Ref k r c)) = RefIs s t over k r c
+NodeIs s t over (Ok (nodes.Struct name n c)) = StructIs s t over name.0 n c
+NodeIs s t over (Ok (nodes.Bound b c)) = LeafIs s t over (BoundTy b) c
+NodeIs s t over (Err k) = ⊥
 
 node-reads : (deep left : ℕ) (bs : List ℕ) {t : Part Ty} {over : List ℕ} → type_within deep left bs ≡ read t over → (d : ℕ) × (node (type_within d) (left - 1) bs ≡ read t over)
 unfolding type_within node byte refuse
 node-reads zero left bs e = absurd (clash e)
 node-reads (suc deep) left bs e = let w = then (node_tag left) _ bs e in let v = tag_read left bs w.first in (deep, step byte _ bs (ap byte v.0) ∙ w.last)
 
-says_is : (deep left : ℕ) (s : List ℕ) (d : NodeStep) {t : Part Ty} {over : List ℕ} → node_says (type_within deep) left s d ≡ read t over → NodeIs s t.item over d
+says_is : (deep left : ℕ) (s : List ℕ) (d : Result Node Refusal) {t : Part Ty} {over : List ℕ} → node_says (type_within deep) left s d ≡ read t over → NodeIs s t.item over d
 unfolding done
-says_is deep left s (node_step.Unit c) e = carry (λ (x : Part Ty) o. LeafIs s x.item o UnitTy c) e (record { same = refl; ends = refl })
-says_is deep left s (node_step.Ref k r c) e =
+says_is deep left s (Ok (nodes.Unit c)) e = carry (λ (x : Part Ty) o. LeafIs s x.item o UnitTy c) e (record { same = refl; ends = refl })
+says_is deep left s (Ok (nodes.Ref k r c)) e =
     let w = then (type_within deep left) _ (rest s c) e in
     carry (λ (x : Part Ty) o. RefIs s x.item o k r c) w.last (record { referent = w.got.item; same = refl; stands = record { deep = deep; left = left; after = w.got.left; reads = w.first } })
-says_is deep left s (node_step.Struct name n c) e =
+says_is deep left s (Ok (nodes.Struct name n c)) e =
     let w = then (args (type_within deep) n left) _ (rest s c) e in
     carry (λ (x : Part Ty) o. StructIs s x.item o name.0 n c) w.last (record { given = w.got.item; same = refl; stands = record { deep = deep; left = left; after = w.got.left; reads = w.first } })
-says_is deep left s (node_step.Bound b c) e = carry (λ (x : Part Ty) o. LeafIs s x.item o (BoundTy b) c) e (record { same = refl; ends = refl })
-says_is deep left s (node_step.Refused k) e = absurd (clash e)
+says_is deep left s (Ok (nodes.Bound b c)) e = carry (λ (x : Part Ty) o. LeafIs s x.item o (BoundTy b) c) e (record { same = refl; ends = refl })
+says_is deep left s (Err k) e = absurd (clash e)
 
-pub node-is : {s : List ℕ} {at : ℕ} {d : NodeStep} {t : Ty} {over : List ℕ} → NodeSays node s at d → TypeTo (drop at s) t over → NodeIs s t over d
+pub node-is : {s : List ℕ} {at : ℕ} {d : Result Node Refusal} {t : Ty} {over : List ℕ} → NodeSays node s at d → TypeTo (drop at s) t over → NodeIs s t over d
 node-is {s} {at} {d} n p = let w = node-reads p.deep p.left (drop at s) p.reads in says_is w.0 (p.left - 1) s d (n.same (type_within w.0) (p.left - 1) ∙ w.1)
 
 -- the same, where the answer is known
-pub on-node : {s : List ℕ} {at : ℕ} {d x : NodeStep} {t : Ty} {over : List ℕ} → NodeSays node s at d → d ≡ x → TypeTo (drop at s) t over → NodeIs s t over x
-on-node {s} {t = t} {over = over} m e p = subst (λ (y : NodeStep). NodeIs s t over y) e (node-is m p)
+pub on-node : {s : List ℕ} {at : ℕ} {d x : Result Node Refusal} {t : Ty} {over : List ℕ} → NodeSays node s at d → d ≡ x → TypeTo (drop at s) t over → NodeIs s t over x
+on-node {s} {t = t} {over = over} m e p = subst (λ (y : Result Node Refusal). NodeIs s t over y) e (node-is m p)
 
 -- ---- By the first argument
 
@@ -131,17 +134,17 @@ pub record RegionFirst (bs : List ℕ) (n : ℕ) (h : Args) (over : List ℕ) (r
   pub same : h ≡ RegionArg (region_of r) more
   pub others : ArgsTo bs n more over
 
-abbrev pub ArgumentIs : List ℕ → ℕ → Args → List ℕ → ArgumentStep → Type 0
-ArgumentIs s n h over (argument_step.Region r c) = RegionFirst (rest s c) n h over r
-ArgumentIs s n h over (argument_step.Type c) = FirstType (rest s c) n h over
-ArgumentIs s n h over (argument_step.Refused k) = ⊥
+abbrev pub ArgumentIs : List ℕ → ℕ → Args → List ℕ → Result Argument Refusal → Type 0
+ArgumentIs s n h over (Ok (arguments.Region r c)) = RegionFirst (rest s c) n h over r
+ArgumentIs s n h over (Ok (arguments.Type c)) = FirstType (rest s c) n h over
+ArgumentIs s n h over (Err k) = ⊥
 
-first-is : (deep n left : ℕ) (s : List ℕ) (d : ArgumentStep) {h : Part Args} {over : List ℕ} → argument_says (type_within deep) n left s d ≡ read h over → ArgumentIs s n h.item over d
+first-is : (deep n left : ℕ) (s : List ℕ) (d : Result Argument Refusal) {h : Part Args} {over : List ℕ} → argument_says (type_within deep) n left s d ≡ read h over → ArgumentIs s n h.item over d
 unfolding done
-first-is deep n left s (argument_step.Region r c) e =
+first-is deep n left s (Ok (arguments.Region r c)) e =
     let w = then (args (type_within deep) n left) _ (rest s c) e in
     carry (λ (x : Part Args) o. RegionFirst (rest s c) n x.item o r) w.last (record { more = w.got.item; same = refl; others = record { deep = deep; left = left; after = w.got.left; reads = w.first } })
-first-is deep n left s (argument_step.Type c) e =
+first-is deep n left s (Ok (arguments.Type c)) e =
     let w = then (type_within deep left) _ (rest s c) e in
     let v = then (args (type_within deep) n w.got.left) _ w.mid w.last in
     carry (λ (x : Part Args) o. FirstType (rest s c) n x.item o) v.last (record {
@@ -152,14 +155,14 @@ first-is deep n left s (argument_step.Type c) e =
       first = record { deep = deep; left = left; after = w.got.left; reads = w.first };
       others = record { deep = deep; left = w.got.left; after = v.got.left; reads = v.first };
     })
-first-is deep n left s (argument_step.Refused k) e = absurd (clash e)
+first-is deep n left s (Err k) e = absurd (clash e)
 
-pub argument_is : {s : List ℕ} {at n : ℕ} {d : ArgumentStep} {h : Args} {over : List ℕ} → ArgumentSays s at d → (n ≡ 0 → ⊥) → ArgsTo (drop at s) n h over → ArgumentIs s (n - 1) h over d
+pub argument_is : {s : List ℕ} {at n : ℕ} {d : Result Argument Refusal} {h : Args} {over : List ℕ} → ArgumentSays s at d → (n ≡ 0 → ⊥) → ArgsTo (drop at s) n h over → ArgumentIs s (n - 1) h over d
 argument_is {n = zero} a z p = absurd (z refl)
 argument_is {s = s} {n = suc n} {d = d} {h = h} {over = over} a z p = subst (λ (k : ℕ). ArgumentIs s k h over d) (sym (sub-one (suc n))) (first-is p.deep n p.left s d (a.same (type_within p.deep) n p.left ∙ p.reads))
 
-pub on_argument : {s : List ℕ} {at n : ℕ} {d x : ArgumentStep} {h : Args} {over : List ℕ} → ArgumentSays s at d → (n ≡ 0 → ⊥) → d ≡ x → ArgsTo (drop at s) n h over → ArgumentIs s (n - 1) h over x
-on_argument {s} {n = n} {h = h} {over = over} m z e p = subst (λ (y : ArgumentStep). ArgumentIs s (n - 1) h over y) e (argument_is m z p)
+pub on_argument : {s : List ℕ} {at n : ℕ} {d x : Result Argument Refusal} {h : Args} {over : List ℕ} → ArgumentSays s at d → (n ≡ 0 → ⊥) → d ≡ x → ArgsTo (drop at s) n h over → ArgumentIs s (n - 1) h over x
+on_argument {s} {n = n} {h = h} {over = over} m z e p = subst (λ (y : Result Argument Refusal). ArgumentIs s (n - 1) h over y) e (argument_is m z p)
 
 -- no arguments
 pub record NoneIs (bs : List ℕ) (h : Args) (over : List ℕ) : Type 0 where
@@ -172,8 +175,8 @@ none_is {bs} {n} {h} {over} z p = carry (λ (x : Part Args) o. NoneIs bs x.item 
 
 -- ---- Passed over
 
-pub type-passed : {s : List ℕ} {at left : ℕ} {r : NodesStep} {t : Ty} {over : List ℕ} → TypeSays s at left r → TypeTo (drop at s) t over → type_nodes t ≤ left → nodes_says s r ≡ read (left - type_nodes t) over
+pub type-passed : {s : List ℕ} {at left : ℕ} {r : Result Rest Refusal} {t : Ty} {over : List ℕ} → TypeSays s at left r → TypeTo (drop at s) t over → type_nodes t ≤ left → nodes_says s r ≡ read (left - type_nodes t) over
 type-passed {left = left} n p h = n.same (suc left) (omega arith) ∙ ap left_of (type_again p h (omega arith))
 
-pub args-passed : {s : List ℕ} {at n left : ℕ} {r : NodesStep} {h : Args} {over : List ℕ} → ArgumentsSay s at n left r → ArgsTo (drop at s) n h over → arg_nodes h ≤ left → nodes_says s r ≡ read (left - arg_nodes h) over
+pub args-passed : {s : List ℕ} {at n left : ℕ} {r : Result Rest Refusal} {h : Args} {over : List ℕ} → ArgumentsSay s at n left r → ArgsTo (drop at s) n h over → arg_nodes h ≤ left → nodes_says s r ≡ read (left - arg_nodes h) over
 args-passed {left = left} n p h = n.same (suc left) (omega arith) ∙ ap left_of (args_again p h (omega arith))

@@ -1,6 +1,7 @@
 -- What each way through the reading of a type, or of arguments, says of the definition. Assumes nothing.
 use mathlib.Core.Path.{◌≡◌, refl, sym, ap, subst, ◌∙◌}
 use mathlib.Core.List.{List, [], ◌∷◌}
+use mathlib.Core.Logic.{◌⊎◌, inl, inr}
 use Prim.Native.Nat.{ℕ, zero, suc, ◌+◌, ◌-◌, ◌*◌, ◌≤◌, ◌<◌}
 use native.Mathlib.Omega.{arith}
 use native.Mathlib.Nat.{le_refl, zero-add}
@@ -15,16 +16,26 @@ use Rattle.repr.specs.declared.Cursor.{Cursor}
 use Rattle.repr.specs.declared.BorrowKind.{BorrowKind}
 use Rattle.repr.specs.declared.Region.{Region}
 use Rattle.repr.specs.declared.StructName.{StructName}
-use Rattle.repr.specs.declared.NodeStep.{NodeStep}
-use Rattle.repr.specs.declared.NodeStep.TheVariants as node_step
-use Rattle.repr.specs.declared.ArgumentStep.{ArgumentStep}
-use Rattle.repr.specs.declared.ArgumentStep.TheVariants as argument_step
-use Rattle.repr.specs.declared.OpenedStep.{OpenedStep}
-use Rattle.repr.specs.declared.OpenedStep.TheVariants.{Opened, Refused}
-use Rattle.repr.specs.declared.NodesStep.{NodesStep}
-use Rattle.repr.specs.declared.NodesStep.TheVariants as nodes_step
 use Rattle.repr.proofs.ReadLaws.{step, stop, told}
 use Rattle.repr.proofs.DepthLaws.{deeper, args_deeper}
+use Rattle.repr.specs.declared.Node.{Node}
+use Rattle.repr.specs.declared.Node.TheVariants as nodes
+use Rattle.repr.specs.declared.Argument.{Argument}
+use Rattle.repr.specs.declared.Argument.TheVariants as arguments
+use Rattle.repr.specs.declared.Opened.{Opened}
+use Rattle.repr.specs.declared.Rest.{Rest}
+use Rattle.repr.specs.declared.refusal.Refusal.{Refusal}
+use Rattle.repr.specs.declared.refusal.Refusal.TheVariants.{Range}
+use Rattle.repr.specs.Refusals.{number_of}
+use Rattle.std.specs.Prelude.{Result, Ok, Err}
+
+-- a part of a type up to so many arguments
+abbrev opened : ℕ → ℕ → Cursor → Result Opened Refusal
+opened count left next = Ok (record { count = count; left = left; next = next })
+
+-- the end of a part of a type
+abbrev rest_at : ℕ → Cursor → Result Rest Refusal
+rest_at left next = Ok (record { left = left; next = next })
 
 -- ---- What is left after a part does not depend on what the part is made into
 
@@ -127,16 +138,16 @@ down_none {left = left} = record { same = λ depth h. refl; fewer = le_refl left
 
 module _ {s : List ℕ} {at left c few : ℕ} (x : Down s at left c few) where
   -- the tag is missing
-  pub opened_missing : {k : ℕ} → byte (drop c s) ≡ refused k → OpenedSays s at left (Refused k)
+  pub opened_missing : {k : Refusal} → byte (drop c s) ≡ refused (number_of k) → OpenedSays s at left (Err k)
   unfolding type_within node_tag
   opened_missing {k} e = record { same = λ depth n h. sym (ap (onward (type_within depth) n) (x.same depth h ∙ go depth (omega (arith, h, x.fewer)))); falls = tt }
     where
-      go : (depth : ℕ) → few < depth → left_of (type_within depth few (drop c s)) ≡ refused k
+      go : (depth : ℕ) → few < depth → left_of (type_within depth few (drop c s)) ≡ refused (number_of k)
       go zero h = absurd (omega arith)
       go (suc depth) h = ap left_of (stop _ _ _ (stop _ _ _ e))
 
   -- no node is left for it
-  pub opened_full : {tag : ℕ} {over : List ℕ} → byte (drop c s) ≡ read tag over → few ≡ 0 → OpenedSays s at left (Refused 4)
+  pub opened_full : {tag : ℕ} {over : List ℕ} → byte (drop c s) ≡ read tag over → few ≡ 0 → OpenedSays s at left (Err Range)
   unfolding type_within node_tag refuse
   opened_full {tag} {over} e z = record { same = λ depth n h. sym (ap (onward (type_within depth) n) (x.same depth h ∙ go depth (omega (arith, h, x.fewer)))); falls = tt }
     where
@@ -144,59 +155,64 @@ module _ {s : List ℕ} {at left c few : ℕ} (x : Down s at left c few) where
       go zero h = absurd (omega arith)
       go (suc depth) h = ap left_of (stop _ _ _ (step _ _ _ e ∙ rw (eq-eqb few 0 z)))
 
-  module _ {d : NodeStep} (y : NodeSays node s c d) (z : few ≡ 0 → ⊥) where
+  module _ {d : Result Node Refusal} (y : NodeSays node s c d) (z : few ≡ 0 → ⊥) where
     -- its first node
-    first-node : {n : NodeStep} → d ≡ n → (depth : ℕ) → left < suc depth → left_of (type_within (suc depth) left (drop at s)) ≡ left_of (node_says (type_within depth) (few - 1) s n)
+    first-node : {n : Result Node Refusal} → d ≡ n → (depth : ℕ) → left < suc depth → left_of (type_within (suc depth) left (drop at s)) ≡ left_of (node_says (type_within depth) (few - 1) s n)
     first-node e depth h = x.same (suc depth) h ∙ ap left_of (node_of depth few (drop c s) z ∙ told (node_says (type_within depth) (few - 1) s) (y.same (type_within depth) (few - 1)) e)
 
-    pub down_ref : {k : BorrowKind} {r : Region} {referent : Cursor} → d ≡ node_step.Ref k r referent → Down s at left referent.at (few - 1)
+    pub down_ref : {k : BorrowKind} {r : Region} {referent : Cursor} → d ≡ Ok (nodes.Ref k r referent) → Down s at left referent.at (few - 1)
     down_ref {referent = referent} e = record { same = go; fewer = omega (arith, x.fewer) }
       where
         go : (depth : ℕ) → left < depth → left_of (type_within depth left (drop at s)) ≡ left_of (type_within depth (few - 1) (drop referent.at s))
         go zero h = absurd (omega arith)
         go (suc depth) h = first-node e depth h ∙ left-done (type_within depth (few - 1)) _ (rest s referent) ∙ ap left_of (deeper depth (few - 1) (rest s referent) (omega (arith, h, x.fewer, z)))
 
-    pub opened_refused : {k : ℕ} → d ≡ node_step.Refused k → OpenedSays s at left (Refused k)
+    pub opened_refused : {k : Refusal} → d ≡ Err k → OpenedSays s at left (Err k)
     opened_refused {k} e = record { same = go; falls = tt }
       where
-        go : (depth n : ℕ) → left < depth → opened_says (type_within depth) n s (Refused k) ≡ onward (type_within depth) n (left_of (type_within depth left (drop at s)))
+        go : (depth n : ℕ) → left < depth → opened_says (type_within depth) n s (Err k) ≡ onward (type_within depth) n (left_of (type_within depth left (drop at s)))
         go zero n h = absurd (omega arith)
         go (suc depth) n h = sym (ap (onward (type_within (suc depth)) n) (first-node e depth h))
 
     -- a node without arguments
-    opened_leaf : {n : NodeStep} {next : Cursor} → d ≡ n → ((depth : ℕ) → left_of (node_says (type_within depth) (few - 1) s n) ≡ read (few - 1) (rest s next)) → OpenedSays s at left (Opened 0 (few - 1) next)
+    opened_leaf : {n : Result Node Refusal} {next : Cursor} → d ≡ n → ((depth : ℕ) → left_of (node_says (type_within depth) (few - 1) s n) ≡ read (few - 1) (rest s next)) → OpenedSays s at left (opened 0 (few - 1) next)
     opened_leaf {next = next} e f = record { same = go; falls = omega (arith, x.fewer, z) }
       where
-        go : (depth n : ℕ) → left < depth → opened_says (type_within depth) n s (Opened 0 (few - 1) next) ≡ onward (type_within depth) n (left_of (type_within depth left (drop at s)))
+        go : (depth n : ℕ) → left < depth → opened_says (type_within depth) n s (opened 0 (few - 1) next) ≡ onward (type_within depth) n (left_of (type_within depth left (drop at s)))
         go zero n h = absurd (omega arith)
         go (suc depth) n h = rw zero-add (sym (ap (onward (type_within (suc depth)) n) (first-node e depth h ∙ f depth)))
 
-    pub opened_unit : {next : Cursor} → d ≡ node_step.Unit next → OpenedSays s at left (Opened 0 (few - 1) next)
+    opened_unit : {next : Cursor} → d ≡ Ok (nodes.Unit next) → OpenedSays s at left (opened 0 (few - 1) next)
     opened_unit e = opened_leaf e (λ depth. refl)
 
-    pub opened_bound : {b : ℕ} {next : Cursor} → d ≡ node_step.Bound b next → OpenedSays s at left (Opened 0 (few - 1) next)
+    opened_bound : {b : ℕ} {next : Cursor} → d ≡ Ok (nodes.Bound b next) → OpenedSays s at left (opened 0 (few - 1) next)
     opened_bound e = opened_leaf e (λ depth. refl)
 
-    pub opened_struct : {name : StructName} {count : ℕ} {arguments : Cursor} → d ≡ node_step.Struct name count arguments → count < 256 → OpenedSays s at left (Opened count (few - 1) arguments)
+    -- a node that has no parts
+    pub opened_end : {n : Node} {next : Cursor} → d ≡ Ok n → (n ≡ nodes.Unit next) ⊎ ((b : ℕ) × (n ≡ nodes.Bound b next)) → OpenedSays s at left (opened 0 (few - 1) next)
+    opened_end e (inl h) = opened_unit (e ∙ ap Ok h)
+    opened_end e (inr h) = opened_bound (e ∙ ap Ok h.1)
+
+    pub opened_struct : {name : StructName} {count : ℕ} {arguments : Cursor} → d ≡ Ok (nodes.Struct name count arguments) → count < 256 → OpenedSays s at left (opened count (few - 1) arguments)
     opened_struct {count = count} {arguments = arguments} e l = record { same = go; falls = omega (arith, x.fewer, z, l) }
       where
-        go : (depth n : ℕ) → left < depth → opened_says (type_within depth) n s (Opened count (few - 1) arguments) ≡ onward (type_within depth) n (left_of (type_within depth left (drop at s)))
+        go : (depth n : ℕ) → left < depth → opened_says (type_within depth) n s (opened count (few - 1) arguments) ≡ onward (type_within depth) n (left_of (type_within depth left (drop at s)))
         go zero n h = absurd (omega arith)
         go (suc depth) n h = args_more (type_within (suc depth)) count n (few - 1) (rest s arguments) ∙ sym (ap (onward (type_within (suc depth)) n) (first-node e depth h ∙ left-done (args (type_within depth) count (few - 1)) _ (rest s arguments) ∙ ap left_of (args_deeper depth count (few - 1) (rest s arguments) (omega (arith, h, x.fewer, z)))))
 
 -- ---- The first argument
 
-module _ {s : List ℕ} {at : ℕ} (left : ℕ) {d : ArgumentStep} (y : ArgumentSays s at d) where
-  says_argument : {x : ArgumentStep} → d ≡ x → (depth n : ℕ) → left_of (argument_says (type_within depth) n left s x) ≡ left_of (args (type_within depth) (suc n) left (drop at s))
+module _ {s : List ℕ} {at : ℕ} (left : ℕ) {d : Result Argument Refusal} (y : ArgumentSays s at d) where
+  says_argument : {x : Result Argument Refusal} → d ≡ x → (depth n : ℕ) → left_of (argument_says (type_within depth) n left s x) ≡ left_of (args (type_within depth) (suc n) left (drop at s))
   says_argument e depth n = sym (ap left_of (told (argument_says (type_within depth) n left s) (y.same (type_within depth) n left) e))
 
-  pub first-refused : {k : ℕ} → d ≡ argument_step.Refused k → FirstSays s at left (Refused k)
+  pub first-refused : {k : Refusal} → d ≡ Err k → FirstSays s at left (Err k)
   first-refused e = record { same = λ depth n h. says_argument e depth n; falls = tt }
 
-  pub first-region : {r : Region} {next : Cursor} → d ≡ argument_step.Region r next → FirstSays s at left (Opened 0 left next)
+  pub first-region : {r : Region} {next : Cursor} → d ≡ Ok (arguments.Region r next) → FirstSays s at left (opened 0 left next)
   first-region {next = next} e = record { same = λ depth n h. rw zero-add (sym (left-done (args (type_within depth) n left) _ (rest s next)) ∙ says_argument e depth n); falls = omega arith }
 
-  pub first-type : {ty : Cursor} {r : OpenedStep} → d ≡ argument_step.Type ty → OpenedSays s ty.at left r → FirstSays s at left r
+  pub first-type : {ty : Cursor} {r : Result Opened Refusal} → d ≡ Ok (arguments.Type ty) → OpenedSays s ty.at left r → FirstSays s at left r
   first-type {ty} e o = record { same = λ depth n h. o.same depth n h ∙ sym (left-onward (type_within depth) n left (rest s ty) TypeArg) ∙ says_argument e depth n; falls = o.falls }
 
 -- ---- All arguments
@@ -213,33 +229,33 @@ module _ {s : List ℕ} {at count left c n few : ℕ} (x : Along s at count left
   depth-left : few ≤ left
   depth-left = omega (arith, x.falls, small)
 
-  first_then : {r : OpenedStep} → FirstSays s c few r → (n ≡ 0 → ⊥) → (depth : ℕ) → left < depth → left_of (args (type_within depth) count left (drop at s)) ≡ opened_says (type_within depth) (n - 1) s r
+  first_then : {r : Result Opened Refusal} → FirstSays s c few r → (n ≡ 0 → ⊥) → (depth : ℕ) → left < depth → left_of (args (type_within depth) count left (drop at s)) ≡ opened_says (type_within depth) (n - 1) s r
   first_then f z depth h = x.same depth h ∙ ap (λ (m : ℕ). left_of (args (type_within depth) m few (drop c s))) (omega (arith, z)) ∙ sym (f.same depth (n - 1) (omega (arith, h, depth-left)))
 
-  pub along-refused : {r : OpenedStep} {k : ℕ} → FirstSays s c few r → (n ≡ 0 → ⊥) → r ≡ Refused k → ArgumentsSay s at count left (nodes_step.Refused k)
+  pub along-refused : {r : Result Opened Refusal} {k : Refusal} → FirstSays s c few r → (n ≡ 0 → ⊥) → r ≡ Err k → ArgumentsSay s at count left (Err k)
   along-refused f z e = record { same = λ depth h. sym (first_then f z depth h ∙ ap (opened_says (type_within depth) (n - 1) s) e); fewer = tt }
 
-  pub along-more : {r : OpenedStep} {more l : ℕ} {next : Cursor} → FirstSays s c few r → (n ≡ 0 → ⊥) → r ≡ Opened more l next → Along s at count left next.at (n - 1 + more) l
+  pub along-more : {r : Result Opened Refusal} {more l : ℕ} {next : Cursor} → FirstSays s c few r → (n ≡ 0 → ⊥) → r ≡ opened more l next → Along s at count left next.at (n - 1 + more) l
   along-more {more = more} {l = l} {next = next} f z e = record {
     same = λ depth h.
         first_then f z depth h ∙ ap (opened_says (type_within depth) (n - 1) s) e ∙ ap (λ (m : ℕ). left_of (args (type_within depth) m l (rest s next))) (omega arith);
     falls = let p = subst (Falls few) e f.falls in omega (arith, x.falls, p, z);
   }
 
-  pub along-less : {r : OpenedStep} {more l : ℕ} {next : Cursor} → FirstSays s c few r → (n ≡ 0 → ⊥) → r ≡ Opened more l next → n - 1 + more + 256 * l < n + 256 * few
+  pub along-less : {r : Result Opened Refusal} {more l : ℕ} {next : Cursor} → FirstSays s c few r → (n ≡ 0 → ⊥) → r ≡ opened more l next → n - 1 + more + 256 * l < n + 256 * few
   along-less f z e = let p = subst (Falls few) e f.falls in omega (arith, p, z)
 
-  pub along-ended : {c' : Cursor} → c'.at ≡ c → n ≡ 0 → ArgumentsSay s at count left (nodes_step.Ended few c')
+  pub along-ended : {c' : Cursor} → c'.at ≡ c → n ≡ 0 → ArgumentsSay s at count left (rest_at few c')
   unfolding args done
   along-ended {c'} i z = record { same = λ depth h. sym (x.same depth h ∙ ap (λ (m : ℕ). left_of (args (type_within depth) m few (drop c s))) z ∙ ap (λ (m : ℕ). read few (drop m s)) (sym i)); fewer = depth-left }
 
 -- ---- A type
 
-module _ {s : List ℕ} {at left : ℕ} {r : OpenedStep} (o : OpenedSays s at left r) where
-  pub type-refused : {k : ℕ} → r ≡ Refused k → TypeSays s at left (nodes_step.Refused k)
+module _ {s : List ℕ} {at left : ℕ} {r : Result Opened Refusal} (o : OpenedSays s at left r) where
+  pub type-refused : {k : Refusal} → r ≡ Err k → TypeSays s at left (Err k)
   type-refused e = record { same = λ depth h. sym (ap (opened_says (type_within depth) 0 s) e) ∙ o.same depth 0 h ∙ onward-none (type_within depth) _; fewer = tt }
 
-  pub type_arguments : {count few : ℕ} {next : Cursor} {a : NodesStep} → r ≡ Opened count few next → ArgumentsSay s next.at count few a → TypeSays s at left a
+  pub type_arguments : {count few : ℕ} {next : Cursor} {a : Result Rest Refusal} → r ≡ opened count few next → ArgumentsSay s next.at count few a → TypeSays s at left a
   type_arguments {count} {few} {next} {a} e y = record {
     same = λ depth h.
         y.same depth (omega (arith, h, few-left)) ∙ ap (λ (m : ℕ). left_of (args (type_within depth) m few (rest s next))) (omega arith) ∙ sym (ap (opened_says (type_within depth) 0 s) e) ∙ o.same depth 0 h ∙ onward-none (type_within depth) _;
@@ -254,7 +270,7 @@ module _ {s : List ℕ} {at left : ℕ} {r : OpenedStep} (o : OpenedSays s at le
       fewer-still (refused k) h g = tt
 
   -- without arguments
-  pub type-ended : {count few : ℕ} {next : Cursor} → r ≡ Opened count few next → count ≡ 0 → TypeSays s at left (nodes_step.Ended few next)
+  pub type-ended : {count few : ℕ} {next : Cursor} → r ≡ opened count few next → count ≡ 0 → TypeSays s at left (rest_at few next)
   type-ended {count} {few} {next} e z = type_arguments e (along-ended (along-none {s = s} {at = next.at} {count = count} {left = few} refl) (omega (arith, z)) refl z)
 
 -- ---- A whole type

@@ -1,4 +1,5 @@
 -- What the answers of `repr` say, in terms of `nll_spec`.
+pub mod Refusals
 pub mod Reading
 pub mod Types
 pub mod Parts

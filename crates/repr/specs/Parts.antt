@@ -1,21 +1,17 @@
 -- What the answers about structs, actions and blocks say. Their rows are only counted: reading such a part is reading on where its row begins.
-use Rattle.std.specs.Prelude.{◌≡◌, List, ℕ, take, drop}
+use Rattle.std.specs.Prelude.{◌≡◌, List, ℕ, take, drop, Result, Ok, Err}
 use Rattle.nll_spec.specs.Syntax as syntax
 use Rattle.nll_spec.specs.Decode.{Reading, refused, read, Reader, done, ◌>>=◌, byte, items, counted, max_sources, borrow_kind, param, field}
 use Rattle.nll_spec.specs.Decode.{struct_decl, type, path, action}
+use Rattle.repr.specs.Refusals.{number_of}
 use Rattle.repr.specs.Reading.{rest, borrow_kind_of, path_of}
+use Rattle.repr.specs.declared.Cursor.{Cursor}
+use Rattle.repr.specs.declared.FieldName.{FieldName}
+use Rattle.repr.specs.declared.refusal.Refusal.{Refusal}
 use Rattle.repr.specs.declared.Action.{Action}
 use Rattle.repr.specs.declared.Action.TheVariants.{Noop, Init, Borrow, Assign, Constraint, Use, Drop, StorageDead}
-use Rattle.repr.specs.declared.ActionStep.{ActionStep}
-use Rattle.repr.specs.declared.ActionStep.TheVariants as action_step
-use Rattle.repr.specs.declared.FieldStep.{FieldStep}
-use Rattle.repr.specs.declared.FieldStep.TheVariants as field_step
 use Rattle.repr.specs.declared.StructDecl.{StructDecl}
-use Rattle.repr.specs.declared.StructStep.{StructStep}
-use Rattle.repr.specs.declared.StructStep.TheVariants as struct_step
 use Rattle.repr.specs.declared.BasicBlockData.{BasicBlockData}
-use Rattle.repr.specs.declared.BlockStep.{BlockStep}
-use Rattle.repr.specs.declared.BlockStep.TheVariants as block_step
 
 -- m reads there.
 pub record Readable {A : Type 0} (m : Reader A) (bs : List ℕ) : Type 0 where
@@ -29,9 +25,9 @@ pub record Readable {A : Type 0} (m : Reader A) (bs : List ℕ) : Type 0 where
 abbrev pub elsewhere : {A : Type 0} → List ℕ → Reader A → Reader A
 elsewhere bs m over = m bs
 
-abbrev pub field_says : List ℕ → FieldStep → Reading syntax.Field
-field_says s (field_step.Field n ty) = (do t ← type; done (record { number = n.0; type = t })) (rest s ty)
-field_says s (field_step.Refused k) = refused k
+abbrev pub field_says : List ℕ → Result (FieldName × Cursor) Refusal → Reading syntax.Field
+field_says s (Ok r) = (do t ← type; done (record { number = r.0.0; type = t })) (rest s r.1)
+field_says s (Err k) = refused (number_of k)
 
 -- its parameters where they are declared, then its fields where its members begin
 unfoldable pub struct_of : List ℕ → StructDecl → Reading syntax.StructDecl
@@ -41,17 +37,17 @@ struct_of s d =
       elsewhere (rest s d.members) (do fs ← items d.fields field; done (record { params = ps; fields = fs })))
     (rest s d.declared)
 
-abbrev pub struct_says : List ℕ → StructStep → Reading syntax.StructDecl
-struct_says s (struct_step.Struct d) = struct_of s d
-struct_says s (struct_step.Refused k) = refused k
+abbrev pub struct_says : List ℕ → Result StructDecl Refusal → Reading syntax.StructDecl
+struct_says s (Ok d) = struct_of s d
+struct_says s (Err k) = refused (number_of k)
 
 -- the parameters of a struct can be read
-abbrev pub ParametersRead : List ℕ → StructStep → Type 0
-ParametersRead s (struct_step.Struct d) = Readable (items d.parameters param) (rest s d.declared)
-ParametersRead s (struct_step.Refused k) = Unit {0}
+abbrev pub ParametersRead : List ℕ → Result StructDecl Refusal → Type 0
+ParametersRead s (Ok d) = Readable (items d.parameters param) (rest s d.declared)
+ParametersRead s (Err k) = Unit {0}
 
 -- The answer is what `struct_decl` reads there, and where it is a struct, its parameters can be read.
-pub record StructSays (s : List ℕ) (at : ℕ) (r : StructStep) : Type 0 where
+pub record StructSays (s : List ℕ) (at : ℕ) (r : Result StructDecl Refusal) : Type 0 where
   pub same : struct_says s r ≡ struct_decl (drop at s)
   pub declared : ParametersRead s r
 
@@ -78,16 +74,20 @@ drop_action = do p ← path; done (syntax.Drop p)
 unfoldable pub dead_action : Reader syntax.Action
 dead_action = do v ← byte; done (syntax.StorageDead v)
 
-abbrev pub action_says : List ℕ → ActionStep → Reading syntax.Action
-action_says s (action_step.Action Noop next) = read syntax.Noop (rest s next)
-action_says s (action_step.Action (Init dest n) sources) = (do qs ← items n path; done (syntax.Init (path_of s dest) qs)) (rest s sources)
-action_says s (action_step.Action (Borrow dest r k source) next) = read (syntax.Borrow (path_of s dest) r.0 (borrow_kind_of k) (path_of s source)) (rest s next)
-action_says s (action_step.Action (Assign dest source) next) = read (syntax.Assign (path_of s dest) (path_of s source)) (rest s next)
-action_says s (action_step.Action (Constraint sup sub) next) = read (syntax.Constraint sup.0 sub.0) (rest s next)
-action_says s (action_step.Action (Use p) next) = read (syntax.Use (path_of s p)) (rest s next)
-action_says s (action_step.Action (Drop p) next) = read (syntax.Drop (path_of s p)) (rest s next)
-action_says s (action_step.Action (StorageDead v) next) = read (syntax.StorageDead v.0) (rest s next)
-action_says s (action_step.Refused k) = refused k
+-- an action and what follows it, where its sources stand
+abbrev pub action_read : List ℕ → Action → Cursor → Reading syntax.Action
+action_read s Noop next = read syntax.Noop (rest s next)
+action_read s (Init dest n) sources = (do qs ← items n path; done (syntax.Init (path_of s dest) qs)) (rest s sources)
+action_read s (Borrow dest r k source) next = read (syntax.Borrow (path_of s dest) r.0 (borrow_kind_of k) (path_of s source)) (rest s next)
+action_read s (Assign dest source) next = read (syntax.Assign (path_of s dest) (path_of s source)) (rest s next)
+action_read s (Constraint sup sub) next = read (syntax.Constraint sup.0 sub.0) (rest s next)
+action_read s (Use p) next = read (syntax.Use (path_of s p)) (rest s next)
+action_read s (Drop p) next = read (syntax.Drop (path_of s p)) (rest s next)
+action_read s (StorageDead v) next = read (syntax.StorageDead v.0) (rest s next)
+
+abbrev pub action_says : List ℕ → Result (Action × Cursor) Refusal → Reading syntax.Action
+action_says s (Ok r) = action_read s r.0 r.1
+action_says s (Err k) = refused (number_of k)
 
 -- how many sources follow an action
 abbrev pub sources_of : Action → ℕ
@@ -118,6 +118,6 @@ block_of s b =
     (do code ← items b.actions action; done (record { successors = take b.successors (rest s b.targets); actions = code }))
     (rest s b.code)
 
-abbrev pub block_says : List ℕ → BlockStep → Reading syntax.Block
-block_says s (block_step.Block b) = block_of s b
-block_says s (block_step.Refused k) = refused k
+abbrev pub block_says : List ℕ → Result BasicBlockData Refusal → Reading syntax.Block
+block_says s (Ok b) = block_of s b
+block_says s (Err k) = refused (number_of k)

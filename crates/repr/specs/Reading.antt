@@ -1,8 +1,7 @@
 -- What the code's answers say: readings of `Decode`. A cursor stands for the bytes from its place on.
-use Rattle.std.specs.Prelude.{Bool, List, map, ℕ, take, drop}
-use Rattle.nll_spec.specs.Lists.{below}
+use Rattle.std.specs.Prelude.{List, ℕ, take, drop, Result, Ok, Err}
 use Rattle.nll_spec.specs.Syntax as syntax
-use Rattle.nll_spec.specs.Decode.{Reading, refused, read, Reader, done, one_of}
+use Rattle.nll_spec.specs.Decode.{Reading, refused, read}
 use Rattle.repr.specs.declared.Cursor.{Cursor}
 use Rattle.repr.specs.declared.BorrowKind.{BorrowKind}
 use Rattle.repr.specs.declared.BorrowKind.TheVariants.{Mut, Shared}
@@ -14,24 +13,8 @@ use Rattle.repr.specs.declared.Region.{Region}
 use Rattle.repr.specs.declared.Region.TheVariants.{Free, Bound}
 use Rattle.repr.specs.declared.StructParameter.{StructParameter}
 use Rattle.repr.specs.declared.Path.{Path}
-use Rattle.repr.specs.declared.ByteStep.{ByteStep}
-use Rattle.repr.specs.declared.ByteStep.TheVariants as byte_step
-use Rattle.repr.specs.declared.BorrowKindStep.{BorrowKindStep}
-use Rattle.repr.specs.declared.BorrowKindStep.TheVariants as borrow_kind_step
-use Rattle.repr.specs.declared.VarianceStep.{VarianceStep}
-use Rattle.repr.specs.declared.VarianceStep.TheVariants as variance_step
-use Rattle.repr.specs.declared.FlagStep.{FlagStep}
-use Rattle.repr.specs.declared.FlagStep.TheVariants as flag_step
-use Rattle.repr.specs.declared.KindStep.{KindStep}
-use Rattle.repr.specs.declared.KindStep.TheVariants as kind_step
-use Rattle.repr.specs.declared.ParameterStep.{ParameterStep}
-use Rattle.repr.specs.declared.ParameterStep.TheVariants as parameter_step
-use Rattle.repr.specs.declared.RegionStep.{RegionStep}
-use Rattle.repr.specs.declared.RegionStep.TheVariants as region_step
-use Rattle.repr.specs.declared.PathStep.{PathStep}
-use Rattle.repr.specs.declared.PathStep.TheVariants as path_step
-use Rattle.repr.specs.declared.EndStep.{EndStep}
-use Rattle.repr.specs.declared.EndStep.TheVariants as end_step
+use Rattle.repr.specs.declared.refusal.Refusal.{Refusal}
+use Rattle.repr.specs.Refusals.{number_of}
 
 -- ---- The numbers and choices of the code, as `Syntax` has them
 
@@ -61,44 +44,17 @@ path_of s p = record { base = p.base.0; steps = take p.steps (drop p.from.at s) 
 
 -- ---- Answers
 
--- a number below `many`; refusal 3 at any other
-unfoldable pub choice : ℕ → Reader ℕ
-choice many = one_of (map done (below many))
-
 abbrev pub rest : List ℕ → Cursor → List ℕ
 rest s c = drop c.at s
 
-abbrev pub byte_says : List ℕ → ByteStep → Reading ℕ
-byte_says s (byte_step.Byte n next) = read n (rest s next)
-byte_says s (byte_step.Refused k) = refused k
+-- a number or a flag stands for itself
+abbrev pub itself : {A : Type 0} → A → A
+itself x = x
 
-abbrev pub borrow_kind_says : List ℕ → BorrowKindStep → Reading syntax.BorrowKind
-borrow_kind_says s (borrow_kind_step.BorrowKind k next) = read (borrow_kind_of k) (rest s next)
-borrow_kind_says s (borrow_kind_step.Refused k) = refused k
-
-abbrev pub variance_says : List ℕ → VarianceStep → Reading syntax.Variance
-variance_says s (variance_step.Variance v next) = read (variance_of v) (rest s next)
-variance_says s (variance_step.Refused k) = refused k
-
-abbrev pub flag_says : List ℕ → FlagStep → Reading Bool
-flag_says s (flag_step.Flag b next) = read b (rest s next)
-flag_says s (flag_step.Refused k) = refused k
-
-abbrev pub kind_says : List ℕ → KindStep → Reading syntax.Kind
-kind_says s (kind_step.Kind k next) = read (kind_of k) (rest s next)
-kind_says s (kind_step.Refused k) = refused k
-
-abbrev pub parameter_says : List ℕ → ParameterStep → Reading syntax.Param
-parameter_says s (parameter_step.Parameter p next) = read (parameter_of p) (rest s next)
-parameter_says s (parameter_step.Refused k) = refused k
-
-abbrev pub region_says : List ℕ → RegionStep → Reading syntax.Region
-region_says s (region_step.Region r next) = read (region_of r) (rest s next)
-region_says s (region_step.Refused k) = refused k
-
-abbrev pub path_says : List ℕ → PathStep → Reading syntax.Path
-path_says s (path_step.Path p next) = read (path_of s p) (rest s next)
-path_says s (path_step.Refused k) = refused k
+-- What was read, as `of` has it, and the bytes that follow; or a refusal.
+abbrev pub says : {A B : Type 0} → (A → B) → List ℕ → Result (A × Cursor) Refusal → Reading B
+says of s (Ok r) = read (of r.0) (rest s r.1)
+says of s (Err k) = refused (number_of k)
 
 -- ---- Only where a reading ends
 
@@ -106,11 +62,11 @@ abbrev pub ended : {A : Type 0} → Reading A → Reading (Unit {0})
 ended (refused k) = refused k
 ended (read a over) = read tt over
 
-abbrev pub end_says : List ℕ → EndStep → Reading (Unit {0})
-end_says s (end_step.Ended next) = read tt (rest s next)
-end_says s (end_step.Refused k) = refused k
+abbrev pub end_says : List ℕ → Result Cursor Refusal → Reading (Unit {0})
+end_says s (Ok next) = read tt (rest s next)
+end_says s (Err k) = refused (number_of k)
 
 -- so many bytes from a cursor on, and where they end
-abbrev pub bytes_say : List ℕ → Cursor → ℕ → EndStep → Reading (List ℕ)
-bytes_say s c n (end_step.Ended next) = read (take n (rest s c)) (rest s next)
-bytes_say s c n (end_step.Refused k) = refused k
+abbrev pub bytes_say : List ℕ → Cursor → ℕ → Result Cursor Refusal → Reading (List ℕ)
+bytes_say s c n (Ok next) = read (take n (rest s c)) (rest s next)
+bytes_say s c n (Err k) = refused (number_of k)

@@ -16,10 +16,7 @@ ghost use Rattle.repr.specs.Parts.{
   block_says,
 };
 
-use super::{
-    Action, ActionStep, BasicBlockData, BlockStep, BorrowKindStep, ByteStep, Cursor, EndStep,
-    PathStep, RegionName, Variable,
-};
+use super::{Action, BasicBlockData, Cursor, Reading, Refusal, RegionName, Variable};
 
 impl Action {
     // How many sources follow it: those of an Init.
@@ -27,19 +24,8 @@ impl Action {
         ensures { result ≡ sources_of self }
     {
         match self {
-            Action::Noop => 0,
-            Action::Init { dest: _, count } => count,
-            Action::Borrow {
-                dest: _,
-                region: _,
-                kind: _,
-                source: _,
-            } => 0,
-            Action::Assign { dest: _, source: _ } => 0,
-            Action::Constraint { sup: _, sub: _ } => 0,
-            Action::Use(_) => 0,
-            Action::Drop(_) => 0,
-            Action::StorageDead(_) => 0,
+            Action::Init { count, .. } => count,
+            _ => 0,
         }
     }
 
@@ -48,177 +34,119 @@ impl Action {
         ensures { result ≡ loans_of self }
     {
         match self {
-            Action::Noop => 0,
-            Action::Init { dest: _, count: _ } => 0,
-            Action::Borrow {
-                dest: _,
-                region: _,
-                kind: _,
-                source: _,
-            } => 1,
-            Action::Assign { dest: _, source: _ } => 0,
-            Action::Constraint { sup: _, sub: _ } => 0,
-            Action::Use(_) => 0,
-            Action::Drop(_) => 0,
-            Action::StorageDead(_) => 0,
+            Action::Borrow { .. } => 1,
+            _ => 0,
         }
     }
 }
 
+#[tactic(auto, using(crate::proofs::ReadLaws::step, crate::proofs::ReadLaws::stop, crate::proofs::PartLaws::counted_step, crate::proofs::PartLaws::counted_stop), unfolding(nll_spec::specs::Decode::one_of, nll_spec::specs::Decode::action, nll_spec::specs::Decode::block, nll_spec::specs::Decode::done, crate::specs::Parts::init_action, crate::specs::Parts::borrow_action, crate::specs::Parts::assign_action, crate::specs::Parts::constraint_action, crate::specs::Parts::use_action, crate::specs::Parts::drop_action, crate::specs::Parts::dead_action, crate::specs::Parts::block_of))]
 impl Cursor {
     // So many paths.
-    pub fn paths(self, s: &[u8], count: u8) -> EndStep
+    pub fn paths(self, s: &[u8], count: u8) -> Result<Cursor, Refusal>
         ensures { end_says s.now result ≡ ended (items count path (drop self.at s.now)) }
     {
         let mut c = self;
-        let mut left = count;
-        while left != 0 {
-            match c.path(s) {
-                PathStep::Refused(k) => return EndStep::Refused(k),
-                PathStep::Path(_, next) => {
-                    c = next;
-                    left -= 1;
-                }
-            }
+        for _ in 0..count {
+            (_, c) = c.path(s)?;
         }
-        EndStep::Ended(c)
+        Ok(c)
     }
 
-    fn init_action(self, s: &[u8]) -> ActionStep
+    fn init_action(self, s: &[u8]) -> Reading<Action>
         ensures { action_says s.now result ≡ init_action (drop self.at s.now) }
     {
-        match self.path(s) {
-            PathStep::Refused(k) => ActionStep::Refused(k),
-            PathStep::Path(dest, next) => match next.count(s, 0, 8) {
-                ByteStep::Refused(k) => ActionStep::Refused(k),
-                ByteStep::Byte(count, sources) => {
-                    ActionStep::Action(Action::Init { dest, count }, sources)
-                }
-            },
-        }
+        let (dest, next) = self.path(s)?;
+        let (count, sources) = next.count(s, 0, 8)?;
+        Ok((Action::Init { dest, count }, sources))
     }
 
-    fn borrow_action(self, s: &[u8]) -> ActionStep
+    fn borrow_action(self, s: &[u8]) -> Reading<Action>
         ensures { action_says s.now result ≡ borrow_action (drop self.at s.now) }
     {
-        match self.path(s) {
-            PathStep::Refused(k) => ActionStep::Refused(k),
-            PathStep::Path(dest, name) => match name.byte(s) {
-                ByteStep::Refused(k) => ActionStep::Refused(k),
-                ByteStep::Byte(r, which) => match which.borrow_kind(s) {
-                    BorrowKindStep::Refused(k) => ActionStep::Refused(k),
-                    BorrowKindStep::BorrowKind(kind, of) => match of.path(s) {
-                        PathStep::Refused(k) => ActionStep::Refused(k),
-                        PathStep::Path(source, end) => {
-                            let region = RegionName(r);
-                            let a = Action::Borrow {
-                                dest,
-                                region,
-                                kind,
-                                source,
-                            };
-                            ActionStep::Action(a, end)
-                        }
-                    },
-                },
-            },
-        }
+        let (dest, name) = self.path(s)?;
+        let (r, which) = name.byte(s)?;
+        let (kind, of) = which.borrow_kind(s)?;
+        let (source, end) = of.path(s)?;
+        let region = RegionName(r);
+        let action = Action::Borrow {
+            dest,
+            region,
+            kind,
+            source,
+        };
+        Ok((action, end))
     }
 
-    fn assign_action(self, s: &[u8]) -> ActionStep
+    fn assign_action(self, s: &[u8]) -> Reading<Action>
         ensures { action_says s.now result ≡ assign_action (drop self.at s.now) }
     {
-        match self.path(s) {
-            PathStep::Refused(k) => ActionStep::Refused(k),
-            PathStep::Path(dest, next) => match next.path(s) {
-                PathStep::Refused(k) => ActionStep::Refused(k),
-                PathStep::Path(source, end) => {
-                    ActionStep::Action(Action::Assign { dest, source }, end)
-                }
-            },
-        }
+        let (dest, next) = self.path(s)?;
+        let (source, end) = next.path(s)?;
+        Ok((Action::Assign { dest, source }, end))
     }
 
-    fn constraint_action(self, s: &[u8]) -> ActionStep
+    fn constraint_action(self, s: &[u8]) -> Reading<Action>
         ensures { action_says s.now result ≡ constraint_action (drop self.at s.now) }
     {
-        match self.byte(s) {
-            ByteStep::Refused(k) => ActionStep::Refused(k),
-            ByteStep::Byte(a, next) => match next.byte(s) {
-                ByteStep::Refused(k) => ActionStep::Refused(k),
-                ByteStep::Byte(b, end) => {
-                    let sup = RegionName(a);
-                    let sub = RegionName(b);
-                    ActionStep::Action(Action::Constraint { sup, sub }, end)
-                }
-            },
-        }
+        let (a, next) = self.byte(s)?;
+        let (b, end) = next.byte(s)?;
+        let sup = RegionName(a);
+        let sub = RegionName(b);
+        Ok((Action::Constraint { sup, sub }, end))
     }
 
-    fn use_action(self, s: &[u8]) -> ActionStep
+    fn use_action(self, s: &[u8]) -> Reading<Action>
         ensures { action_says s.now result ≡ use_action (drop self.at s.now) }
     {
-        match self.path(s) {
-            PathStep::Refused(k) => ActionStep::Refused(k),
-            PathStep::Path(p, end) => ActionStep::Action(Action::Use(p), end),
-        }
+        let (p, end) = self.path(s)?;
+        Ok((Action::Use(p), end))
     }
 
-    fn drop_action(self, s: &[u8]) -> ActionStep
+    fn drop_action(self, s: &[u8]) -> Reading<Action>
         ensures { action_says s.now result ≡ drop_action (drop self.at s.now) }
     {
-        match self.path(s) {
-            PathStep::Refused(k) => ActionStep::Refused(k),
-            PathStep::Path(p, end) => ActionStep::Action(Action::Drop(p), end),
-        }
+        let (p, end) = self.path(s)?;
+        Ok((Action::Drop(p), end))
     }
 
-    fn dead_action(self, s: &[u8]) -> ActionStep
+    fn dead_action(self, s: &[u8]) -> Reading<Action>
         ensures { action_says s.now result ≡ dead_action (drop self.at s.now) }
     {
-        match self.byte(s) {
-            ByteStep::Refused(k) => ActionStep::Refused(k),
-            ByteStep::Byte(v, end) => ActionStep::Action(Action::StorageDead(Variable(v)), end),
-        }
+        let (v, end) = self.byte(s)?;
+        Ok((Action::StorageDead(Variable(v)), end))
     }
 
     // An action; the sources of an Init are only counted.
-    pub fn action(self, s: &[u8]) -> ActionStep
+    pub fn action(self, s: &[u8]) -> Reading<Action>
         ensures { action_says s.now result ≡ action (drop self.at s.now) }
     {
-        match self.choice(s, 8) {
-            ByteStep::Refused(k) => ActionStep::Refused(k),
-            ByteStep::Byte(tag, next) => match tag {
-                0 => ActionStep::Action(Action::Noop, next),
-                1 => next.init_action(s),
-                2 => next.borrow_action(s),
-                3 => next.assign_action(s),
-                4 => next.constraint_action(s),
-                5 => next.use_action(s),
-                6 => next.drop_action(s),
-                _ => next.dead_action(s),
-            },
+        let (tag, next) = self.byte(s)?;
+        match tag {
+            0 => Ok((Action::Noop, next)),
+            1 => next.init_action(s),
+            2 => next.borrow_action(s),
+            3 => next.assign_action(s),
+            4 => next.constraint_action(s),
+            5 => next.use_action(s),
+            6 => next.drop_action(s),
+            7 => next.dead_action(s),
+            _ => Err(Refusal::Form),
         }
     }
 
     // A block: its successors are read, its actions only counted.
-    pub fn block(self, s: &[u8]) -> BlockStep
+    pub fn block(self, s: &[u8]) -> Result<BasicBlockData, Refusal>
         ensures { block_says s.now result ≡ block (drop self.at s.now) }
     {
-        match self.count(s, 0, 8) {
-            ByteStep::Refused(k) => BlockStep::Refused(k),
-            ByteStep::Byte(successors, targets) => match targets.bytes(s, successors) {
-                EndStep::Refused(k) => BlockStep::Refused(k),
-                EndStep::Ended(end) => match end.count(s, 0, 64) {
-                    ByteStep::Refused(k) => BlockStep::Refused(k),
-                    ByteStep::Byte(actions, code) => BlockStep::Block(BasicBlockData {
-                        successors,
-                        targets,
-                        actions,
-                        code,
-                    }),
-                },
-            },
-        }
+        let (successors, targets) = self.count(s, 0, 8)?;
+        let end = targets.bytes(s, successors)?;
+        let (actions, code) = end.count(s, 0, 64)?;
+        Ok(BasicBlockData {
+            successors,
+            targets,
+            actions,
+            code,
+        })
     }
 }

@@ -1,221 +1,139 @@
 // The items that hold no other: bytes, counts, choices, regions, parameters, paths.
-ghost use Rattle.std.specs.Prelude.{◌≡◌, ◌-◌, length, drop};
+ghost use Rattle.std.specs.Prelude.{◌≡◌, length, drop};
 ghost use Rattle.nll_spec.specs.Decode.{byte, count, items, borrow_kind, variance, flag, kind, param, region, path};
-ghost use Rattle.repr.specs.Reading.{
-  choice,
-  byte_says,
-  bytes_say,
-  borrow_kind_says,
-  variance_says,
-  flag_says,
-  kind_says,
-  parameter_says,
-  region_says,
-  path_says,
-};
+ghost use Rattle.repr.specs.Reading.{says, itself, borrow_kind_of, variance_of, kind_of, parameter_of, region_of, path_of, bytes_say};
 
 use super::{
-    BorrowKind, BorrowKindStep, ByteStep, Cursor, EndStep, FlagStep, Kind, KindStep, ParameterStep,
-    Path, PathStep, Region, RegionName, RegionStep, StructParameter, Variable, Variance,
-    VarianceStep,
+    BorrowKind, Cursor, Kind, Path, Reading, Refusal, Region, RegionName, StructParameter,
+    Variable, Variance,
 };
 
-fn wide(x: u8) -> usize
-    ensures { result ≡ x }
-{
-    x as usize
-}
-
+#[tactic(auto, using(crate::proofs::ReadLaws::step, crate::proofs::ReadLaws::stop, crate::proofs::ReadLaws::byte_at, crate::proofs::ReadLaws::byte_past, crate::proofs::ReadLaws::count_low, crate::proofs::ReadLaws::count_high, crate::proofs::ReadLaws::count_in, crate::proofs::ReadLaws::row_at, crate::proofs::ReadLaws::row_short), unfolding(nll_spec::specs::Decode::one_of, nll_spec::specs::Decode::borrow_kind, nll_spec::specs::Decode::variance, nll_spec::specs::Decode::flag, nll_spec::specs::Decode::kind, nll_spec::specs::Decode::param, nll_spec::specs::Decode::region, nll_spec::specs::Decode::path, nll_spec::specs::Decode::done))]
 impl Cursor {
-    // How many bytes there are from here on.
-    fn left(self, s: &[u8]) -> usize
-        ensures { result ≡ length s.now - self.at }
-    {
-        let at = self.at;
-        if at < s.len() { s.len() - at } else { 0 }
-    }
-
-    pub fn byte(self, s: &[u8]) -> ByteStep
-        ensures { byte_says s.now result ≡ byte (drop self.at s.now) }
+    pub fn byte(self, s: &[u8]) -> Reading<u8>
+        ensures { says itself s.now result ≡ byte (drop self.at s.now) }
     {
         let at = self.at;
         if at < s.len() {
-            ByteStep::Byte(s[at], Cursor { at: at + 1 })
+            Ok((s[at], Cursor { at: at + 1 }))
         } else {
-            ByteStep::Refused(3)
+            Err(Refusal::Form)
         }
     }
 
     // A count from low to high.
-    pub fn count(self, s: &[u8], low: u8, high: u8) -> ByteStep
-        ensures { byte_says s.now result ≡ count low high (drop self.at s.now) }
+    #[tactic(auto, using(crate::proofs::ReadLaws::step, crate::proofs::ReadLaws::stop, crate::proofs::ReadLaws::count_low, crate::proofs::ReadLaws::count_high, crate::proofs::ReadLaws::count_in), unfolding(nll_spec::specs::Decode::count, nll_spec::specs::Decode::done, nll_spec::specs::Decode::refuse))]
+    pub fn count(self, s: &[u8], low: u8, high: u8) -> Reading<u8>
+        ensures { says itself s.now result ≡ count low high (drop self.at s.now) }
     {
-        match self.byte(s) {
-            ByteStep::Refused(k) => ByteStep::Refused(k),
-            ByteStep::Byte(n, next) => {
-                if n < low {
-                    ByteStep::Refused(4)
-                } else if high < n {
-                    ByteStep::Refused(4)
-                } else {
-                    ByteStep::Byte(n, next)
-                }
-            }
+        let (n, next) = self.byte(s)?;
+        if low <= n && n <= high {
+            Ok((n, next))
+        } else {
+            Err(Refusal::Range)
         }
     }
 
-    // A tag or a choice below `many`.
-    pub fn choice(self, s: &[u8], many: u8) -> ByteStep
-        ensures { byte_says s.now result ≡ choice many (drop self.at s.now) }
+    pub fn borrow_kind(self, s: &[u8]) -> Reading<BorrowKind>
+        ensures { says borrow_kind_of s.now result ≡ borrow_kind (drop self.at s.now) }
     {
-        match self.byte(s) {
-            ByteStep::Refused(k) => ByteStep::Refused(k),
-            ByteStep::Byte(n, next) => {
-                if n < many {
-                    ByteStep::Byte(n, next)
-                } else {
-                    ByteStep::Refused(3)
-                }
-            }
+        let (tag, next) = self.byte(s)?;
+        match tag {
+            0 => Ok((BorrowKind::Mut, next)),
+            1 => Ok((BorrowKind::Shared, next)),
+            _ => Err(Refusal::Form),
         }
     }
 
-    pub fn borrow_kind(self, s: &[u8]) -> BorrowKindStep
-        ensures { borrow_kind_says s.now result ≡ borrow_kind (drop self.at s.now) }
+    pub fn variance(self, s: &[u8]) -> Reading<Variance>
+        ensures { says variance_of s.now result ≡ variance (drop self.at s.now) }
     {
-        match self.choice(s, 2) {
-            ByteStep::Refused(k) => BorrowKindStep::Refused(k),
-            ByteStep::Byte(n, next) => {
-                if n == 0 {
-                    BorrowKindStep::BorrowKind(BorrowKind::Mut, next)
-                } else {
-                    BorrowKindStep::BorrowKind(BorrowKind::Shared, next)
-                }
-            }
+        let (tag, next) = self.byte(s)?;
+        match tag {
+            0 => Ok((Variance::Co, next)),
+            1 => Ok((Variance::Contra, next)),
+            2 => Ok((Variance::In, next)),
+            _ => Err(Refusal::Form),
         }
     }
 
-    pub fn variance(self, s: &[u8]) -> VarianceStep
-        ensures { variance_says s.now result ≡ variance (drop self.at s.now) }
+    pub fn flag(self, s: &[u8]) -> Reading<bool>
+        ensures { says itself s.now result ≡ flag (drop self.at s.now) }
     {
-        match self.choice(s, 3) {
-            ByteStep::Refused(k) => VarianceStep::Refused(k),
-            ByteStep::Byte(n, next) => {
-                if n == 0 {
-                    VarianceStep::Variance(Variance::Co, next)
-                } else if n == 1 {
-                    VarianceStep::Variance(Variance::Contra, next)
-                } else {
-                    VarianceStep::Variance(Variance::In, next)
-                }
-            }
+        let (tag, next) = self.byte(s)?;
+        match tag {
+            0 => Ok((false, next)),
+            1 => Ok((true, next)),
+            _ => Err(Refusal::Form),
         }
     }
 
-    pub fn flag(self, s: &[u8]) -> FlagStep
-        ensures { flag_says s.now result ≡ flag (drop self.at s.now) }
+    pub fn kind(self, s: &[u8]) -> Reading<Kind>
+        ensures { says kind_of s.now result ≡ kind (drop self.at s.now) }
     {
-        match self.choice(s, 2) {
-            ByteStep::Refused(k) => FlagStep::Refused(k),
-            ByteStep::Byte(n, next) => {
-                if n == 0 {
-                    FlagStep::Flag(false, next)
-                } else {
-                    FlagStep::Flag(true, next)
-                }
-            }
-        }
-    }
-
-    pub fn kind(self, s: &[u8]) -> KindStep
-        ensures { kind_says s.now result ≡ kind (drop self.at s.now) }
-    {
-        match self.choice(s, 2) {
-            ByteStep::Refused(k) => KindStep::Refused(k),
-            ByteStep::Byte(n, next) => {
-                if n == 0 {
-                    KindStep::Kind(Kind::Region, next)
-                } else {
-                    KindStep::Kind(Kind::Type, next)
-                }
-            }
+        let (tag, next) = self.byte(s)?;
+        match tag {
+            0 => Ok((Kind::Region, next)),
+            1 => Ok((Kind::Type, next)),
+            _ => Err(Refusal::Form),
         }
     }
 
     // A parameter of a struct: variance, may_dangle, kind.
-    pub fn parameter(self, s: &[u8]) -> ParameterStep
-        ensures { parameter_says s.now result ≡ param (drop self.at s.now) }
+    pub fn parameter(self, s: &[u8]) -> Reading<StructParameter>
+        ensures { says parameter_of s.now result ≡ param (drop self.at s.now) }
     {
-        match self.variance(s) {
-            VarianceStep::Refused(k) => ParameterStep::Refused(k),
-            VarianceStep::Variance(variance, dangle) => match dangle.flag(s) {
-                FlagStep::Refused(k) => ParameterStep::Refused(k),
-                FlagStep::Flag(may_dangle, last) => match last.kind(s) {
-                    KindStep::Refused(k) => ParameterStep::Refused(k),
-                    KindStep::Kind(kind, next) => ParameterStep::Parameter(
-                        StructParameter {
-                            variance,
-                            may_dangle,
-                            kind,
-                        },
-                        next,
-                    ),
-                },
+        let (variance, dangle) = self.variance(s)?;
+        let (may_dangle, last) = dangle.flag(s)?;
+        let (kind, next) = last.kind(s)?;
+        Ok((
+            StructParameter {
+                variance,
+                may_dangle,
+                kind,
             },
-        }
+            next,
+        ))
     }
 
     // A region in a type: 0 with a name, or 1 with a bound index.
-    pub fn region(self, s: &[u8]) -> RegionStep
-        ensures { region_says s.now result ≡ region (drop self.at s.now) }
+    pub fn region(self, s: &[u8]) -> Reading<Region>
+        ensures { says region_of s.now result ≡ region (drop self.at s.now) }
     {
-        match self.choice(s, 2) {
-            ByteStep::Refused(k) => RegionStep::Refused(k),
-            ByteStep::Byte(tag, name) => match name.byte(s) {
-                ByteStep::Refused(k) => RegionStep::Refused(k),
-                ByteStep::Byte(n, next) => {
-                    if tag == 0 {
-                        RegionStep::Region(Region::Free(RegionName(n)), next)
-                    } else {
-                        RegionStep::Region(Region::Bound(n), next)
-                    }
-                }
-            },
+        let (tag, number) = self.byte(s)?;
+        match tag {
+            0 => {
+                let (name, next) = number.byte(s)?;
+                Ok((Region::Free(RegionName(name)), next))
+            }
+            1 => {
+                let (bound, next) = number.byte(s)?;
+                Ok((Region::Bound(bound), next))
+            }
+            _ => Err(Refusal::Form),
         }
     }
 
     // So many bytes, passed over.
-    pub fn bytes(self, s: &[u8], n: u8) -> EndStep
+    pub fn bytes(self, s: &[u8], n: u8) -> Result<Cursor, Refusal>
         ensures { bytes_say s.now self n result ≡ items n byte (drop self.at s.now) }
     {
-        let many = wide(n);
-        if self.left(s) < many {
-            EndStep::Refused(3)
+        let many = usize::from(n);
+        if s.len().saturating_sub(self.at) < many {
+            Err(Refusal::Form)
         } else {
-            EndStep::Ended(Cursor { at: self.at + many })
+            Ok(Cursor { at: self.at + many })
         }
     }
 
     // A path: step count, variable, field numbers.
-    pub fn path(self, s: &[u8]) -> PathStep
-        ensures { path_says s.now result ≡ path (drop self.at s.now) }
+    pub fn path(self, s: &[u8]) -> Reading<Path>
+        ensures { says (path_of s.now) s.now result ≡ path (drop self.at s.now) }
     {
-        match self.count(s, 0, 6) {
-            ByteStep::Refused(k) => PathStep::Refused(k),
-            ByteStep::Byte(steps, next) => match next.byte(s) {
-                ByteStep::Refused(k) => PathStep::Refused(k),
-                ByteStep::Byte(v, from) => match from.bytes(s, steps) {
-                    EndStep::Refused(k) => PathStep::Refused(k),
-                    EndStep::Ended(end) => PathStep::Path(
-                        Path {
-                            base: Variable(v),
-                            steps,
-                            from,
-                        },
-                        end,
-                    ),
-                },
-            },
-        }
+        let (steps, next) = self.count(s, 0, 6)?;
+        let (v, from) = next.byte(s)?;
+        let end = from.bytes(s, steps)?;
+        let base = Variable(v);
+        Ok((Path { base, steps, from }, end))
     }
 }

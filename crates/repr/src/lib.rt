@@ -2,45 +2,48 @@
 // The parts of a job, as the record's bytes hold them, and the cursor that reads them.
 mod actions;
 mod items;
+pub mod refusal;
 mod structs;
 mod types;
 
-#[derive(Clone, Copy)]
+pub use refusal::Refusal;
+
+#[derive(Clone, Copy, PartialEq, Eq)]
 pub struct Variable(pub u8);
 
-#[derive(Clone, Copy)]
+#[derive(Clone, Copy, PartialEq, Eq)]
 pub struct RegionName(pub u8);
 
-#[derive(Clone, Copy)]
+#[derive(Clone, Copy, PartialEq, Eq)]
 pub struct StructName(pub u8);
 
-#[derive(Clone, Copy)]
+#[derive(Clone, Copy, PartialEq, Eq)]
 pub struct FieldName(pub u8);
 
-#[derive(Clone, Copy)]
+#[derive(Clone, Copy, PartialEq, Eq)]
 pub struct BasicBlockIndex(pub u8);
 
-#[derive(Clone, Copy)]
+#[derive(Clone, Copy, PartialEq, Eq)]
 pub enum BorrowKind {
     Mut,
     Shared,
 }
 
-#[derive(Clone, Copy)]
+#[derive(Clone, Copy, PartialEq, Eq)]
 pub enum Variance {
     Co,
     Contra,
     In,
 }
 
-#[derive(Clone, Copy)]
+#[derive(Clone, Copy, PartialEq, Eq)]
 pub enum Kind {
     Region,
     Type,
 }
 
 // A region in a type: a name, or a parameter of the struct around it by its bound index.
-#[derive(Clone, Copy)]
+#[derive(Clone, Copy, PartialEq, Eq)]
 pub enum Region {
     Free(RegionName),
     Bound(u8),
@@ -112,85 +115,14 @@ pub struct BasicBlockData {
     pub code: Cursor,
 }
 
-// ---- What reading at a cursor gives: an item with the next cursor, or a refusal.
+// ---- What reading at a cursor gives
 
-#[derive(Clone, Copy)]
-pub enum ByteStep {
-    Byte(u8, Cursor),
-    Refused(u8),
-}
-
-#[derive(Clone, Copy)]
-pub enum BorrowKindStep {
-    BorrowKind(BorrowKind, Cursor),
-    Refused(u8),
-}
-
-#[derive(Clone, Copy)]
-pub enum VarianceStep {
-    Variance(Variance, Cursor),
-    Refused(u8),
-}
-
-#[derive(Clone, Copy)]
-pub enum FlagStep {
-    Flag(bool, Cursor),
-    Refused(u8),
-}
-
-#[derive(Clone, Copy)]
-pub enum KindStep {
-    Kind(Kind, Cursor),
-    Refused(u8),
-}
-
-#[derive(Clone, Copy)]
-pub enum ParameterStep {
-    Parameter(StructParameter, Cursor),
-    Refused(u8),
-}
-
-#[derive(Clone, Copy)]
-pub enum RegionStep {
-    Region(Region, Cursor),
-    Refused(u8),
-}
-
-#[derive(Clone, Copy)]
-pub enum PathStep {
-    Path(Path, Cursor),
-    Refused(u8),
-}
-
-// An action with the next cursor, which is at the sources of an Init.
-#[derive(Clone, Copy)]
-pub enum ActionStep {
-    Action(Action, Cursor),
-    Refused(u8),
-}
-
-// A field's name, and where its type begins.
-#[derive(Clone, Copy)]
-pub enum FieldStep {
-    Field(FieldName, Cursor),
-    Refused(u8),
-}
-
-#[derive(Clone, Copy)]
-pub enum StructStep {
-    Struct(StructDecl),
-    Refused(u8),
-}
-
-#[derive(Clone, Copy)]
-pub enum BlockStep {
-    Block(BasicBlockData),
-    Refused(u8),
-}
+// What was read, with the next cursor.
+pub type Reading<T> = Result<(T, Cursor), Refusal>;
 
 // A type's first node, with where its parts begin, or where the type ends if it has none.
 #[derive(Clone, Copy)]
-pub enum NodeStep {
+pub enum Node {
     Unit(Cursor),
     Ref {
         kind: BorrowKind,
@@ -203,34 +135,26 @@ pub enum NodeStep {
         arguments: Cursor,
     },
     Bound(u8, Cursor),
-    Refused(u8),
 }
 
 // An argument of a struct: a region with the next cursor, or where a type begins.
 #[derive(Clone, Copy)]
-pub enum ArgumentStep {
+pub enum Argument {
     Region(Region, Cursor),
     Type(Cursor),
-    Refused(u8),
 }
 
 // A part of a type up to so many arguments that are to be read yet, with how many more nodes the type may have.
 #[derive(Clone, Copy)]
-enum OpenedStep {
-    Opened { count: u8, left: u8, next: Cursor },
-    Refused(u8),
+struct Opened {
+    count: u8,
+    left: u8,
+    next: Cursor,
 }
 
 // The end of a part of a type, with how many more nodes the type may have.
 #[derive(Clone, Copy)]
-pub enum NodesStep {
-    Ended { left: u8, next: Cursor },
-    Refused(u8),
-}
-
-// The end of what was read.
-#[derive(Clone, Copy)]
-pub enum EndStep {
-    Ended(Cursor),
-    Refused(u8),
+pub struct Rest {
+    pub left: u8,
+    pub next: Cursor,
 }

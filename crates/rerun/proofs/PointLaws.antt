@@ -14,8 +14,8 @@ use Rattle.nll_spec.specs.Graph.{graph_of, action_at, is_walked}
 use Rattle.nll_spec.specs.Constraints.{Outlives, constraints_at}
 use Rattle.nll_spec.proofs.GraphLaws.{code-count}
 use Rattle.bit_set.specs.Bits.{has}
-use Rattle.record.specs.declared.Head.{Head}
-use Rattle.record.specs.Layout.{Layout}
+use Rattle.record.specs.declared.Record.{Record}
+use Rattle.record.specs.Layout.{Holds}
 use Rattle.record.specs.Access.{tag_of}
 use Rattle.constraint_list.specs.Listed.{count_in, room_in, constraints_in, first_in, Adds}
 use Rattle.constraint_list.proofs.ListLaws.{adds_none, first-none}
@@ -38,27 +38,27 @@ none_made j p (syntax.Use q) e = refl
 none_made j p (syntax.Drop q) e = refl
 none_made j p (syntax.StorageDead v) e = refl
 
-module _ {s t : List ℕ} {h : Head} {walked : List ℕ} {p : Point} where
+module _ {input : Record} {walked : List ℕ} {p : Point} where
   -- there are no more points
-  near : {code : ℕ} {j : Job} → Known s t h walked code j → p < code → p < 1024
+  near : {code : ℕ} {j : Job} → Known input walked code j → p < code → p < 1024
   near {j = j} k l = omega (arith, l, k.points, code-count j, k.layout.few)
 
-  pub point_far : {ls : List ℕ} → 1024 < p → PointAdds s t h walked p ls ls
+  pub point_far : {ls : List ℕ} → 1024 < p → PointAdds input walked p ls ls
   point_far f = record { adds = λ j code k l. absurd (omega (arith, f, near k l)) }
 
   -- the test says whether the block is walked
-  tested : {b : Bool} → b ≡ has walked (word_bits * 0 + p) → {code : ℕ} (j : Job) → Known s t h walked code j → p < code → is_walked (graph_of j) p ≡ b
+  tested : {b : Bool} → b ≡ has walked (word_bits * 0 + p) → {code : ℕ} (j : Job) → Known input walked code j → p < code → is_walked (graph_of j) p ≡ b
   tested e j k l =
       let z : word_bits * 0 + p ≡ p = omega arith in
       sym (e ∙ ap (has walked) z ∙ k.reached p (near k l))
 
-  pub point-passed : {ls : List ℕ} {b : Bool} → b ≡ has walked (word_bits * 0 + p) → b ≡ false → PointAdds s t h walked p ls ls
+  pub point-passed : {ls : List ℕ} {b : Bool} → b ≡ has walked (word_bits * 0 + p) → b ≡ false → PointAdds input walked p ls ls
   point-passed e f = record { adds = λ j code k l. adds_none (ap (λ (c : Bool). cond c (constraints_at j p (action_at (graph_of j) p)) []) (tested e j k l ∙ f)) }
 
-  pub point_idle : {ls : List ℕ} {tag : ℕ} → ((k : Head) (j : Job) → Layout s t k j → p < code_count j.blocks → tag ≡ tag_of (action_at (graph_of j) p)) → (tag < 2) ⊎ (4 < tag) → PointAdds s t h walked p ls ls
+  pub point_idle : {ls : List ℕ} {tag : ℕ} → ((j : Job) → Holds input j → p < code_count j.blocks → tag ≡ tag_of (action_at (graph_of j) p)) → (tag < 2) ⊎ (4 < tag) → PointAdds input walked p ls ls
   point_idle says e = record {
     adds = λ j code k l.
-        let same = says h j k.layout (omega (arith, l, k.points, code-count j)) in
+        let same = says j k.layout (omega (arith, l, k.points, code-count j)) in
         let none = none_made j p (action_at (graph_of j) p) (subst (λ (n : ℕ). (n < 2) ⊎ (4 < n)) same e) in
         adds_none (ap (λ (cs : List Outlives). cond (is_walked (graph_of j) p) cs []) none ∙ cond_same (is_walked (graph_of j) p));
   }
@@ -67,7 +67,7 @@ module _ {s t : List ℕ} {h : Head} {walked : List ℕ} {p : Point} where
       cond_same true = refl
       cond_same false = refl
 
-  pub point-added : {b : Bool} {n : ℕ} {ls ls' : List ℕ} → b ≡ has walked (word_bits * 0 + p) → b ≡ true → n ≡ p → Constrains s t (record { head = h; at = n }) ls ls' → PointAdds s t h walked p ls ls'
+  pub point-added : {b : Bool} {n : ℕ} {ls ls' : List ℕ} → b ≡ has walked (word_bits * 0 + p) → b ≡ true → n ≡ p → Constrains input n ls ls' → PointAdds input walked p ls ls'
   point-added {ls = ls} {ls' = ls'} e f i x = record {
     adds = λ j code k l.
         subst (λ (c : Bool). Adds (cond c (constraints_at j p (action_at (graph_of j) p)) []) ls ls') (sym (tested e j k l ∙ f))
@@ -76,14 +76,14 @@ module _ {s t : List ℕ} {h : Head} {walked : List ℕ} {p : Point} where
 
 -- ---- The points that a list has
 
-module _ {s t : List ℕ} {h : Head} {walked : List ℕ} {code : ℕ} where
-  pub held_none : {ls : List ℕ} {from : ℕ} → count_in ls ≡ 0 → from ≤ code → Holding s t h walked code ls from from
+module _ {input : Record} {walked : List ℕ} {code : ℕ} where
+  pub held_none : {ls : List ℕ} {from : ℕ} → count_in ls ≡ 0 → from ≤ code → Holding input walked code ls from from
   held_none {ls} {from} e l = record {
     within = l;
     holds = λ j k. ap (λ (n : ℕ). constraints_below j from ++ first_in ls n) e ∙ ap (λ (cs : List Outlives). constraints_below j from ++ cs) (first-none ls) ∙ append-nil (constraints_below j from);
   }
 
-  module _ (j : Job) (k : Known s t h walked code j) {p : Point} (l : p < code) where
+  module _ (j : Job) (k : Known input walked code j) {p : Point} (l : p < code) where
     -- no point has more constraints
     pub few-at : length (walked_at j p) ≤ 264
     few-at = go (is_walked (graph_of j) p)
@@ -92,7 +92,7 @@ module _ {s t : List ℕ} {h : Head} {walked : List ℕ} {code : ℕ} where
         go true = few_constraints k.layout k.accepted p (omega (arith, l, k.points))
         go false = omega arith
 
-  pub held_more : {ls ls' : List ℕ} {from p : ℕ} → PointAdds s t h walked p ls ls' → Holding s t h walked code ls from p → 264 ≤ room_in ls → p < code → Holding s t h walked code ls' from (p + 1)
+  pub held_more : {ls ls' : List ℕ} {from p : ℕ} → PointAdds input walked p ls ls' → Holding input walked code ls from p → 264 ≤ room_in ls → p < code → Holding input walked code ls' from (p + 1)
   held_more {ls} {ls'} {from} {p} y x room l = record {
     within = omega arith;
     holds = λ j k.

@@ -7,12 +7,12 @@ ghost use Rattle.std.specs.Prelude.{◌≡◌, [], ◌<◌, ◌≤◌, length};
 ghost use Rattle.nll_spec.specs.Syntax.{Point};
 ghost use Rattle.constraint_list.specs.Listed.{constraints_in, Draws};
 ghost use Rattle.infer.specs.Ran.{Runs};
-ghost use Rattle.rerun.specs.Rerun.{no_marks, Noted, Holding, RunsAgain, RunsMore, Keeps};
+ghost use Rattle.rerun.specs.Rerun.{under, no_marks, Noted, Holding, RunsAgain, RunsMore, Keeps};
 
 use infer::Setup;
 use marks::note;
 use point::point;
-use record::Head;
+use record::Record;
 
 // How often constraints are run again, and how many turns there are, at most, before a round of all is due.
 const TIMES: u32 = 65536;
@@ -26,7 +26,7 @@ fn rerun(
     recent: &mut [u32],
     list: &[u32],
 ) -> [u8; 128]
-    ensures { Runs setup.now.shape setup.now.rule setup.now.graph.now.first setup.now.graph.now.succ setup.now.chain.now last.now (constraints_in list.now)
+    ensures { under setup.now Runs last.now (constraints_in list.now)
         words.old no_marks words.new result
         × (length grew.old ≡ 128 → Noted result grew.old grew.new 128)
         × Draws (constraints_in list.now) recent.old recent.new }
@@ -46,7 +46,7 @@ fn settle(
     grew: &mut [u8; 128],
     list: &[u32],
 )
-    ensures { RunsAgain setup.now.shape setup.now.rule setup.now.graph.now.first setup.now.graph.now.succ setup.now.chain.now (constraints_in list.now)
+    ensures { under setup.now RunsAgain (constraints_in list.now)
         words.old grew.old words.new grew.new }
 {
     let mut none = [0; 1];
@@ -126,9 +126,7 @@ fn leading(words: &[u32], before: &mut [u32], width: usize, marks: &[u8; 128]) -
 // If p is among the points `near`, and a region with a mark may be the inner one of a constraint of it, by its row of `absent`, runs its constraints once, those whose inner set has
 // a mark in `last` or gets one. Marks, by 1, the regions whose sets grew, in `fresh` and in `grew`.
 fn revisit(
-    s: &[u8],
-    layout: &[u16; 1280],
-    head: Head,
+    input: &Record<'_>,
     walked: &[u32; 32],
     setup: &Setup,
     words: &mut [u32],
@@ -140,8 +138,8 @@ fn revisit(
     absent: &[u32],
     p: usize,
 )
-    requires { (length layout.now ≡ 1280) × (p < setup.now.shape.code) }
-    ensures { RunsMore s.now layout.now head walked.now setup.now.shape setup.now.rule setup.now.graph.now.first setup.now.graph.now.succ setup.now.chain.now
+    requires { p < setup.now.shape.code }
+    ensures { under setup.now (RunsMore input.now walked.now)
         recent.old words.old grew.old recent.new words.new grew.new }
 {
     if !bit_set::test(near, 0, p) {
@@ -152,16 +150,14 @@ fn revisit(
         return;
     }
     let mut list = [0; 265];
-    point(s, layout, head, walked, p, &mut list);
+    point(input, walked, p, &mut list);
     let next = rerun(setup, words, last, grew, recent, &list);
     note(&next, fresh);
 }
 
 // The same for each point.
 fn revisit_near(
-    s: &[u8],
-    layout: &[u16; 1280],
-    head: Head,
+    input: &Record<'_>,
     walked: &[u32; 32],
     setup: &Setup,
     words: &mut [u32],
@@ -172,13 +168,12 @@ fn revisit_near(
     near: &[u32; 32],
     absent: &[u32],
 )
-    requires { length layout.now ≡ 1280 }
-    ensures { RunsMore s.now layout.now head walked.now setup.now.shape setup.now.rule setup.now.graph.now.first setup.now.graph.now.succ setup.now.chain.now
+    ensures { under setup.now (RunsMore input.now walked.now)
         recent.old words.old grew.old recent.new words.new grew.new }
 {
     for p in 0..setup.shape.code {
         revisit(
-            s, layout, head, walked, setup, words, last, fresh, grew, recent, near, absent, p,
+            input, walked, setup, words, last, fresh, grew, recent, near, absent, p,
         );
     }
 }
@@ -186,9 +181,7 @@ fn revisit_near(
 // Runs the constraints of the list once, then those of the points that lead to what is new since `before`, which gets the words: those whose inner set has a mark in `last` or gets one.
 // The answer marks, by 1, the regions whose sets grew, and so does `grew`. The list has the constraints of the first points.
 fn turn(
-    s: &[u8],
-    layout: &[u16; 1280],
-    head: Head,
+    input: &Record<'_>,
     walked: &[u32; 32],
     setup: &Setup,
     words: &mut [u32],
@@ -199,25 +192,22 @@ fn turn(
     absent: &[u32],
     list: &[u32],
 ) -> [u8; 128]
-    requires { length layout.now ≡ 1280 }
-    ensures { (to : Point) → Holding s.now layout.now head walked.now setup.now.shape.code list.now 0 to
-        → RunsMore s.now layout.now head walked.now setup.now.shape setup.now.rule setup.now.graph.now.first setup.now.graph.now.succ setup.now.chain.now
+    ensures { (to : Point) → Holding input.now walked.now setup.now.shape.code list.now 0 to
+        → under setup.now (RunsMore input.now walked.now)
         recent.old words.old grew.old recent.new words.new grew.new }
 {
     let near = leading(words, before, setup.shape.width, last);
     make_room(recent);
     let mut fresh = rerun(setup, words, last, grew, recent, list);
     revisit_near(
-        s, layout, head, walked, setup, words, last, &mut fresh, grew, recent, &near, absent,
+        input, walked, setup, words, last, &mut fresh, grew, recent, &near, absent,
     );
     fresh
 }
 
 // The same, each time with the constraints of `recent` after it, until no set grows, at most TIMES times, by the marks `marks` at first.
 fn turns(
-    s: &[u8],
-    layout: &[u16; 1280],
-    head: Head,
+    input: &Record<'_>,
     walked: &[u32; 32],
     setup: &Setup,
     words: &mut [u32],
@@ -228,9 +218,8 @@ fn turns(
     absent: &[u32],
     list: &[u32],
 )
-    requires { length layout.now ≡ 1280 }
-    ensures { (to : Point) → Holding s.now layout.now head walked.now setup.now.shape.code list.now 0 to
-        → RunsMore s.now layout.now head walked.now setup.now.shape setup.now.rule setup.now.graph.now.first setup.now.graph.now.succ setup.now.chain.now
+    ensures { (to : Point) → Holding input.now walked.now setup.now.shape.code list.now 0 to
+        → under setup.now (RunsMore input.now walked.now)
         recent.old words.old grew.old recent.new words.new grew.new }
 {
     let mut last = marks;
@@ -239,7 +228,7 @@ fn turns(
             return;
         }
         last = turn(
-            s, layout, head, walked, setup, words, &last, grew, recent, before, absent, list,
+            input, walked, setup, words, &last, grew, recent, before, absent, list,
         );
         settle(setup, words, &mut last, grew, recent);
     }
@@ -248,9 +237,7 @@ fn turns(
 // Runs the constraints of `recent` until by them no set grows. If there are points from `to` on, runs those of the list and of points that lead to what is new again too: `before` has
 // words as they were. `grew` marks, by 1, the regions whose sets grew. The list has the constraints of the points before `to`.
 pub fn repeat(
-    s: &[u8],
-    layout: &[u16; 1280],
-    head: Head,
+    input: &Record<'_>,
     walked: &[u32; 32],
     setup: &Setup,
     words: &mut [u32],
@@ -261,9 +248,8 @@ pub fn repeat(
     list: &[u32],
     to: usize,
 )
-    requires { length layout.now ≡ 1280 }
-    ensures { Holding s.now layout.now head walked.now setup.now.shape.code list.now 0 to
-        → RunsMore s.now layout.now head walked.now setup.now.shape setup.now.rule setup.now.graph.now.first setup.now.graph.now.succ setup.now.chain.now
+    ensures { Holding input.now walked.now setup.now.shape.code list.now 0 to
+        → under setup.now (RunsMore input.now walked.now)
         recent.old words.old grew.old recent.new words.new grew.new }
 {
     let mut last = [0; 128];
@@ -273,6 +259,6 @@ pub fn repeat(
         return;
     }
     turns(
-        s, layout, head, walked, setup, words, last, grew, recent, before, absent, list,
+        input, walked, setup, words, last, grew, recent, before, absent, list,
     );
 }

@@ -3,21 +3,11 @@ ghost use Rattle.std.specs.Prelude.{◌≡◌, length};
 ghost use Rattle.rerun.specs.Rerun.{PointAdds};
 
 use constraints::constrain;
-use record::Head;
-use record::access::tag_at;
-use relate::Site;
+use record::Record;
 
 // Adds the constraints of a point of the blocks, if its block is walked. Only Borrow, Assign and Constraint, tags 2 to 4, make any.
-pub fn point(
-    s: &[u8],
-    layout: &[u16; 1280],
-    head: Head,
-    walked: &[u32; 32],
-    p: usize,
-    list: &mut [u32],
-)
-    requires { length layout.now ≡ 1280 }
-    ensures { PointAdds s.now layout.now head walked.now p list.old list.new }
+pub fn point(input: &Record<'_>, walked: &[u32; 32], p: usize, list: &mut [u32])
+    ensures { PointAdds input.now walked.now p list.old list.new }
 {
     if 1024 < p {
         return;
@@ -25,13 +15,12 @@ pub fn point(
     if !bit_set::test(walked, 0, p) {
         return;
     }
-    let tag = tag_at(s, layout, p);
+    let tag = input.tag_at(p);
     if tag < 2 {
         return;
     }
     if 4 < tag {
         return;
     }
-    let site = Site { head, at: p as u16 };
-    constrain(s, layout, site, list);
+    constrain(input, p as u16, list);
 }

@@ -4,6 +4,7 @@ use mathlib.Core.Bool.{Bool, ◌||◌, or_assoc, or-true, or-false}
 use mathlib.Core.List.{List, [], ◌∷◌, ◌++◌}
 use Prim.Native.Nat.{ℕ, ◌+◌, ◌-◌, ◌*◌, ◌/◌, ◌<◌}
 use native.Mathlib.Omega.{arith}
+use native.Mathlib.Nat.{sub-zero}
 use native.Mathlib.Decide.{ℕ_discrete}
 use lib.ListN.{length, drop}
 use lib.Dec.{eqb}
@@ -13,12 +14,13 @@ use Rattle.nll_spec.specs.Output.{word_bits}
 use Rattle.bit_set.specs.Bits.{has, with_bit}
 use Rattle.bit_set.proofs.BitLaws.{length_with, has_with, has_with_other}
 use Rattle.nll_spec.specs.Decode.{read, byte, items}
-use Rattle.repr.specs.Reading.{byte_says}
-use Rattle.repr.specs.declared.ByteStep.{ByteStep}
-use Rattle.repr.specs.declared.ByteStep.TheVariants as byte_step
+use Rattle.repr.specs.Reading.{says, itself}
+use Rattle.repr.specs.declared.refusal.Refusal.{Refusal}
+use Rattle.std.specs.Prelude.{Result, Ok, Err}
 use Rattle.repr.specs.declared.Cursor.{Cursor}
 use Rattle.repr.specs.Stands.{Stands}
 use Rattle.repr.proofs.ItemLaws.{first_of, none_of}
+use Rattle.repr.proofs.SpellLaws.{clash}
 use Rattle.seeds.specs.Chosen.{add_all}
 
 -- ---- Numbers that are put in
@@ -66,30 +68,32 @@ pub record ToAdd (s : List ℕ) (at left r : ℕ) (last ws : List ℕ) : Type 0 
   pub stand : Stands (items left byte) others (drop at s)
   pub same : last ≡ add_all ws r others
 
-pub record Adding (s : List ℕ) (from n r : ℕ) (before : List ℕ) (at left : ℕ) (ws : List ℕ) : Type 0 where
-  pub goes : (xs : List ℕ) → Stands (items n byte) xs (drop from s) → ToAdd s at left r (add_all before r xs) ws
+-- of n bytes, `over` are put in
+pub record Adding (s : List ℕ) (from n r : ℕ) (before : List ℕ) (at over : ℕ) (ws : List ℕ) : Type 0 where
+  pub goes : (xs : List ℕ) → Stands (items n byte) xs (drop from s) → ToAdd s at (n - over) r (add_all before r xs) ws
 
-pub adding_start : (s : List ℕ) (from n r : ℕ) (ws : List ℕ) → Adding s from n r ws from n ws
-adding_start s from n r ws = record { goes = λ xs p. record { others = xs; stand = p; same = refl } }
+pub adding_start : (s : List ℕ) (from n r : ℕ) (ws : List ℕ) → Adding s from n r ws from 0 ws
+adding_start s from n r ws = record { goes = λ xs p. record { others = xs; stand = rw sub-zero p; same = refl } }
 
-module _ {s : List ℕ} {from n r : ℕ} {before : List ℕ} {at left : ℕ} {ws : List ℕ} (g : Adding s from n r before at left ws) where
-  pub adding_end : left ≡ 0 → (xs : List ℕ) → Stands (items n byte) xs (drop from s) → ws ≡ add_all before r xs
-  adding_end z xs p = let w = g.goes xs p in sym (w.same ∙ ap (add_all ws r) (none_of byte left (drop at s) z w.stand.reads).0)
+module _ {s : List ℕ} {from n r : ℕ} {before : List ℕ} {at over : ℕ} {ws : List ℕ} (g : Adding s from n r before at over ws) where
+  pub adding_end : over ≡ n → (xs : List ℕ) → Stands (items n byte) xs (drop from s) → ws ≡ add_all before r xs
+  adding_end z xs p = let w = g.goes xs p in sym (w.same ∙ ap (add_all ws r) (none_of byte (n - over) (drop at s) (omega arith) w.stand.reads).0)
 
-  module _ {d : ByteStep} (z : left ≡ 0 → ⊥) (m : byte_says s d ≡ byte (drop at s)) where
-    pub adding_stop : {k : ℕ} → d ≡ byte_step.Refused k → (xs : List ℕ) → Stands (items n byte) xs (drop from s) → ws ≡ add_all before r xs
+  module _ {d : Result (ℕ × Cursor) Refusal} (z : over < n) (m : says itself s d ≡ byte (drop at s)) where
+    pub adding_stop : {k : Refusal} → d ≡ Err k → (xs : List ℕ) → Stands (items n byte) xs (drop from s) → ws ≡ add_all before r xs
     adding_stop e xs p =
         let w = g.goes xs p in
-        let u = first_of byte left (drop at s) z w.stand.reads in
-        absurd (let f = sym (ap (byte_says s) e) ∙ m ∙ u.first in let q : ◌≡◌ {A = ℕ} 0 1 = cc in omega arith)
+        let u = first_of byte (n - over) (drop at s) (omega arith) w.stand.reads in
+        absurd (clash (sym (ap (says itself s) e) ∙ m ∙ u.first))
 
-    pub adding_more : {x y : ℕ} {c : Cursor} {vs : List ℕ} → d ≡ byte_step.Byte x c → y ≡ x → vs ≡ with_bit ws (word_bits * r + y) → Adding s from n r before c.at (left - 1) vs
+    pub adding_more : {x y : ℕ} {c : Cursor} {vs : List ℕ} → d ≡ Ok (x, c) → y ≡ x → vs ≡ with_bit ws (word_bits * r + y) → Adding s from n r before c.at (over + 1) vs
     adding_more {x} {y} {c} {vs} e i q = record {
       goes = λ xs p.
           let w = g.goes xs p in
-          let u = first_of byte left (drop at s) z w.stand.reads in
-          let f : read x (drop c.at s) ≡ read u.item u.mid = sym (ap (byte_says s) e) ∙ m ∙ u.first in
+          let u = first_of byte (n - over) (drop at s) (omega arith) w.stand.reads in
+          let f : read x (drop c.at s) ≡ read u.item u.mid = sym (ap (says itself s) e) ∙ m ∙ u.first in
           let a : x ≡ u.item = cc in
           let b : drop c.at s ≡ u.mid = cc in
-          record { others = u.others; stand = record { over = w.stand.over; reads = rw b u.reads }; same = w.same ∙ ap (add_all ws r) u.same ∙ rw (q, i, a) };
+          let l : n - over - 1 ≡ n - (over + 1) = omega arith in
+          record { others = u.others; stand = record { over = w.stand.over; reads = rw (b, ← l) u.reads }; same = w.same ∙ ap (add_all ws r) u.same ∙ rw (q, i, a) };
     }

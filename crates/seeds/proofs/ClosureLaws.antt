@@ -28,31 +28,26 @@ use Rattle.nll_spec.proofs.Tests.{or_left, or_right, or_cases, and_intro, and_le
 use Rattle.nll_spec.proofs.Lookup.{every-at}
 use Rattle.nll_spec.proofs.Least.{same_bool}
 use Rattle.nll_spec.proofs.SeedLaws.{outlives_table_lem, outlived_declared, table_outlives}
-use Rattle.repr.specs.Reading.{rest, byte_says}
-use Rattle.repr.specs.declared.ByteStep.{ByteStep}
-use Rattle.repr.specs.declared.ByteStep.TheVariants as byte_step
+use Rattle.repr.specs.Reading as reading
+use Rattle.repr.specs.Reading.{rest, says}
+use Rattle.repr.specs.declared.refusal.Refusal.{Refusal}
+use Rattle.std.specs.Prelude.{Result, Ok, Err}
 use Rattle.repr.specs.declared.Cursor.{Cursor}
 use Rattle.repr.proofs.ReadLaws.{step}
 use Rattle.repr.specs.Stands.{Stands}
-use Rattle.record.specs.Layout.{Layout}
+use Rattle.record.specs.Layout.{Holds}
 use Rattle.record.specs.Access.{entry_in}
-use Rattle.record.specs.declared.Head.{Head}
+use Rattle.record.specs.declared.Record.{Record}
 use Rattle.record.proofs.AccessLaws.{outlives-at}
-use Rattle.repr.proofs.SpellLaws.{then}
+use Rattle.repr.proofs.SpellLaws.{clash, then}
 
 -- ---- The loop
 
 pub pass-more : (n k : ℕ) (ws us : List ℕ) {vs : List ℕ} → us ≡ passed n k ws → vs ≡ linked us n k → vs ≡ passed (n + 1) k ws
 pass-more n k ws us e f = rw (add-one, ← e) f
 
-pub pass-end : (n k : ℕ) (ws : List ℕ) (m : ℕ) {us : List ℕ} → us ≡ passed n k ws → n ≡ m → us ≡ passed m k ws
-pass-end n k ws m e f = e ∙ ap (λ (i : ℕ). passed i k ws) f
-
 pub close_more : (n m : ℕ) (ws us : List ℕ) {vs : List ℕ} → us ≡ closed n m ws → vs ≡ passed n m us → vs ≡ closed n (m + 1) ws
 close_more n m ws us e f = rw (add-one, ← e) f
-
-pub close_end : (n m : ℕ) (ws : List ℕ) {us : List ℕ} → us ≡ closed n m ws → m ≡ n → us ≡ closed n n ws
-close_end n m ws e f = e ∙ ap (λ (i : ℕ). closed n i ws) f
 
 -- ---- One row, and all
 
@@ -126,23 +121,23 @@ module _ (ws : List ℕ) (k : ℕ) (hk : k < length ws) (small : k < word_bits) 
 
 -- ---- What is listed
 
-row-stands : (s t : List ℕ) (at r : ℕ) → at ≡ entry_in t 16 16 r → {h : Head} {j : Job} → Layout s t h j → r < length j.outlives → Stands (counted max_outlived byte) (get_or j.outlives r []) (drop at s)
-row-stands s t at r i w l = rw i (outlives-at w r [] l)
+module _ (input : Record) (at r : ℕ) (i : at ≡ entry_in input.layout.now 16 16 r) where
+  row-stands : {j : Job} → Holds input j → r < length j.outlives → Stands (counted max_outlived byte) (get_or j.outlives r []) (drop at input.bytes.now)
+  row-stands w l = rw i (outlives-at w r [] l)
 
-module _ (s t : List ℕ) (at r : ℕ) (i : at ≡ entry_in t 16 16 r) (d : ByteStep) (m : byte_says s d ≡ count 0 16 (drop at s)) where
-  pub listed_refused : {k : ℕ} (ws vs : List ℕ) → d ≡ byte_step.Refused k → (h : Head) (j : Job) → Layout s t h j → r < length j.outlives → vs ≡ add_all ws r (get_or j.outlives r [])
-  unfolding counted
-  listed_refused ws vs e h j w l =
-      absurd (let y = then (count 0 max_outlived) _ (drop at s) (row-stands s t at r i w l).reads in let f = sym (ap (byte_says s) e) ∙ m ∙ y.first in let q : ◌≡◌ {A = ℕ} 0 1 = cc in omega arith)
+  module _ (d : Result (ℕ × Cursor) Refusal) (m : says reading.itself input.bytes.now d ≡ count 0 16 (drop at input.bytes.now)) where
+    pub listed_refused : {k : Refusal} (ws vs : List ℕ) → d ≡ Err k → (j : Job) → Holds input j → r < length j.outlives → vs ≡ add_all ws r (get_or j.outlives r [])
+    unfolding counted
+    listed_refused ws vs e j w l = absurd (let y = then (count 0 max_outlived) _ (drop at input.bytes.now) (row-stands w l).reads in clash (sym (ap (says reading.itself input.bytes.now) e) ∙ m ∙ y.first))
 
-  pub listed_row : {n : ℕ} {c : Cursor} (row : ℕ) (ws us : List ℕ) {vs : List ℕ} → d ≡ byte_step.Byte n c → row ≡ r → us ≡ with_bit ws (word_bits * row + row)
-      → ((xs : List ℕ) → Stands (items n byte) xs (rest s c) → vs ≡ add_all us row xs)
-      → (h : Head) (j : Job) → Layout s t h j → r < length j.outlives → vs ≡ add_all (with_bit ws (word_bits * r + r)) r (get_or j.outlives r [])
-  unfolding counted
-  listed_row {n} {c} row ws us e k f g h j w l =
-      let y = row-stands s t at r i w l in
-      g (get_or j.outlives r []) (record { over = y.over; reads = sym (step (count 0 max_outlived) _ (drop at s) (sym m ∙ ap (byte_says s) e)) ∙ y.reads })
-      ∙ rw (f, k)
+    pub listed_row : {n : ℕ} {c : Cursor} (row : ℕ) (ws us : List ℕ) {vs : List ℕ} → d ≡ Ok (n, c) → row ≡ r → us ≡ with_bit ws (word_bits * row + row)
+        → ((xs : List ℕ) → Stands (items n byte) xs (rest input.bytes.now c) → vs ≡ add_all us row xs)
+        → (j : Job) → Holds input j → r < length j.outlives → vs ≡ add_all (with_bit ws (word_bits * r + r)) r (get_or j.outlives r [])
+    unfolding counted
+    listed_row row ws us e k f g j w l =
+        let y = row-stands w l in
+        g (get_or j.outlives r []) (record { over = y.over; reads = sym (step (count 0 max_outlived) _ (drop at input.bytes.now) (sym m ∙ ap (says reading.itself input.bytes.now) e)) ∙ y.reads })
+        ∙ rw (f, k)
 
 -- none of some small numbers is put into another row
 none_other : (r i e : ℕ) (xs : List ℕ) → (r ≡ i → ⊥) → e < word_bits → T (every (λ x. ltb x word_bits) xs) → any (λ x. eqb (word_bits * r + e) (word_bits * i + x)) xs ≡ false
@@ -315,8 +310,8 @@ named_parts j a = go (leb (length j.outlives) j.regions) (structs_named j) (outl
 pub declared-named : (j : Job) → T (named j) → length j.outlives ≤ j.regions
 declared-named j a = leb→le (length j.outlives) j.regions (named_parts j a).0
 
-module _ {s t : List ℕ} {h : Head} where
-  pub listing_start : (ws : List ℕ) {us : List ℕ} → length ws ≡ 16 → us ≡ cleared ws 0 16 → Listing s t h 0 us
+module _ {input : Record} where
+  pub listing_start : (ws : List ℕ) {us : List ℕ} → length ws ≡ 16 → us ≡ cleared ws 0 16 → Listing input 0 us
   listing_start ws e f = record {
     turns = omega arith;
     says = λ j w a. record {
@@ -329,19 +324,16 @@ module _ {s t : List ℕ} {h : Head} where
     };
   }
 
-  pub listing-more : {i : ℕ} {ws vs : List ℕ} → Listing s t h i ws → i < h.declared
-      → ((g : Head) (j : Job) → Layout s t g j → i < length j.outlives → vs ≡ add_all (with_bit ws (word_bits * i + i)) i (get_or j.outlives i [])) → Listing s t h (i + 1) vs
+  pub listing-more : {i : ℕ} {ws vs : List ℕ} → Listing input i ws → i < input.head.declared
+      → ((j : Job) → Holds input j → i < length j.outlives → vs ≡ add_all (with_bit ws (word_bits * i + i)) i (get_or j.outlives i [])) → Listing input (i + 1) vs
   listing-more {i} {ws} {vs} l k f = record {
     turns = omega arith;
     says = λ j w a.
         let hi : i < length j.outlives = omega (arith, w.declared_count) in
-        listed_more j (named_parts j a).1 (omega (arith, w.declared_count, w.declared_limit)) i ws vs hi (l.says j w a) (f h j w hi);
+        listed_more j (named_parts j a).1 (omega (arith, w.declared_count, w.declared_limit)) i ws vs hi (l.says j w a) (f j w hi);
   }
 
-  pub listing-end : {i : ℕ} {ws : List ℕ} → Listing s t h i ws → h.declared ≤ i → Listing s t h h.declared ws
-  listing-end {i} {ws} l k = let n = l.turns in let e : i ≡ h.declared = omega arith in subst (λ (x : ℕ). Listing s t h x ws) e l
-
-  pub ends-are : {ws vs : List ℕ} (n : ℕ) → Listing s t h h.declared ws → n ≡ h.declared → vs ≡ closed n n ws → Ends s t h vs
+  pub ends-are : {ws vs : List ℕ} (n : ℕ) → Listing input input.head.declared ws → n ≡ input.head.declared → vs ≡ closed n n ws → Ends input vs
   ends-are {ws} n l e f = record {
     bits = λ j w a r x hr hx.
         let k : n ≡ length j.outlives = e ∙ sym w.declared_count in

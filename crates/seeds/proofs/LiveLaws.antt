@@ -16,9 +16,9 @@ use Rattle.nll_spec.specs.Output.{word_bits}
 use Rattle.repr.specs.Reading.{rest}
 use Rattle.repr.specs.declared.Cursor.{Cursor}
 use Rattle.repr.specs.Stands.{Stands}
-use Rattle.record.specs.Layout.{Layout}
+use Rattle.record.specs.Layout.{Holds}
 use Rattle.record.specs.Access.{entry_in}
-use Rattle.record.specs.declared.Head.{Head}
+use Rattle.record.specs.declared.Record.{Record}
 use Rattle.record.proofs.AccessLaws.{variable_at}
 use Rattle.bit_set.specs.Bits.{has}
 use Rattle.bit_slice.specs.Some.{SomeSet}
@@ -37,18 +37,18 @@ use Rattle.seeds.proofs.RowLaws.{adds_none, adds_same, adds_then, room-kept}
 zeros_empty : (n i : ℕ) → i / word_bits < n → has (replicate n 0) i ≡ false
 zeros_empty n i h = ap (λ (w : ℕ). eqb (digit w (i % word_bits)) 1) (get_or-replicate n (i / word_bits) 0 0 h) ∙ ap (λ (x : ℕ). eqb (x % 2) 1) (zero-div (2 ^ (i % word_bits)))
 
-pub live_adds : {s t : List ℕ} {h : Head} {w v : ℕ} (which : Which) (live names before after : List ℕ) (at : Cursor) → at.at ≡ entry_in t 32 64 v
-    → ((j : Job) (ty : Ty) → Layout s t h j → Stands type ty (rest s at) → names ≡ add_all (replicate 4 0) 0 (chosen which j.structs ty))
-    → (v < 64 → 64 * w ≤ length live → Room h w before → Adds w h.regions (spreads h.declared names w live v) before after)
-    → (j : Job) → Layout s t h j → v < length j.variables → 64 * w ≤ length live → Room h w before → Adds w h.regions (takes j which w live v) before after
-live_adds {s} {t} {h} {w} {v} which live names before after at e f g j l hv hl room =
+pub live_adds : (input : Record) {w v : ℕ} (which : Which) (live names before after : List ℕ) (at : Cursor) → at.at ≡ entry_in input.layout.now 32 64 v
+    → ((j : Job) (ty : Ty) → Holds input j → Stands type ty (rest input.bytes.now at) → names ≡ add_all (replicate 4 0) 0 (chosen which j.structs ty))
+    → (v < 64 → 64 * w ≤ length live → Room input.head w before → Adds w input.head.regions (spreads input.head.declared names w live v) before after)
+    → (j : Job) → Holds input j → v < length j.variables → 64 * w ≤ length live → Room input.head w before → Adds w input.head.regions (takes j which w live v) before after
+live_adds input {w} {v} which live names before after at e f g j l hv hl room =
     let k = l.variable_count in
     let m = l.variable_limit in
-    let st : Stands type (variable_type j v) (rest s at) = rw e (variable_at l v UnitTy hv) in
+    let st : Stands type (variable_type j v) (rest input.bytes.now at) = rw e (variable_at l v UnitTy hv) in
     let n : names ≡ add_all (replicate 4 0) 0 (chosen which j.structs (variable_type j v)) = f j (variable_type j v) l st in
     adds_same (g (omega arith) hl room) (takes j which w live v) (λ r p hr hp. turn r p n (omega (arith, l.region_limit)) l.declared_count)
   where
-    turn : (r p : ℕ) → names ≡ add_all (replicate 4 0) 0 (chosen which j.structs (variable_type j v)) → r < 128 → length j.outlives ≡ h.declared → spreads h.declared names w live v r p ≡ takes j which w live v r p
+    turn : (r p : ℕ) → names ≡ add_all (replicate 4 0) 0 (chosen which j.structs (variable_type j v)) → r < 128 → length j.outlives ≡ input.head.declared → spreads input.head.declared names w live v r p ≡ takes j which w live v r p
     turn r p n lr d =
         ap₂ (λ (a : ℕ) (b : Bool). leb a r && b && has live (row_bit w v p)) (sym d)
         (ap (λ (u : List ℕ). has u (word_bits * 0 + r)) n
@@ -74,18 +74,18 @@ live_none {n} {w} {v} {k} which live ws {some} e x q j =
 
 -- ---- Every variable
 
-pub record Giving (s t : List ℕ) (h : Head) (used dropped : List ℕ) (w v : ℕ) (before ws : List ℕ) : Type 0 where
+pub record Giving (input : Record) (used dropped : List ℕ) (w v : ℕ) (before ws : List ℕ) : Type 0 where
   pub size : length ws ≡ length before
-  pub adds : (j : Job) → Layout s t h j → 64 * w ≤ length used → 64 * w ≤ length dropped → Room h w before → Adds w h.regions (λ r p. any_to (live_in j w used dropped r p) v) before ws
+  pub adds : (j : Job) → Holds input j → 64 * w ≤ length used → 64 * w ≤ length dropped → Room input.head w before → Adds w input.head.regions (λ r p. any_to (live_in j w used dropped r p) v) before ws
 
-pub giving_start : (s t : List ℕ) (h : Head) (used dropped : List ℕ) (w : ℕ) (ws : List ℕ) → Giving s t h used dropped w 0 ws ws
-giving_start s t h used dropped w ws = record { size = refl; adds = λ j l hu hd room. adds_none w h.regions _ ws (λ r p hr hp. refl) }
+pub giving_start : (input : Record) (used dropped : List ℕ) (w : ℕ) (ws : List ℕ) → Giving input used dropped w 0 ws ws
+giving_start input used dropped w ws = record { size = refl; adds = λ j l hu hd room. adds_none w input.head.regions _ ws (λ r p hr hp. refl) }
 
-module _ {s t : List ℕ} {h : Head} {used dropped : List ℕ} {w v : ℕ} {before ws : List ℕ} (x : Giving s t h used dropped w v before ws) where
-  pub giving_more : {us vs : List ℕ} → v < h.variables → length us ≡ length ws → length vs ≡ length us
-      → ((j : Job) → Layout s t h j → v < length j.variables → 64 * w ≤ length used → Room h w ws → Adds w h.regions (takes j Every w used v) ws us)
-      → ((j : Job) → Layout s t h j → v < length j.variables → 64 * w ≤ length dropped → Room h w us → Adds w h.regions (takes j Dropped w dropped v) us vs)
-      → Giving s t h used dropped w (v + 1) before vs
+module _ {input : Record} {used dropped : List ℕ} {w v : ℕ} {before ws : List ℕ} (x : Giving input used dropped w v before ws) where
+  pub giving_more : {us vs : List ℕ} → v < input.head.variables → length us ≡ length ws → length vs ≡ length us
+      → ((j : Job) → Holds input j → v < length j.variables → 64 * w ≤ length used → Room input.head w ws → Adds w input.head.regions (takes j Every w used v) ws us)
+      → ((j : Job) → Holds input j → v < length j.variables → 64 * w ≤ length dropped → Room input.head w us → Adds w input.head.regions (takes j Dropped w dropped v) us vs)
+      → Giving input used dropped w (v + 1) before vs
   giving_more hv eu ev f g = record {
     size = ev ∙ eu ∙ x.size;
     adds = λ j l hu hd room.
@@ -95,6 +95,6 @@ module _ {s t : List ℕ} {h : Head} {used dropped : List ℕ} {w v : ℕ} {befo
         (λ r p. any_to (live_in j w used dropped r p) (v + 1)) (λ r p hr hp. sym (ap (any_to (live_in j w used dropped r p)) (add-one v)));
   }
 
-  pub giving_end : h.variables ≤ v → v ≤ h.variables → (j : Job) → Layout s t h j → 64 * w ≤ length used → 64 * w ≤ length dropped → Room h w before
-      → Adds w h.regions (λ r p. any_to (live_in j w used dropped r p) h.variables) before ws
-  giving_end a b j l hu hd room = let e : v ≡ h.variables = omega arith in subst (λ (z : ℕ). Adds w h.regions (λ r p. any_to (live_in j w used dropped r p) z) before ws) e (x.adds j l hu hd room)
+  pub giving_end : v ≡ input.head.variables → (j : Job) → Holds input j → 64 * w ≤ length used → 64 * w ≤ length dropped → Room input.head w before
+      → Adds w input.head.regions (λ r p. any_to (live_in j w used dropped r p) input.head.variables) before ws
+  giving_end e j l hu hd room = subst (λ (z : ℕ). Adds w input.head.regions (λ r p. any_to (live_in j w used dropped r p) z) before ws) e (x.adds j l hu hd room)

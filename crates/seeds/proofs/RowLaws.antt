@@ -1,6 +1,6 @@
 -- Points that are put into rows of words, step by step. Assumes nothing.
-use mathlib.Core.Path.{◌≡◌, refl, sym, ap, ap₂, subst, ◌∙◌}
-use mathlib.Core.Logic.{◌⊎◌, inr, ⊎_elim}
+use mathlib.Core.Path.{◌≡◌, refl, sym, ap, subst, ◌∙◌}
+use mathlib.Core.Logic.{inr, ⊎_elim}
 use mathlib.Core.Bool.{Bool, true, false, ◌&&◌, ◌||◌, cond, or-false, or_assoc}
 use mathlib.Core.List.{List}
 use Prim.Native.Nat.{ℕ, ◌+◌, ◌-◌, ◌*◌, ◌/◌, ◌≤◌, ◌<◌}
@@ -25,9 +25,6 @@ and_no true = refl
 and_no false = refl
 
 -- ---- Rows
-
-pub row_fits : (r w : ℕ) → r ≤ 255 → w ≤ 32 → r * w ≤ 8160
-row_fits r w hr hw = omega (arith, mul-le-mul_right w hr)
 
 -- row r's words are among those of n rows
 row_inside : (w n r : ℕ) → r < n → r * w + w ≤ n * w
@@ -111,12 +108,11 @@ module _ {w n : ℕ} (i : ℕ) (x : ℕ → ℕ → Bool) {a b : List ℕ} (y : 
 
 -- ---- The live points of a variable
 
--- The rows from d on that are below i have got the run that starts at word `from`.
-pub record Spreading (n d : ℕ) (names live : List ℕ) (from w i : ℕ) (before ws : List ℕ) : Type 0 where
+-- The rows from that of the first region that is not declared on, and below i, have got the run that starts at word `from`.
+pub record Spreading (h : Head) (names live : List ℕ) (from w i : ℕ) (before ws : List ℕ) : Type 0 where
   pub size : length ws ≡ length before
-  pub low : d ≤ i
-  pub adds : from + w ≤ length live → n * w ≤ length before
-      → Adds w n (λ k p. ltb k i && (leb d k && has names (word_bits * 0 + k) && has live (word_bits * from + p))) before ws
+  pub adds : from + w ≤ length live → h.regions * w ≤ length before
+      → Adds w h.regions (λ k p. ltb k i && (leb h.declared k && has names (word_bits * 0 + k) && has live (word_bits * from + p))) before ws
 
 below_none : (k d : ℕ) (x y : Bool) → (ltb k d && (leb d k && x && y)) ≡ false
 below_none k d x y = go (dec_lt k d)
@@ -125,11 +121,10 @@ below_none k d x y = go (dec_lt k d)
     go (yes l) = rw (lt-leb d k l) (and_no (ltb k d))
     go (no l) = rw (le-ltb k d (omega arith))
 
-pub spreading_start : (n d : ℕ) (names live : List ℕ) (from w : ℕ) (ws : List ℕ) → Spreading n d names live from w d ws ws
-spreading_start n d names live from w ws = record {
+pub spreading_start : (h : Head) (names live : List ℕ) (from w : ℕ) (ws : List ℕ) → Spreading h names live from w h.declared ws ws
+spreading_start h names live from w ws = record {
   size = refl;
-  low = omega arith;
-  adds = λ h l. adds_none w n _ ws (λ k p hk hp. below_none k d (has names (word_bits * 0 + k)) (has live (word_bits * from + p)));
+  adds = λ e l. adds_none w h.regions _ ws (λ k p hk hp. below_none k h.declared (has names (word_bits * 0 + k)) (has live (word_bits * from + p)));
 }
 
 length-lent : (names : List ℕ) (r : ℕ) (live : List ℕ) (from w : ℕ) (ws : List ℕ) → length (lent names r live from w ws) ≡ length ws
@@ -139,31 +134,28 @@ length-lent names r live from w ws = go (has names (word_bits * 0 + r))
     go true = length-joined ws (r * w) live from w
     go false = refl
 
-module _ {n d : ℕ} {names live : List ℕ} {from w i : ℕ} {before ws : List ℕ} (x : Spreading n d names live from w i before ws) where
-  pub spreading_more : {vs : List ℕ} → i < n → vs ≡ lent names i live from w ws → Spreading n d names live from w (i + 1) before vs
-  spreading_more {vs} hi e = record {
+module _ {h : Head} {names live : List ℕ} {from w i : ℕ} {before ws : List ℕ} (x : Spreading h names live from w i before ws) where
+  pub spreading_more : {vs : List ℕ} → h.declared ≤ i → i < h.regions → vs ≡ lent names i live from w ws → Spreading h names live from w (i + 1) before vs
+  spreading_more {vs} low hi e = record {
     size = ap length e ∙ length-lent names i live from w ws ∙ x.size;
-    low = let l = x.low in omega arith;
-    adds = λ h l.
-        rows_more i (λ k p. leb d k && has names (word_bits * 0 + k) && has live (word_bits * from + p)) (x.adds h l)
-        (subst (λ (us : List ℕ). Adds w n (λ k p. eqb k i && (leb d k && has names (word_bits * 0 + k) && has live (word_bits * from + p))) ws us) (sym e)
-        (adds_same (adds_if w n (λ k p. eqb k i && has live (word_bits * from + p)) (has names (word_bits * 0 + i)) ws (joined ws (i * w) live from w)
-        (adds-joined w n i ws live from hi (rw x.size l) h))
-        (λ k p. eqb k i && (leb d k && has names (word_bits * 0 + k) && has live (word_bits * from + p)))
+    adds = λ m l.
+        rows_more i (λ k p. leb h.declared k && has names (word_bits * 0 + k) && has live (word_bits * from + p)) (x.adds m l)
+        (subst (λ (us : List ℕ). Adds w h.regions (λ k p. eqb k i && (leb h.declared k && has names (word_bits * 0 + k) && has live (word_bits * from + p))) ws us) (sym e)
+        (adds_same (adds_if w h.regions (λ k p. eqb k i && has live (word_bits * from + p)) (has names (word_bits * 0 + i)) ws (joined ws (i * w) live from w)
+        (adds-joined w h.regions i ws live from hi (rw x.size l) m))
+        (λ k p. eqb k i && (leb h.declared k && has names (word_bits * 0 + k) && has live (word_bits * from + p)))
         (λ k p hk hp. turn k p (ℕ_discrete k i))));
   }
     where
-      turn : (k p : ℕ) → Dec (k ≡ i) → (has names (word_bits * 0 + i) && (eqb k i && has live (word_bits * from + p))) ≡ (eqb k i && (leb d k && has names (word_bits * 0 + k) && has live (word_bits * from + p)))
-      turn k p (yes q) = rw (eq-eqb k i q, q, le-leb d i x.low)
+      turn : (k p : ℕ) → Dec (k ≡ i) → (has names (word_bits * 0 + i) && (eqb k i && has live (word_bits * from + p))) ≡ (eqb k i && (leb h.declared k && has names (word_bits * 0 + k) && has live (word_bits * from + p)))
+      turn k p (yes q) = rw (eq-eqb k i q, q, le-leb h.declared i low)
       turn k p (no q) = rw (ne_eqb k i q) (and_no (has names (word_bits * 0 + i)))
 
-  pub spreading_end : (h : Head) (v : ℕ) → n ≤ i → n ≡ h.regions → d ≡ h.declared → from ≡ v * w → v < 64 → 64 * w ≤ length live → Room h w before
-      → Adds w h.regions (spreads h.declared names w live v) before ws
-  spreading_end h v l en ed ef hv hl room =
-      let end : from + w ≤ length live = omega (arith, ef, hl, row_inside w 64 v hv) in
-      let y = rows_all i (λ k p. leb d k && has names (word_bits * 0 + k) && has live (word_bits * from + p)) (x.adds end (rw en room.words)) l in
-      subst (λ (m : ℕ). Adds w m (spreads h.declared names w live v) before ws) en
-      (adds_same y (spreads h.declared names w live v) (λ k p hk hp. ap₂ (λ (a b : ℕ). leb a k && has names (word_bits * 0 + k) && has live (word_bits * b + p)) ed ef))
+  pub spreading_end : (v : ℕ) → h.regions ≤ i → from ≡ v * w → v < 64 → 64 * w ≤ length live → Room h w before → Adds w h.regions (spreads h.declared names w live v) before ws
+  spreading_end v l e hv hl room =
+      let end : from + w ≤ length live = omega (arith, e, hl, row_inside w 64 v hv) in
+      let y = rows_all i (λ k p. leb h.declared k && has names (word_bits * 0 + k) && has live (word_bits * from + p)) (x.adds end room.words) l in
+      adds_same y (spreads h.declared names w live v) (λ k p hk hp. ap (λ (b : ℕ). leb h.declared k && has names (word_bits * 0 + k) && has live (word_bits * b + p)) e)
 
 -- ---- The row of a declared region
 
@@ -259,22 +251,22 @@ room-kept e x = record { declared = x.declared; width = x.width; words = rw e x.
 
 pub record Filling (h : Head) (walked ends : List ℕ) (w i : ℕ) (before ws : List ℕ) : Type 0 where
   pub size : length ws ≡ length before
-  pub adds : length walked ≡ 32 → Room h w before → Adds w h.regions (λ k p. ltb k i && declared_seed h.code h.declared walked ends k p) before ws
+  pub adds : Room h w before → Adds w h.regions (λ k p. ltb k i && declared_seed h.code h.declared walked ends k p) before ws
 
 pub filling_start : (h : Head) (walked ends : List ℕ) (w : ℕ) (ws : List ℕ) → Filling h walked ends w 0 ws ws
 filling_start h walked ends w ws = record {
   size = refl;
-  adds = λ l room. adds_none w h.regions _ ws (λ k p hk hp. ap (λ (b : Bool). b && declared_seed h.code h.declared walked ends k p) (le-ltb k 0 (omega arith)));
+  adds = λ room. adds_none w h.regions _ ws (λ k p hk hp. ap (λ (b : Bool). b && declared_seed h.code h.declared walked ends k p) (le-ltb k 0 (omega arith)));
 }
 
 module _ {h : Head} {walked ends : List ℕ} {w i : ℕ} {before ws : List ℕ} (x : Filling h walked ends w i before ws) where
   pub filling_more : {vs : List ℕ} → i < h.declared → length vs ≡ length ws
-      → (i < h.regions → length walked ≡ 32 → Room h w ws → Adds w h.regions (λ k p. eqb k i && declared_seed h.code h.declared walked ends k p) ws vs)
+      → (i < h.regions → Room h w ws → Adds w h.regions (λ k p. eqb k i && declared_seed h.code h.declared walked ends k p) ws vs)
       → Filling h walked ends w (i + 1) before vs
   filling_more hi e f = record {
     size = e ∙ x.size;
-    adds = λ l room. let d = room.declared in rows_more i (λ k p. declared_seed h.code h.declared walked ends k p) (x.adds l room) (f (omega arith) l (room-kept x.size room));
+    adds = λ room. let d = room.declared in rows_more i (λ k p. declared_seed h.code h.declared walked ends k p) (x.adds room) (f (omega arith) (room-kept x.size room));
   }
 
-  pub filling_end : i ≡ h.declared → length walked ≡ 32 → Room h w before → Adds w h.regions (λ r p. ltb r h.declared && declared_seed h.code h.declared walked ends r p) before ws
-  filling_end e l room = subst (λ (z : ℕ). Adds w h.regions (λ r p. ltb r z && declared_seed h.code h.declared walked ends r p) before ws) e (x.adds l room)
+  pub filling_end : i ≡ h.declared → Room h w before → Adds w h.regions (λ r p. ltb r h.declared && declared_seed h.code h.declared walked ends r p) before ws
+  filling_end e room = subst (λ (z : ℕ). Adds w h.regions (λ r p. ltb r z && declared_seed h.code h.declared walked ends r p) before ws) e (x.adds room)

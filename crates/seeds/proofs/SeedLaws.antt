@@ -25,8 +25,8 @@ use Rattle.nll_spec.proofs.Lookup.{holds-tabulate}
 use Rattle.nll_spec.proofs.Least.{same_bool, sized-tabulate}
 use Rattle.nll_spec.proofs.GraphLaws.{code-count, walked-is-code}
 use Rattle.nll_spec.proofs.SeedLaws.{seed_points}
-use Rattle.record.specs.Layout.{Layout}
-use Rattle.record.specs.declared.Head.{Head}
+use Rattle.record.specs.Layout.{Holds}
+use Rattle.record.specs.declared.Record.{Record}
 use Rattle.bit_set.specs.Bits.{has, cleared}
 use Rattle.bit_set.proofs.SetLaws.{length-cleared, has-cleared, cleared_outside}
 use Rattle.graph.specs.Search.{WalkedIn}
@@ -169,11 +169,11 @@ points-count j = refl
 pub width_small : (j : Job) (w : ℕ) → point_count j ≤ 1024 → w ≡ word_count (point_count j) → w ≤ 32
 width_small j w h e = omega arith
 
-module _ {s t : List ℕ} {h : Head} {j : Job} (l : Layout s t h j) where
-  code_is : h.code ≡ (graph_of j).code
+module _ (input : Record) {j : Job} (l : Holds input j) where
+  code_is : input.head.code ≡ (graph_of j).code
   code_is = l.code ∙ sym (code-count j)
 
-  room-is : (w : ℕ) (ws : List ℕ) → T (named j) → point_count j ≤ 1024 → w ≡ word_count (point_count j) → j.regions * w ≤ length ws → Room h w ws
+  room-is : (w : ℕ) (ws : List ℕ) → T (named j) → point_count j ≤ 1024 → w ≡ word_count (point_count j) → j.regions * w ≤ length ws → Room input.head w ws
   room-is w ws a m e k =
       let d = declared-named j a in
       let c = l.declared_count in
@@ -183,18 +183,17 @@ module _ {s t : List ℕ} {h : Head} {j : Job} (l : Layout s t h j) where
       let i = code_is in
       record { declared = omega arith; width = width_small j w m e; words = rw r k; ends = omega arith }
 
-module _ {s t : List ℕ} {h : Head} (walked used dropped ends ws first second after : List ℕ) (w n : ℕ) where
-  pub seeded : n ≡ h.regions → first ≡ cleared ws 0 (n * w) → Ends s t h ends
-      → (length walked ≡ 32 → Room h w first → Adds w h.regions (λ r p. ltb r h.declared && declared_seed h.code h.declared walked ends r p) first second)
-      → ((j : Job) → Layout s t h j → 64 * w ≤ length used → 64 * w ≤ length dropped → Room h w second → Adds w h.regions (λ r p. any_to (live_in j w used dropped r p) h.variables) second after)
-      → length walked ≡ 32
-      → (j : Job) → Layout s t h j → T (named j) → point_count j ≤ 1024 → WalkedIn j walked
+module _ {input : Record} (walked used dropped ends ws first second after : List ℕ) (w n : ℕ) where
+  pub seeded : n ≡ input.head.regions → first ≡ cleared ws 0 (n * w) → Ends input ends
+      → (Room input.head w first → Adds w input.head.regions (λ r p. ltb r input.head.declared && declared_seed input.head.code input.head.declared walked ends r p) first second)
+      → ((j : Job) → Holds input j → 64 * w ≤ length used → 64 * w ≤ length dropped → Room input.head w second → Adds w input.head.regions (λ r p. any_to (live_in j w used dropped r p) input.head.variables) second after)
+      → (j : Job) → Holds input j → T (named j) → point_count j ≤ 1024 → WalkedIn j walked
       → 64 * w ≤ length used → 64 * w ≤ length dropped → LiveRows j w used dropped → w ≡ word_count (point_count j) → j.regions * w ≤ length ws → Seeded j w ws after
-  seeded en ef ee fd fl hw j l a m is_w hu hd live ew k =
+  seeded en ef ee fd fl j l a m is_w hu hd live ew k =
       let size : length first ≡ length ws = ap length ef ∙ length-cleared ws 0 (n * w) in
-      let room : Room h w ws = room-is l w ws a m ew k in
-      let r₁ : Room h w first = room-kept size room in
-      let one = fd hw r₁ in
+      let room : Room input.head w ws = room-is input l w ws a m ew k in
+      let r₁ : Room input.head w first = room-kept size room in
+      let one = fd r₁ in
       let two = fl j l hu hd (room-kept one.size r₁) in
       let both = adds_then one two in
       record {
@@ -222,8 +221,8 @@ module _ {s t : List ℕ} {h : Head} (walked used dropped ends ws first second a
           ∙ ap (has (cleared ws 0 (n * w))) (let q : word_bits * (r * w) + p ≡ word_bits * 0 + (word_bits * (r * w) + p) = omega arith in q)
           ∙ has-cleared ws 0 (n * w) (rw eq (omega (arith, k))) (word_bits * (r * w) + p) (rw eq (omega (arith, hp, mul-le-mul_right w hr, suc-mul r w)))
 
-      putting : (r p : ℕ) → (ltb r h.declared && declared_seed h.code h.declared walked ends r p || any_to (live_in j w used dropped r p) h.variables) ≡ put j w walked used dropped ends r p
+      putting : (r p : ℕ) → (ltb r input.head.declared && declared_seed input.head.code input.head.declared walked ends r p || any_to (live_in j w used dropped r p) input.head.variables) ≡ put j w walked used dropped ends r p
       putting r p =
           ap₂ (λ (x y : Bool). x || y)
-          (ap₂ (λ (d c : ℕ). ltb r d && declared_seed c d walked ends r p) (sym l.declared_count) (code_is l))
+          (ap₂ (λ (d c : ℕ). ltb r d && declared_seed c d walked ends r p) (sym l.declared_count) (code_is input l))
           (ap (any_to (live_in j w used dropped r p)) (sym l.variable_count))

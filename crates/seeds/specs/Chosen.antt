@@ -1,5 +1,5 @@
 -- The regions that are taken of a type, and the walk that puts their names into a set.
-use Rattle.std.specs.Prelude.{◌≡◌, Bool, true, false, ℕ, ◌+◌, ◌-◌, ◌*◌, ◌≤◌, drop}
+use Rattle.std.specs.Prelude.{◌≡◌, Bool, true, false, ℕ, ◌+◌, ◌-◌, ◌*◌, ◌≤◌, Result, Ok}
 use mathlib.Core.List.{List, [], ◌∷◌, tail}
 use Rattle.nll_spec.specs.Syntax.{RegionName, Region, Ty, Args, Param, StructDecl, Job}
 use Rattle.nll_spec.specs.Types.{region_name, regions_of, arg_regions, type_nodes, arg_nodes}
@@ -7,15 +7,15 @@ use Rattle.nll_spec.specs.Regions.{head_dangles, drop_regions, drop_arg_regions}
 use Rattle.nll_spec.specs.Decode.{items, param}
 use Rattle.nll_spec.specs.Output.{word_bits}
 use Rattle.repr.specs.Reading.{rest}
-use Rattle.repr.specs.declared.Cursor.{Cursor}
+use Rattle.repr.specs.declared.Rest.{Rest}
+use Rattle.repr.specs.declared.refusal.Refusal.{Refusal}
 use Rattle.repr.specs.Stands.{Stands, TypeTo, ArgsTo}
-use Rattle.record.specs.Layout.{Layout}
-use Rattle.record.specs.declared.Head.{Head}
+use Rattle.record.specs.Layout.{Holds}
+use Rattle.record.specs.declared.Record.{Record}
 use Rattle.bit_set.specs.Bits.{with_bit}
 use Rattle.seeds.specs.declared.Which.{Which}
 use Rattle.seeds.specs.declared.Which.TheVariants.{Every, Dropped, Nothing}
-use Rattle.seeds.specs.declared.Rest.{Rest}
-use Rattle.seeds.specs.declared.First.{First}
+use Rattle.seeds.specs.declared.Parameters.{Parameters}
 
 -- the words with these numbers put into the set that starts at word s
 abbrev pub add_all : List ℕ → ℕ → List ℕ → List ℕ
@@ -55,24 +55,29 @@ chosen_args Nothing ss ds given = []
 
 -- ---- The walk
 
--- The first parameter, and the others where the answer says.
-pub record FirstIs (s : List ℕ) (ds : List Param) (r : First) : Type 0 where
-  pub dangles : r.dangles ≡ head_dangles ds
-  pub others : Stands (items r.count param) (tail ds) (rest s r.declared)
+-- The answer is whether the first parameter may dangle, with the others.
+pub record FirstIs (s : List ℕ) (ds : List Param) (r : Result (Bool × Parameters) Refusal) : Type 0 where
+  pub dangles : Bool
+  pub others : Parameters
+  pub is : r ≡ Ok (dangles, others)
+  pub first : dangles ≡ head_dangles ds
+  pub stand : Stands (items others.count param) (tail ds) (rest s others.at)
 
 -- A part of a type with so many nodes was passed over, and its regions were put into the set.
-pub record Added (s : List ℕ) (left nodes : ℕ) (bs : List ℕ) (names : List RegionName) (before after : List ℕ) (r : Rest) : Type 0 where
-  pub remain : r.left ≡ left - nodes
-  pub ends : rest s r.next ≡ bs
+pub record Added (s : List ℕ) (left nodes : ℕ) (bs : List ℕ) (names : List RegionName) (before after : List ℕ) (r : Result Rest Refusal) : Type 0 where
+  pub to : Rest
+  pub is : r ≡ Ok to
+  pub remain : to.left ≡ left - nodes
+  pub ends : rest s to.next ≡ bs
   pub words : after ≡ add_all before 0 names
 
-pub record TypeAdds (s t : List ℕ) (h : Head) (which : Which) (at left : ℕ) (before after : List ℕ) (r : Rest) : Type 0 where
-  pub adds : (j : Job) → Layout s t h j → (ty : Ty) (bs : List ℕ) → TypeTo (drop at s) ty bs → type_nodes ty ≤ left
-      → Added s left (type_nodes ty) bs (chosen which j.structs ty) before after r
-  pub fewer : r.left ≤ left
+pub record TypeAdds (input : Record) (which : Which) (from : Rest) (before after : List ℕ) (r : Result Rest Refusal) : Type 0 where
+  pub adds : (j : Job) → Holds input j → (ty : Ty) (bs : List ℕ) → TypeTo (rest input.bytes.now from.next) ty bs → type_nodes ty ≤ from.left
+      → Added input.bytes.now from.left (type_nodes ty) bs (chosen which j.structs ty) before after r
+  pub fewer : (to : Rest) → r ≡ Ok to → to.left ≤ from.left
 
--- n arguments, with so many parameters, which are declared at a place
-pub record ArgumentsAdd (s t : List ℕ) (h : Head) (which : Which) (declared : Cursor) (parameters at n left : ℕ) (before after : List ℕ) (r : Rest) : Type 0 where
-  pub adds : (j : Job) → Layout s t h j → (ds : List Param) → Stands (items parameters param) ds (rest s declared) → (given : Args) (bs : List ℕ) → ArgsTo (drop at s) n given bs → arg_nodes given ≤ left
-      → Added s left (arg_nodes given) bs (chosen_args which j.structs ds given) before after r
-  pub fewer : r.left ≤ left
+-- n arguments, for these parameters
+pub record ArgumentsAdd (input : Record) (which : Which) (ps : Parameters) (from : Rest) (n : ℕ) (before after : List ℕ) (r : Result Rest Refusal) : Type 0 where
+  pub adds : (j : Job) → Holds input j → (ds : List Param) → Stands (items ps.count param) ds (rest input.bytes.now ps.at) → (given : Args) (bs : List ℕ) → ArgsTo (rest input.bytes.now from.next) n given bs
+      → arg_nodes given ≤ from.left → Added input.bytes.now from.left (arg_nodes given) bs (chosen_args which j.structs ds given) before after r
+  pub fewer : (to : Rest) → r ≡ Ok to → to.left ≤ from.left

@@ -6,8 +6,8 @@ use Rattle.nll_spec.specs.Syntax.{RegionName, Job}
 use Rattle.nll_spec.specs.WellFormed.{named}
 use Rattle.nll_spec.specs.Fixpoint.{holds}
 use Rattle.nll_spec.specs.Regions.{outlives_table}
-use Rattle.record.specs.Layout.{Layout}
-use Rattle.record.specs.declared.Head.{Head}
+use Rattle.record.specs.Layout.{Holds}
+use Rattle.record.specs.declared.Record.{Record}
 use Rattle.bit_set.specs.Bits.{has, joined_within}
 
 -- row k put into row r, if r has k
@@ -29,11 +29,11 @@ pub record Listed (j : Job) (i : ℕ) (ws : List ℕ) : Type 0 where
   pub size : length ws ≡ 16
   pub bits : (r e : RegionName) → r < 16 → e < word_bits → has ws (word_bits * r + e) ≡ (ltb r i && (eqb e r || contains (get_or j.outlives r []) e))
 
-pub record Listing (s t : List ℕ) (h : Head) (i : ℕ) (ws : List ℕ) : Type 0 where
-  pub turns : i ≤ h.declared
-  pub says : (j : Job) → Layout s t h j → T (named j) → Listed j i ws
+pub record Listing (input : Record) (i : ℕ) (ws : List ℕ) : Type 0 where
+  pub turns : i ≤ input.head.declared
+  pub says : (j : Job) → Holds input j → T (named j) → Listed j i ws
 
 -- The rows are the definition's table.
-pub record Ends (s t : List ℕ) (h : Head) (ws : List ℕ) : Type 0 where
-  pub bits : (j : Job) → Layout s t h j → T (named j) → (r e : RegionName) → r < length j.outlives → e < length j.outlives
+pub record Ends (input : Record) (ws : List ℕ) : Type 0 where
+  pub bits : (j : Job) → Holds input j → T (named j) → (r e : RegionName) → r < length j.outlives → e < length j.outlives
       → has ws (word_bits * r + e) ≡ holds (outlives_table j) r e

@@ -4,20 +4,21 @@ use mathlib.Core.List.{List, ◌∷◌, ◌++◌, append_assoc}
 use Prim.Native.Nat.{ℕ, zero, suc, ◌+◌, ◌-◌, ◌≤◌}
 use native.Mathlib.Omega.{arith}
 use native.Mathlib.Nat.{le_refl}
-use lib.ListN.{drop}
 use Rattle.nll_spec.specs.Syntax.{Ty, Args, NoArgs, RegionArg, TypeArg}
 use Rattle.nll_spec.specs.Decode.{read}
-use Rattle.nll_spec.specs.Types.{head_region, head_type, arg_count, drop_args, bound_args, arg_nodes}
-use Rattle.repr.specs.Reading.{rest}
+use Rattle.nll_spec.specs.Types.{head_region, head_type, subst_region, arg_count, drop_args, bound_args, arg_nodes}
+use Rattle.repr.specs.Reading.{rest, region_of}
 use Rattle.repr.specs.Types.{ArgumentSays, nodes_says, ArgumentsSay}
 use Rattle.repr.specs.declared.Cursor.{Cursor}
-use Rattle.repr.specs.declared.RegionName.{RegionName}
 use Rattle.repr.specs.declared.Region.{Region}
 use Rattle.repr.specs.declared.Region.TheVariants.{Free, Bound}
-use Rattle.repr.specs.declared.ArgumentStep.{ArgumentStep}
-use Rattle.repr.specs.declared.ArgumentStep.TheVariants as argument_step
-use Rattle.repr.specs.declared.NodesStep.{NodesStep}
-use Rattle.repr.specs.declared.NodesStep.TheVariants as nodes_step
+use Rattle.repr.specs.declared.Argument.{Argument}
+use Rattle.repr.specs.declared.Argument.TheVariants as arguments
+use Rattle.repr.specs.declared.Rest.{Rest}
+use Rattle.repr.specs.declared.refusal.Refusal.{Refusal}
+use Rattle.std.specs.Prelude.{Option, Some, None, Result, Ok, Err}
+use Rattle.std.specs.Result.{result_ok}
+use Rattle.ty.specs.declared.write.Arguments.{Arguments}
 use Rattle.repr.specs.Stands.{TypeTo, ArgsTo}
 use Rattle.repr.specs.Spelling.{spell, spell_args, FineArgs}
 use Rattle.ty.specs.Written.{Given, FoundIs, FoundSays, RegionSays}
@@ -93,53 +94,70 @@ drop-none (suc k) = drop-none k
 
 -- ---- What was found
 
-first_found : (s : List ℕ) (n : ℕ) (h : Args) (over : List ℕ) (d : ArgumentStep) → ArgumentIs s n h over d → FoundIs s h d
-first_found s n h over (argument_step.Region r c) w = record { region = rw w.same; type = rw w.same }
-first_found s n h over (argument_step.Type c) w =
+-- an answer without its refusal
+pub got : {A : Type 0} {r : Result A Refusal} {o : Option A} {x : A} → o ≡ result_ok r → o ≡ Some x → r ≡ Ok x
+got {r = Ok y} e f = let i : y ≡ _ = cc in ap Ok i
+got {r = Err k} e f = absurd (let z : ◌≡◌ {A = ℕ} 0 1 = cc in omega arith)
+
+pub refused_by : {A : Type 0} {r : Result A Refusal} {o : Option A} → o ≡ result_ok r → o ≡ None → (k : Refusal) × (r ≡ Err k)
+refused_by {r = Ok y} e f = absurd (let z : ◌≡◌ {A = ℕ} 0 1 = cc in omega arith)
+refused_by {r = Err k} e f = (k, refl)
+
+first_found : (s : List ℕ) (n : ℕ) (h : Args) (over : List ℕ) (d : Result Argument Refusal) → ArgumentIs s n h over d → FoundIs s h (result_ok d)
+first_found s n h over (Ok (arguments.Region r c)) w = record { region = rw w.same; type = rw w.same }
+first_found s n h over (Ok (arguments.Type c)) w =
     let i : head_type h ≡ w.item = ap head_type w.same in
     record { over = w.mid; stands = transport (λ (t : Ty). TypeTo (rest s c) t w.mid) (sym i) w.first; region = rw w.same }
-first_found s n h over (argument_step.Refused k) w = absurd w
+first_found s n h over (Err k) w = absurd w
 
--- the arguments before number k are passed over
-there : {s : List ℕ} {from count k : ℕ} {r : NodesStep} {g : Args} → ArgumentsSay s from k 32 r → k ≤ count → (w : Given s from count g) → (p : Split (drop from s) count k g w.over) × (nodes_says s r ≡ read (32 - arg_nodes (take_args k g)) p.mid)
-there {k = k} v h w = let p = split k w.stand h in let l = p.few in let m = w.few in (p, args-passed v p.front (omega arith))
+module _ {a : Arguments} where
+  -- the arguments before number k are passed over
+  there : {k : ℕ} {r : Result Rest Refusal} {g : Args} → ArgumentsSay a.bytes.now a.from.at k 32 r → k ≤ a.count → (w : Given a g) → (p : Split (rest a.bytes.now a.from) a.count k g w.over) × (nodes_says a.bytes.now r ≡ read (32 - arg_nodes (take_args k g)) p.mid)
+  there {k = k} v h w = let p = split k w.stand h in let l = p.few in let m = w.few in (p, args-passed v p.front (omega arith))
 
-module _ {s : List ℕ} {from count b : ℕ} where
-  pub found_none : {k : ℕ} → count ≡ 0 → FoundSays s from count b (argument_step.Refused k)
-  found_none z = record {
-    says = λ g w.
-        let e : bound_args g b ≡ NoArgs = rw (none_is z w.stand).same (drop-none _) in
-        record { region = ap head_region e; type = ap head_type e };
-  }
-
-  module _ {k : ℕ} {r : NodesStep} (z : count ≡ 0 → ⊥) (i : k ≡ count - (b + 1)) (v : ArgumentsSay s from k 32 r) where
-    pub found-short : {j : ℕ} → r ≡ nodes_step.Refused j → FoundSays s from count b (argument_step.Refused j)
-    found-short e = record { says = λ g w. absurd (clash (sym (ap (nodes_says s) e) ∙ (there v (omega arith) w).1)) }
-
-    pub found_at : {l : ℕ} {next : Cursor} {d : ArgumentStep} → r ≡ nodes_step.Ended l next → ArgumentSays s next.at d → FoundSays s from count b d
-    found_at {l} {next} {d} e a = record {
+  module _ {b : ℕ} where
+    pub found_none : a.count ≡ 0 → FoundSays a b None
+    found_none z = record {
       says = λ g w.
-          let p = there v (omega arith) w in
-          let f = sym (ap (nodes_says s) e) ∙ p.1 in
-          let m : p.0.mid ≡ rest s next = cc in
-          let c = (args-bytes w.stand).count in
-          let n : k ≡ arg_count g - suc b = omega arith in
-          let st : ArgsTo (rest s next) (count - k) (drop_args k g) w.over = transport (λ (o : List ℕ). ArgsTo o (count - k) (drop_args k g) w.over) m p.0.back in
-          transport (λ (j : ℕ). FoundIs s (drop_args j g) d) n (first_found s _ (drop_args k g) w.over d (argument_is a (λ q. omega arith) st));
+          let e : bound_args g b ≡ NoArgs = rw (none_is z w.stand).same (drop-none _) in
+          record { region = ap head_region e; type = ap head_type e };
     }
 
--- ---- A region, with the arguments put in
+    module _ {k : ℕ} {r : Result Rest Refusal} (z : a.count ≡ 0 → ⊥) (i : k ≡ a.count - b - 1) (v : ArgumentsSay a.bytes.now a.from.at k 32 r) where
+      pub found-short : {j : Refusal} → r ≡ Err j → FoundSays a b None
+      found-short e = record { says = λ g w. absurd (clash (sym (ap (nodes_says a.bytes.now) e) ∙ (there v (omega arith) w).1)) }
 
-module _ {s : List ℕ} {from count : ℕ} {r : Region} where
-  pub region_free : {name : RegionName} → r ≡ Free name → RegionSays s from count r (Free name)
-  region_free e = record { says = λ g w. rw e }
+      pub found_at : {x : Rest} {d : Result Argument Refusal} → r ≡ Ok x → ArgumentSays a.bytes.now x.next.at d → FoundSays a b (result_ok d)
+      found_at {x} {d} e o = record {
+        says = λ g w.
+            let p = there v (omega arith) w in
+            let f = sym (ap (nodes_says a.bytes.now) e) ∙ p.1 in
+            let m : p.0.mid ≡ rest a.bytes.now x.next = cc in
+            let c = (args-bytes w.stand).count in
+            let n : k ≡ arg_count g - suc b = omega arith in
+            let st : ArgsTo (rest a.bytes.now x.next) (a.count - k) (drop_args k g) w.over = transport (λ (o : List ℕ). ArgsTo o (a.count - k) (drop_args k g) w.over) m p.0.back in
+            transport (λ (j : ℕ). FoundIs a.bytes.now (drop_args j g) (result_ok d)) n (first_found a.bytes.now _ (drop_args k g) w.over d (argument_is o (λ q. omega arith) st));
+      }
 
-  module _ {b : ℕ} {d : ArgumentStep} (e : r ≡ Bound b) (v : FoundSays s from count b d) where
-    pub region-found : {x : Region} {c : Cursor} → d ≡ argument_step.Region x c → RegionSays s from count r x
-    region-found f = record { says = λ g w. let h = transport (λ (q : ArgumentStep). FoundIs s (bound_args g b) q) f (v.says g w) in rw e (sym h.region) }
+  -- ---- A region, with the arguments put in
 
-    pub region-type : {c : Cursor} → d ≡ argument_step.Type c → RegionSays s from count r (Free (record { 0 = 0 }))
-    region-type f = record { says = λ g w. let h = transport (λ (q : ArgumentStep). FoundIs s (bound_args g b) q) f (v.says g w) in rw e (sym h.region) }
+  module _ {r : Region} where
+    pub region_free : ((b : ℕ) → r ≡ Bound b → ⊥) → RegionSays a r r
+    region_free f = record { says = λ g w. go r f g }
+      where
+        go : (r : Region) → ((b : ℕ) → r ≡ Bound b → ⊥) → (g : Args) → region_of r ≡ subst_region g (region_of r)
+        go (Free name) f g = refl
+        go (Bound b) f g = absurd (f b refl)
 
-    pub region-none : {k : ℕ} → d ≡ argument_step.Refused k → RegionSays s from count r (Free (record { 0 = 0 }))
-    region-none f = record { says = λ g w. let h = transport (λ (q : ArgumentStep). FoundIs s (bound_args g b) q) f (v.says g w) in rw e (sym h.region) }
+    module _ {b : ℕ} {d : Option Argument} (e : r ≡ Bound b) (v : FoundSays a b d) where
+      on-found : {x : Option Argument} → d ≡ x → (g : Args) → Given a g → FoundIs a.bytes.now (bound_args g b) x
+      on-found f g w = transport (λ (q : Option Argument). FoundIs a.bytes.now (bound_args g b) q) f (v.says g w)
+
+      pub region-found : {x : Region} {c : Cursor} → d ≡ Some (arguments.Region x c) → RegionSays a r x
+      region-found f = record { says = λ g w. let h = on-found f g w in rw e (sym h.region) }
+
+      pub region-type : {c : Cursor} → d ≡ Some (arguments.Type c) → RegionSays a r (Free (record { 0 = 0 }))
+      region-type f = record { says = λ g w. let h = on-found f g w in rw e (sym h.region) }
+
+      pub region-none : d ≡ None → RegionSays a r (Free (record { 0 = 0 }))
+      region-none f = record { says = λ g w. let h = on-found f g w in rw e (sym h.region) }

@@ -1,5 +1,4 @@
-pub mod ShapeLaws
-pub mod PutLaws
 pub mod FoundLaws
 pub mod WriteLaws
 pub mod SubstLaws
+pub mod ShapeLaws

@@ -15,15 +15,20 @@ use Rattle.repr.specs.Types.{node, NodeSays, nodes_says}
 use Rattle.repr.specs.Types as repr_types
 use Rattle.repr.specs.Stands.{ArgsTo}
 use Rattle.repr.specs.declared.Cursor.{Cursor}
+use denote.Enum.Bare.{sameb}
+use Rattle.repr.specs.contracts.BorrowKind.{the_type}
 use Rattle.repr.specs.declared.BorrowKind.{BorrowKind}
+use Rattle.repr.specs.declared.BorrowKind.TheVariants.{Mut, Shared}
 use Rattle.repr.specs.declared.Region.{Region}
 use Rattle.repr.specs.declared.StructName.{StructName}
-use Rattle.repr.specs.declared.NodeStep.{NodeStep}
-use Rattle.repr.specs.declared.NodeStep.TheVariants as node_step
-use Rattle.repr.specs.declared.NodesStep.{NodesStep}
-use Rattle.repr.specs.declared.NodesStep.TheVariants as nodes_step
+use Rattle.repr.specs.declared.Node.{Node}
+use Rattle.repr.specs.declared.Node.TheVariants as nodes
+use Rattle.repr.specs.declared.Rest.{Rest}
+use Rattle.repr.specs.declared.refusal.Refusal.{Refusal}
+use Rattle.std.specs.Prelude.{Option, Some, None, Result, Ok, Err}
+use Rattle.std.specs.Option.{is_some}
 use Rattle.repr.proofs.SpellLaws.{clash}
-use Rattle.repr.proofs.StandLaws.{NodeIs, node-is, on-node, none_is, args-passed}
+use Rattle.repr.proofs.StandLaws.{NodeIs, on-node, none_is, args-passed}
 use Rattle.repr.proofs.NodeLaws.{type-nodes, unit-nodes, ref_nodes, struct_nodes, region-nodes, first-nodes, tail-nodes}
 use Rattle.beside.specs.Beside.{heads_of, TypesFirst, PairIs, FirstsSay}
 use Rattle.beside.specs.declared.Row.{Row}
@@ -33,32 +38,31 @@ use Rattle.beside.specs.declared.Pair.{Pair}
 use Rattle.beside.specs.declared.Pair.TheVariants as pairs
 use Rattle.beside.proofs.BesideLaws.{heads_by}
 use Rattle.ty.specs.Shape.{same, differ, shapes, shape_says, Fewer, TypesSay, FirstIs, FirstSays, ArgumentsSay, SameShape, SameAsRef}
-use Rattle.ty.specs.declared.shape.Shape.{Shape}
-use Rattle.ty.specs.declared.shape.Shape.TheVariants.{Same, Differ}
+use Rattle.ty.specs.declared.shape.Same.{Same}
 
 -- ---- Nodes that are left
 
-pub fewer-still : {l left : ℕ} (r : Shape) → Fewer l r → l ≤ left → Fewer left r
-fewer-still (Same k c d) h g = omega arith
-fewer-still Differ h g = tt
+pub fewer-still : {l left : ℕ} (r : Option Same) → Fewer l r → l ≤ left → Fewer left r
+fewer-still (Some s) h g = omega arith
+fewer-still None h g = tt
 
 -- what was found so far leaves no more nodes than there were
-pub rest-fewer : {left l : ℕ} {c d : Cursor} (r : Shape) → Fewer left r → r ≡ Same l c d → l ≤ left
-rest-fewer {left} r h e = subst (λ (x : Shape). Fewer left x) e h
+pub rest-fewer : {left : ℕ} {s : Same} (r : Option Same) → Fewer left r → r ≡ Some s → s.left ≤ left
+rest-fewer {left} r h e = subst (λ (x : Option Same). Fewer left x) e h
 
 -- ---- Two types
 
-pub types_none : {a : List ℕ} {x : ℕ} {b : List ℕ} {y left : ℕ} → left ≡ 0 → TypesSay a x b y left Differ
+pub types_none : {a : List ℕ} {x : ℕ} {b : List ℕ} {y left : ℕ} → left ≡ 0 → TypesSay a x b y left None
 types_none z = record { says = λ t u p q s o h i. absurd (let k = type-nodes t in omega arith); fewer = tt }
 
-module _ {a : List ℕ} {x : ℕ} {b : List ℕ} {y left : ℕ} {j k : NodeStep} {h : Heads} (m : NodeSays node a x j) (n : NodeSays node b y k) (e : h ≡ heads_of j k) where
-  pub types_differ : h ≡ heads.Differ → TypesSay a x b y left Differ
+module _ {a : List ℕ} {x : ℕ} {b : List ℕ} {y left : ℕ} {j k : Result Node Refusal} {h : Option Heads} (m : NodeSays node a x j) (n : NodeSays node b y k) (e : h ≡ heads_of j k) where
+  pub types_differ : h ≡ None → TypesSay a x b y left None
   types_differ f = record { says = λ t u p q s o g i. rw (heads_by m n e f s o); fewer = tt }
 
-  pub types_units : {c d : Cursor} → h ≡ heads.Units c d → TypesSay a x b y left (Same (left - 1) c d)
+  pub types_units : {c d : Cursor} → h ≡ Some (heads.Units c d) → TypesSay a x b y left (Some (record { left = left - 1; a = c; b = d }))
   types_units f = record { says = λ t u p q s o g i. let w = heads_by m n e f s o in rw (w.alike, unit-nodes w.a_same, w.a_ends, w.b_ends); fewer = omega arith }
 
-  pub types_refs : {k' : BorrowKind} {r' o' : Region} {c d : Cursor} {r : Shape} → h ≡ heads.Refs k' r' c o' d → (left ≡ 0 → ⊥) → TypesSay a c.at b d.at (left - 1) r → TypesSay a x b y left r
+  pub types_refs : {k' : BorrowKind} {r' o' : Region} {c d : Cursor} {r : Option Same} → h ≡ Some (heads.Refs k' r' c o' d) → (left ≡ 0 → ⊥) → TypesSay a c.at b d.at (left - 1) r → TypesSay a x b y left r
   types_refs {r = r} f z v = record {
     says = λ t u p q s o g i.
         let w = heads_by m n e f s o in
@@ -69,7 +73,7 @@ module _ {a : List ℕ} {x : ℕ} {b : List ℕ} {y left : ℕ} {j k : NodeStep}
     fewer = fewer-still r v.fewer (omega arith);
   }
 
-  pub types_structs : {name : StructName} {c d : Row} {r : Shape} → h ≡ heads.Structs name c d → (left ≡ 0 → ⊥) → ArgumentsSay a c b d (left - 1) r → TypesSay a x b y left r
+  pub types_structs : {name : StructName} {c d : Row} {r : Option Same} → h ≡ Some (heads.Structs name c d) → (left ≡ 0 → ⊥) → ArgumentsSay a c b d (left - 1) r → TypesSay a x b y left r
   types_structs {r = r} f z v = record {
     says = λ t u p q s o g i.
         let w = heads_by m n e f s o in
@@ -114,15 +118,15 @@ types_unlike : {g h : Args} {t u : Ty} {more others : Args} → g ≡ TypeArg t 
 unfolding same_shapes
 types_unlike e f i = rw (e, f, i)
 
-on_pair : {a : List ℕ} {x : ℕ} {b : List ℕ} {row : Row} {pair w : Pair} → FirstsSay a x b row pair → pair ≡ w → (m : ℕ) (g h : Args) (p q : List ℕ) → (m ≡ 0 → ⊥)
+on_pair : {a : List ℕ} {x : ℕ} {b : List ℕ} {row : Row} {pair w : Option Pair} → FirstsSay a x b row pair → pair ≡ w → (m : ℕ) (g h : Args) (p q : List ℕ) → (m ≡ 0 → ⊥)
     → ArgsTo (drop x a) m g p → ArgsTo (rest b row.from) row.count h q → arg_nodes h ≤ max_nodes → PairIs a b m row.count g h p q w
-on_pair {a} {b = b} {row = row} v e m g h p q z s o i = subst (λ (u : Pair). PairIs a b m row.count g h p q u) e (v.says m g h p q z s o i)
+on_pair {a} {b = b} {row = row} v e m g h p q z s o i = subst (λ (u : Option Pair). PairIs a b m row.count g h p q u) e (v.says m g h p q z s o i)
 
-module _ {a : List ℕ} {x : ℕ} {b : List ℕ} {row : Row} {left : ℕ} {pair : Pair} (v : FirstsSay a x b row pair) where
-  pub first-differ : pair ≡ pairs.Differ → FirstSays a x b row left Differ
+module _ {a : List ℕ} {x : ℕ} {b : List ℕ} {row : Row} {left : ℕ} {pair : Option Pair} (v : FirstsSay a x b row pair) where
+  pub first-differ : pair ≡ None → FirstSays a x b row left None
   first-differ e = record { says = λ m g h p q z s o i j. on_pair v e m g h p q z s o j; fewer = tt }
 
-  pub first-regions : {r o : Region} {c d : Cursor} → pair ≡ pairs.Regions r c o d → FirstSays a x b row left (Same left c d)
+  pub first-regions : {r o : Region} {c d : Cursor} → pair ≡ Some (pairs.Regions r c o d) → FirstSays a x b row left (Some (record { left = left; a = c; b = d }))
   first-regions e = record {
     says = λ m g h p q z s o i j.
         let w = on_pair v e m g h p q z s o j in
@@ -131,8 +135,8 @@ module _ {a : List ℕ} {x : ℕ} {b : List ℕ} {row : Row} {left : ℕ} {pair 
     fewer = le_refl left;
   }
 
-  module _ {c d : Cursor} (e : pair ≡ pairs.Units c d) where
-    pub first_spent : left ≡ 0 → FirstSays a x b row left Differ
+  module _ {c d : Cursor} (e : pair ≡ Some (pairs.Units c d)) where
+    pub first_spent : left ≡ 0 → FirstSays a x b row left None
     first_spent f = record {
       says = λ m g h p q z s o i j.
           let w = on_pair v e m g h p q z s o j in
@@ -142,7 +146,7 @@ module _ {a : List ℕ} {x : ℕ} {b : List ℕ} {row : Row} {left : ℕ} {pair 
       fewer = tt;
     }
 
-    pub first_units : (left ≡ 0 → ⊥) → FirstSays a x b row left (Same (left - 1) c d)
+    pub first_units : (left ≡ 0 → ⊥) → FirstSays a x b row left (Some (record { left = left - 1; a = c; b = d }))
     first_units f = record {
       says = λ m g h p q z s o i j.
           let w = on_pair v e m g h p q z s o j in
@@ -152,8 +156,8 @@ module _ {a : List ℕ} {x : ℕ} {b : List ℕ} {row : Row} {left : ℕ} {pair 
       fewer = omega arith;
     }
 
-  module _ {c d : Cursor} (e : pair ≡ pairs.Types c d) where
-    pub first_types : {r : Shape} → TypesSay a c.at b d.at left r → FirstSays a x b row left r
+  module _ {c d : Cursor} (e : pair ≡ Some (pairs.Types c d)) where
+    pub first_types : {r : Option Same} → TypesSay a c.at b d.at left r → FirstSays a x b row left r
     first_types {r} u = record {
       says = λ m g h p q z s o i j.
           let w = on_pair v e m g h p q z s o j in
@@ -163,10 +167,10 @@ module _ {a : List ℕ} {x : ℕ} {b : List ℕ} {row : Row} {left : ℕ} {pair 
       fewer = u.fewer;
     }
       where
-        go : (r : Shape) (m : ℕ) (g h : Args) (p q : List ℕ) → arg_nodes g ≤ left → (w : TypesFirst (rest a c) (m - 1) (rest b d) (row.count - 1) g h p q)
+        go : (r : Option Same) (m : ℕ) (g h : Args) (p q : List ℕ) → arg_nodes g ≤ left → (w : TypesFirst (rest a c) (m - 1) (rest b d) (row.count - 1) g h p q)
             → shape_says a b r ≡ shapes (same_shape w.first.item w.second.item) (left - type_nodes w.first.item) w.first.mid w.second.mid → FirstIs a b m row.count left g h p q r
-        go Differ m g h p q i w f = types_unlike w.first.same w.second.same (told_differ _ _ _ _ f)
-        go (Same l c' d') m g h p q i w f =
+        go None m g h p q i w f = types_unlike w.first.same w.second.same (told_differ _ _ _ _ f)
+        go (Some s') m g h p q i w f =
             let y = told_same (same_shape w.first.item w.second.item) _ _ _ f in
             let k = first-nodes w.first.same in
             let n = y.nodes in
@@ -182,73 +186,79 @@ module _ {a : List ℕ} {x : ℕ} {b : List ℕ} {row : Row} {left : ℕ} {pair 
 -- ---- Two rows of arguments
 
 module _ {a : List ℕ} {x : Row} {b : List ℕ} {y : Row} {left : ℕ} where
-  module _ {r : NodesStep} (v : repr_types.ArgumentsSay b y.from.at y.count 32 r) (z : x.count ≡ 0) where
-    pub arguments_short : {k : ℕ} → r ≡ nodes_step.Refused k → ArgumentsSay a x b y left Differ
+  module _ {r : Result Rest Refusal} (v : repr_types.ArgumentsSay b y.from.at y.count 32 r) (z : x.count ≡ 0) where
+    pub arguments_short : {k : Refusal} → r ≡ Err k → ArgumentsSay a x b y left None
     arguments_short e = record { says = λ g h p q s o i j. absurd (clash (sym (ap (nodes_says b) e) ∙ args-passed v o j)); fewer = tt }
 
-    pub arguments_none : {l : ℕ} {d : Cursor} → r ≡ nodes_step.Ended l d → ArgumentsSay a x b y left (Same left x.from d)
+    pub arguments_none : {d : Rest} → r ≡ Ok d → ArgumentsSay a x b y left (Some (record { left = left; a = x.from; b = d.next }))
     unfolding same_shapes arg_nodes
-    arguments_none {l} {d} e = record {
+    arguments_none {d} e = record {
       says = λ g h p q s o i j.
           let w = none_is z s in
           let k = sym (ap (nodes_says b) e) ∙ args-passed v o j in
-          let f : rest b d ≡ q = cc in
+          let f : rest b d.next ≡ q = cc in
           rw (w.same, w.ends, f, sub-zero);
       fewer = le_refl left;
     }
 
-  module _ (z : x.count ≡ 0 → ⊥) {w : Shape} (v : FirstSays a x.from.at b y left w) where
-    on-first : {r : Shape} → w ≡ r → (g h : Args) (p q : List ℕ) → ArgsTo (rest a x.from) x.count g p → ArgsTo (rest b y.from) y.count h q → arg_nodes g ≤ left → arg_nodes h ≤ max_nodes → FirstIs a b x.count y.count left g h p q r
-    on-first e g h p q s o i j = subst (λ (r : Shape). FirstIs a b x.count y.count left g h p q r) e (v.says x.count g h p q z s o i j)
+  module _ (z : x.count ≡ 0 → ⊥) {w : Option Same} (v : FirstSays a x.from.at b y left w) where
+    on-first : {r : Option Same} → w ≡ r → (g h : Args) (p q : List ℕ) → ArgsTo (rest a x.from) x.count g p → ArgsTo (rest b y.from) y.count h q → arg_nodes g ≤ left → arg_nodes h ≤ max_nodes → FirstIs a b x.count y.count left g h p q r
+    on-first e g h p q s o i j = subst (λ (r : Option Same). FirstIs a b x.count y.count left g h p q r) e (v.says x.count g h p q z s o i j)
 
-    pub arguments_differ : w ≡ Differ → ArgumentsSay a x b y left Differ
+    pub arguments_differ : w ≡ None → ArgumentsSay a x b y left None
     arguments_differ e = record { says = λ g h p q s o i j. rw (on-first e g h p q s o i j); fewer = tt }
 
-    pub arguments_more : {l : ℕ} {c d : Cursor} → w ≡ Same l c d → {x' y' : Row} → (x'.from ≡ c) × (x'.count ≡ x.count - 1) → (y'.from ≡ d) × (y'.count ≡ y.count - 1)
-        → {r : Shape} → ArgumentsSay a x' b y' l r → ArgumentsSay a x b y left r
-    arguments_more {l} e ex ey {r} u = record {
-      says = λ g h p q s o i j.
-          let k = on-first e g h p q s o i j in
+    pub arguments_more : {s : Same} → w ≡ Some s → {x' y' : Row} → (x'.from ≡ s.a) × (x'.count ≡ x.count - 1) → (y'.from ≡ s.b) × (y'.count ≡ y.count - 1)
+        → {r : Option Same} → ArgumentsSay a x' b y' s.left r → ArgumentsSay a x b y left r
+    arguments_more {s} e ex ey {r} u = record {
+      says = λ g h p q v o i j.
+          let k = on-first e g h p q v o i j in
           let n = k.nodes in
           let few = tail-nodes h in
-          let f : l - arg_nodes k.more ≡ left - arg_nodes g = omega arith in
+          let f : s.left - arg_nodes k.more ≡ left - arg_nodes g = omega arith in
           u.says k.more (tail_args h) p q (rw (ex.0, ex.1) k.a_stand) (rw (ey.0, ey.1) k.b_stand) (omega arith) (omega arith) ∙ rw (← k.alike, f);
       fewer = fewer-still r u.fewer (rest-fewer w v.fewer e);
     }
 
 -- ---- Whole types
 
-module _ {a : List ℕ} {x : ℕ} {b : List ℕ} {y : ℕ} {r : Shape} (v : TypesSay a x b y 32 r) where
-  pub whole-differ : r ≡ Differ → SameShape a x b y false
-  whole-differ e = record { says = λ t u p q h k. sym (told_differ (same_shape t u) _ _ _ (sym (ap (shape_says a b) e) ∙ v.says t u p.over q.over p.stands q.stands h k)) }
-
-  pub whole_same : {l : ℕ} {c d : Cursor} → r ≡ Same l c d → SameShape a x b y true
-  whole_same e = record { says = λ t u p q h k. sym (told_same (same_shape t u) _ _ _ (sym (ap (shape_says a b) e) ∙ v.says t u p.over q.over p.stands q.stands h k)).alike }
+pub whole : {a : List ℕ} {x : ℕ} {b : List ℕ} {y : ℕ} {r : Option Same} → TypesSay a x b y 32 r → SameShape a x b y (is_some r)
+whole {r = Some s} v = record { says = λ t u p q h k. sym (told_same (same_shape t u) _ _ _ (v.says t u p.over q.over p.stands q.stands h k)).alike }
+whole {r = None} v = record { says = λ t u p q h k. sym (told_differ (same_shape t u) _ _ _ (v.says t u p.over q.over p.stands q.stands h k)) }
 
 -- ---- A type, against a Ref
 
-module _ {a : List ℕ} {x : ℕ} {b : List ℕ} {y : ℕ} {d : NodeStep} (m : NodeSays node a x d) (k : Kind) where
-  pub ref_other : ((j : BorrowKind) (r : Region) (c : Cursor) → d ≡ node_step.Ref j r c → ⊥) → SameAsRef k a x b y false
+-- the test of two kinds
+pub kinds_alike : (j k : BorrowKind) → sameb the_type j k ≡ same_kind (borrow_kind_of j) (borrow_kind_of k)
+kinds_alike Mut Mut = refl
+kinds_alike Mut Shared = refl
+kinds_alike Shared Mut = refl
+kinds_alike Shared Shared = refl
+
+module _ {a : List ℕ} {x : ℕ} {b : List ℕ} {y : ℕ} {d : Result Node Refusal} (m : NodeSays node a x d) (k : Kind) where
+  pub ref_none : {r : Refusal} → d ≡ Err r → SameAsRef k a x b y false
+  ref_none e = record { says = λ t u o p q h i. absurd (on-node m e p.stands) }
+
+  pub ref_other : {n : Node} → d ≡ Ok n → ((j : BorrowKind) (r : Region) (c : Cursor) → n ≡ nodes.Ref j r c → ⊥) → SameAsRef k a x b y false
   unfolding same_shape
-  ref_other f = record { says = λ t u o p q h i. go t u o p.over d f (node-is m p.stands) }
+  ref_other {n} e f = record { says = λ t u o p q h i. go t u o p.over n f (on-node m e p.stands) }
     where
-      go : (t u : Ty) (o : SomeRegion) (over : List ℕ) (n : NodeStep) → ((j : BorrowKind) (r : Region) (c : Cursor) → n ≡ node_step.Ref j r c → ⊥) → NodeIs a t over n → false ≡ same_shape t (RefTy k o u)
-      go t u o over (node_step.Unit c) e w = rw w.same
-      go t u o over (node_step.Ref j r c) e w = absurd (e j r c refl)
-      go t u o over (node_step.Struct z n c) e w = rw w.same
-      go t u o over (node_step.Bound i c) e w = rw w.same
-      go t u o over (node_step.Refused j) e w = absurd w
+      go : (t u : Ty) (o : SomeRegion) (over : List ℕ) (n : Node) → ((j : BorrowKind) (r : Region) (c : Cursor) → n ≡ nodes.Ref j r c → ⊥) → NodeIs a t over (Ok n) → false ≡ same_shape t (RefTy k o u)
+      go t u o over (nodes.Unit c) e w = rw w.same
+      go t u o over (nodes.Ref j r c) e w = absurd (e j r c refl)
+      go t u o over (nodes.Struct z n c) e w = rw w.same
+      go t u o over (nodes.Bound i c) e w = rw w.same
 
-  module _ {j : BorrowKind} {o : Region} {c : Cursor} (e : d ≡ node_step.Ref j o c) {alike : Bool} (i : alike ≡ same_kind (borrow_kind_of j) k) where
-    pub ref_differ : alike ≡ false → SameAsRef k a x b y false
+  module _ {j : BorrowKind} {o : Region} {c : Cursor} (e : d ≡ Ok (nodes.Ref j o c)) where
+    pub ref_differ : same_kind (borrow_kind_of j) k ≡ false → SameAsRef k a x b y false
     unfolding same_shape
-    ref_differ f = record { says = λ t u r p q h g. let w = on-node m e p.stands in rw (w.same, ← i, f) }
+    ref_differ f = record { says = λ t u r p q h g. let w = on-node m e p.stands in rw (w.same, f) }
 
-    pub ref_same : {r : Bool} → alike ≡ true → SameShape a c.at b y r → SameAsRef k a x b y r
+    pub ref_same : {r : Bool} → same_kind (borrow_kind_of j) k ≡ true → SameShape a c.at b y r → SameAsRef k a x b y r
     unfolding same_shape type_nodes
     ref_same f v = record {
       says = λ t u r p q h g.
           let w = on-node m e p.stands in
           let l : type_nodes t ≡ suc (type_nodes w.referent) = ref_nodes w.same in
-          rw (w.same, ← i, f) (v.says w.referent u (record { over = p.over; stands = w.stands }) q (omega arith) g);
+          rw (w.same, f) (v.says w.referent u (record { over = p.over; stands = w.stands }) q (omega arith) g);
     }

@@ -6,22 +6,24 @@ use native.Mathlib.Omega.{arith}
 use native.Mathlib.Decide.{dec_lt}
 use lib.ListN.{length, take, drop, length-append, length-drop}
 use lib.Seq.{take_at}
+use Rattle.std.proofs.lemmas.List.{length-take, drop_min}
 use Rattle.nll_spec.specs.Syntax.{Ty, UnitTy, RefTy, StructTy, BoundTy, Args, NoArgs, RegionArg, TypeArg}
 use Rattle.nll_spec.specs.Decode.{Reading, refused, read, Part, part, type_within}
 use Rattle.nll_spec.specs.Types.{head_type, arg_count, bound_args, type_nodes, arg_nodes}
 use Rattle.repr.specs.Reading.{rest}
 use Rattle.repr.specs.Types.{left_of, nodes_says, TypeSays}
 use Rattle.repr.specs.declared.Cursor.{Cursor}
-use Rattle.repr.specs.declared.ArgumentStep.{ArgumentStep}
-use Rattle.repr.specs.declared.ArgumentStep.TheVariants as argument_step
-use Rattle.repr.specs.declared.NodesStep.{NodesStep}
-use Rattle.repr.specs.declared.NodesStep.TheVariants as nodes_step
+use Rattle.repr.specs.declared.Argument.{Argument}
+use Rattle.repr.specs.declared.Argument.TheVariants as arguments
+use Rattle.repr.specs.declared.Rest.{Rest}
+use Rattle.repr.specs.declared.refusal.Refusal.{Refusal}
+use Rattle.std.specs.Prelude.{Option, Some, None, Result, Ok, Err, min}
 use Rattle.repr.specs.declared.Region.{Region}
 use Rattle.repr.specs.Stands.{TypeTo}
 use Rattle.repr.specs.Spelling.{spell, spell_args, Fine, FineArgs}
-use Rattle.ty.specs.Written.{Bounded, Given, FoundIs, FoundSays, Puts, Writes, Room, UnitSays, CopySays, BoundSays}
+use Rattle.ty.specs.Written.{Given, FoundIs, FoundSays, Puts, Writes, Room, UnitSays, CopySays, BoundSays}
+use Rattle.ty.specs.declared.write.Arguments.{Arguments}
 use Rattle.ty.specs.declared.write.Wrote.{Wrote}
-use Rattle.ty.specs.declared.write.Wrote.TheVariants.{Ended, Over}
 use Rattle.repr.proofs.SpellLaws.{clash, Spelt}
 use Rattle.repr.proofs.StandLaws.{type-bytes, type_once, type-passed}
 
@@ -71,60 +73,61 @@ lying s from to left rem t p w i =
     let o = spell-room t w.fine in
     record { type = t; stands = p; nodes = w.nodes; ordered = omega arith; room = omega arith; bytes = rw w.bytes (take_at (spell t) (drop to s) (to - from) k) }
 
-pub lies : {s : List ℕ} {from left rem to : ℕ} {d : NodesStep} {end : Cursor} → TypeSays s from left d → d ≡ nodes_step.Ended rem end → Bounded s end.at to → Lies s from to left rem
-lies {s} {from} {left} {rem} {to} {d} {end} v e b =
+pub lies : {s : List ℕ} {from left to : ℕ} {d : Result Rest Refusal} {x : Rest} → TypeSays s from left d → d ≡ Ok x → to ≡ min x.next.at (length s) → Lies s from to left x.left
+lies {s} {from} {left} {to} {d} {x} v e b =
     let g = left_got (type_within (suc left) left (drop from s)) (sym (v.same (suc left) (omega arith)) ∙ ap (nodes_says s) e) in
-    let p : TypeTo (drop from s) g.0 (drop to s) = record { deep = suc left; left = left; after = rem; reads = rw b.same g.1 } in
-    lying s from to left rem g.0 p (type-bytes p) b.inside
+    let p : TypeTo (drop from s) g.0 (drop to s) = record { deep = suc left; left = left; after = x.left; reads = rw (b, drop_min x.next.at s) g.1 } in
+    lying s from to left x.left g.0 p (type-bytes p) (omega arith)
 
 -- ---- One piece after another
 
-pub writes_more : (f dst d₁ d₂ l bytes over : List ℕ) (at at₁ left left₁ k nodes all : ℕ) → take at₁ d₁ ≡ take at dst ++ l → left₁ + k ≡ left → k + nodes ≡ all → (r : Wrote) → Writes f d₁ d₂ at₁ left₁ nodes bytes over r → Writes f dst d₂ at left all (l ++ bytes) over r
-writes_more f dst d₁ d₂ l bytes over at at₁ left left₁ k nodes all e h g (Ended next at' left') w =
+pub writes_more : (f dst d₁ d₂ l bytes over : List ℕ) (at at₁ left left₁ k nodes all : ℕ) → take at₁ d₁ ≡ take at dst ++ l → left₁ + k ≡ left → k + nodes ≡ all → (r : Option Wrote) → Writes f d₁ d₂ at₁ left₁ nodes bytes over r → Writes f dst d₂ at left all (l ++ bytes) over r
+writes_more f dst d₁ d₂ l bytes over at at₁ left left₁ k nodes all e h g (Some x) w =
     record { ends = w.ends; took = (let i = w.took in omega arith); stand = w.stand ∙ (ap (λ (x : List ℕ). x ++ bytes) e ∙ append_assoc (take at dst) l bytes) }
-writes_more f dst d₁ d₂ l bytes over at at₁ left left₁ k nodes all e h g Over w = omega arith
+writes_more f dst d₁ d₂ l bytes over at at₁ left left₁ k nodes all e h g None w = omega arith
 
-pub room-more : (at at₁ left left₁ m m₁ : ℕ) → left₁ ≤ left → at₁ + 15 * left₁ + m₁ ≤ at + 15 * left + m → (r : Wrote) → Room at₁ left₁ m₁ r → Room at left m r
-room-more at at₁ left left₁ m m₁ h g (Ended next at' left') w = (let o = w.0 in omega arith, let o = w.1 in omega arith)
-room-more at at₁ left left₁ m m₁ h g Over w = tt
+pub room-more : (at at₁ left left₁ m m₁ : ℕ) → left₁ ≤ left → at₁ + 15 * left₁ + m₁ ≤ at + 15 * left + m → (r : Option Wrote) → Room at₁ left₁ m₁ r → Room at left m r
+room-more at at₁ left left₁ m m₁ h g (Some x) w = (let o = w.0 in omega arith, let o = w.1 in omega arith)
+room-more at at₁ left left₁ m m₁ h g None w = tt
 
 -- ---- A type as it is
 
-module _ {s : List ℕ} {item : ℕ} {dst dst' : List ℕ} {at left : ℕ} {d : NodesStep} (v : TypeSays s item left d) where
-  pub copy_over : {next : Cursor} {k : ℕ} → d ≡ nodes_step.Refused k → CopySays s item next dst dst' at left Over
+module _ {s : List ℕ} {item : ℕ} {dst dst' : List ℕ} {at left : ℕ} {d : Result Rest Refusal} (v : TypeSays s item left d) where
+  pub copy_over : {next : Cursor} {k : Refusal} → d ≡ Err k → CopySays s item next dst dst' at left None
   copy_over e = record { says = λ f t over p. go t over p (dec_lt left (type_nodes t)); room = tt }
     where
       go : (t : Ty) (over : List ℕ) → TypeTo (drop item s) t over → Dec (left < type_nodes t) → left < type_nodes t
       go t over p (yes h) = h
       go t over p (no h) = absurd (clash (sym (ap (nodes_says s) e) ∙ type-passed v p (omega arith)))
 
-  pub copied : {next : Cursor} {rem to : ℕ} {end : Cursor} → d ≡ nodes_step.Ended rem end → Bounded s end.at to → take (at + (to - item)) dst' ≡ take at dst ++ take (to - item) (drop item s) → CopySays s item next dst dst' at left (Ended next (at + (to - item)) rem)
-  copied {next = next} {rem = rem} {to = to} e b h =
+  pub copied : {next : Cursor} {to : ℕ} {x : Rest} → d ≡ Ok x → to ≡ min x.next.at (length s) → take (at + length (take (to - item) (drop item s))) dst' ≡ take at dst ++ take (to - item) (drop item s) → CopySays s item next dst dst' at left (Some (record { next = next; at = at + length (take (to - item) (drop item s)); left = x.left }))
+  copied {next = next} {to = to} {x = x} e b h =
       let w = lies v e b in
       let n = w.nodes in
       let o = w.room in
+      let l = length-take (to - item) (drop item s) in
       record {
         says = λ f t over p.
             let i : w.type ≡ t = type_once w.stands p in
-            transport (λ (u : Ty). Puts (rest f next) dst dst' at left (type_nodes u) (spell u) (rest f next) (at + (to - item)) rem) i (record { ends = refl; took = n; stand = h ∙ ap (λ (l : List ℕ). take at dst ++ l) w.bytes });
+            transport (λ (u : Ty). Puts (rest f next) dst dst' at left (type_nodes u) (spell u) (rest f next) (at + length (take (to - item) (drop item s))) x.left) i (record { ends = refl; took = n; stand = h ∙ ap (λ (l : List ℕ). take at dst ++ l) w.bytes });
         room = (omega arith, omega arith);
       }
 
 -- ---- What a bound index means
 
-found : {s : List ℕ} {from count b : ℕ} {d x : ArgumentStep} → FoundSays s from count b d → d ≡ x → (g : Args) → Given s from count g → FoundIs s (bound_args g b) x
-found {s} {b = b} v e g w = transport (λ (x : ArgumentStep). FoundIs s (bound_args g b) x) e (v.says g w)
+found : {a : Arguments} {b : ℕ} {d x : Option Argument} → FoundSays a b d → d ≡ x → (g : Args) → Given a g → FoundIs a.bytes.now (bound_args g b) x
+found {a} {b} v e g w = transport (λ (x : Option Argument). FoundIs a.bytes.now (bound_args g b) x) e (v.says g w)
 
-pub unit-there : {next : Cursor} {dst dst' : List ℕ} {at left : ℕ} {r : Wrote} (u : UnitSays next dst dst' at left r) (f : List ℕ) (t : Ty) → t ≡ UnitTy → Writes f dst dst' at left (type_nodes t) (spell t) (rest f next) r
+pub unit-there : {next : Cursor} {dst dst' : List ℕ} {at left : ℕ} {r : Option Wrote} (u : UnitSays next dst dst' at left r) (f : List ℕ) (t : Ty) → t ≡ UnitTy → Writes f dst dst' at left (type_nodes t) (spell t) (rest f next) r
 unfolding type_nodes
 unit-there u f t e = rw e (u.says f)
 
-module _ {s : List ℕ} {from count b : ℕ} {next : Cursor} {dst dst' : List ℕ} {at left : ℕ} {r : Wrote} {d : ArgumentStep} (v : FoundSays s from count b d) where
-  pub bound_type : {item : Cursor} → d ≡ argument_step.Type item → CopySays s item.at next dst dst' at left r → BoundSays s from count b next dst dst' at left r
+module _ {a : Arguments} {b : ℕ} {next : Cursor} {dst dst' : List ℕ} {at left : ℕ} {r : Option Wrote} {d : Option Argument} (v : FoundSays a b d) where
+  pub bound_type : {item : Cursor} → d ≡ Some (arguments.Type item) → CopySays a.bytes.now item.at next dst dst' at left r → BoundSays a b next dst dst' at left r
   bound_type e u = record { says = λ f g w. let x = found v e g w in u.says f (head_type (bound_args g b)) x.over x.stands; room = u.room }
 
-  pub bound_region : {x : Region} {c : Cursor} → d ≡ argument_step.Region x c → UnitSays next dst dst' at left r → BoundSays s from count b next dst dst' at left r
+  pub bound_region : {x : Region} {c : Cursor} → d ≡ Some (arguments.Region x c) → UnitSays next dst dst' at left r → BoundSays a b next dst dst' at left r
   bound_region e u = record { says = λ f g w. unit-there u f (head_type (bound_args g b)) (found v e g w).type; room = u.room }
 
-  pub bound_none : {k : ℕ} → d ≡ argument_step.Refused k → UnitSays next dst dst' at left r → BoundSays s from count b next dst dst' at left r
+  pub bound_none : d ≡ None → UnitSays next dst dst' at left r → BoundSays a b next dst dst' at left r
   bound_none e u = record { says = λ f g w. unit-there u f (head_type (bound_args g b)) (found v e g w).type; room = u.room }

@@ -1,43 +1,17 @@
--- The first refusal that applies. Assumes nothing.
+-- The refusal of a record. Assumes nothing.
 use mathlib.Core.Path.{◌≡◌, refl, sym, ap, subst, ◌∙◌}
-use mathlib.Core.Bool.{Bool, true, false}
 use mathlib.Core.List.{List}
 use Prim.Native.Nat.{ℕ, zero, suc}
-use native.Mathlib.Omega.{arith}
-use lib.ListN.{length}
-use lib.Dec.{T}
 use Rattle.nll_spec.specs.Syntax.{Job}
 use Rattle.nll_spec.specs.Decode as decode
-use Rattle.nll_spec.specs.WellFormed.{named, types_fit, paths_fit, shapes_fit, refusal}
+use Rattle.nll_spec.specs.WellFormed.{refusal}
 use Rattle.nll_spec.specs.Output.{judge_job, judge}
 use Rattle.record.specs.Layout.{Layout, Verdict, DecodedSays}
 use Rattle.record.specs.declared.Head.{Head}
-use Rattle.record.specs.declared.Decoded.{Decoded}
-use Rattle.record.specs.declared.Decoded.TheVariants.{Refused, Job as Accept}
-use Rattle.well_formed.specs.Tests.{refusal_of}
-
--- what a test that passed says
-holds : {x y : Bool} → x ≡ y → x ≡ true → T y
-holds {y = true} e k = tt
-holds {y = false} e k = let z : ◌≡◌ {A = ℕ} 0 1 = cc in omega arith
-
--- ---- Refusals 6 to 9
-
-module _ (j : Job) where
-  pub refused_6 : {x : Bool} → x ≡ named j → x ≡ false → 6 ≡ refusal j
-  unfolding refusal
-  refused_6 e k = rw (← e, k)
-
-  module _ {x : Bool} (e : x ≡ named j) (k : x ≡ true) {y : Bool} (f : y ≡ types_fit j) where
-    pub refused_7 : y ≡ false → 7 ≡ refusal j
-    unfolding refusal
-    refused_7 l = rw (← e, k, ← f, l)
-
-    pub refused-later : {r : ℕ} → y ≡ true → (T (named j) → r ≡ refusal_of (paths_fit j) (shapes_fit j)) → r ≡ refusal j
-    unfolding refusal
-    refused-later l g = g (holds e k) ∙ rw (← e, k, ← f, l)
-
--- ---- A record
+use Rattle.repr.specs.declared.refusal.Refusal.{Refusal}
+use Rattle.well_formed.proofs.PointLaws.{some_number}
+use Rattle.repr.specs.Refusals.{number_of}
+use Rattle.std.specs.Prelude.{Result, Ok, Err}
 
 job-accepted : (j : Job) → refusal j ≡ 0 → judge_job j ≡ decode.decoded j
 unfolding judge_job
@@ -56,26 +30,22 @@ judge-decoded : (s : List ℕ) {j : Job} → decode.decode s ≡ decode.decoded 
 unfolding judge
 judge-decoded s e = ap (λ (x : decode.Decoded). elim x [ decode.rejected n ↦ decode.rejected n | decode.decoded j ↦ judge_job j ]) e
 
-module _ {s t : List ℕ} {d : Decoded} (v : DecodedSays (decode.decode s) s t d) where
-  verdict_at_lem : {x : Decoded} → d ≡ x → Verdict (decode.decode s) s t x
+module _ {s t : List ℕ} {d : Result Head Refusal} (v : DecodedSays (decode.decode s) s t d) where
+  verdict_at_lem : {x : Result Head Refusal} → d ≡ x → Verdict (decode.decode s) s t x
   verdict_at_lem e = subst (Verdict (decode.decode s) s t) e v.says
 
-  pub record_refused : {k : ℕ} → d ≡ Refused k → DecodedSays (judge s) s t (Refused k)
+  pub record_refused : {k : Refusal} → d ≡ Err k → DecodedSays (judge s) s t (Err k)
   record_refused e = record { says = judge-rejected s (verdict_at_lem e) }
 
-  module _ {h : Head} (e : d ≡ Accept h) where
-    pub table_size : length t ≡ 1280
-    table_size = (verdict_at_lem e).layout.size
+  module _ {h : Head} (e : d ≡ Ok h) {k : ℕ} (f : (j : Job) → Layout s t h j → k ≡ refusal j) where
+    judged : judge s ≡ judge_job (verdict_at_lem e).job
+    judged = judge-decoded s (verdict_at_lem e).is
 
-    module _ {k : ℕ} (f : (j : Job) → Layout s t h j → k ≡ refusal j) where
-      judged : judge s ≡ judge_job (verdict_at_lem e).job
-      judged = judge-decoded s (verdict_at_lem e).is
+    number_is : k ≡ refusal (verdict_at_lem e).job
+    number_is = f (verdict_at_lem e).job (verdict_at_lem e).layout
 
-      number_is : k ≡ refusal (verdict_at_lem e).job
-      number_is = f (verdict_at_lem e).job (verdict_at_lem e).layout
+    pub record_accepted : k ≡ 0 → DecodedSays (judge s) s t (Ok h)
+    record_accepted z = let a = verdict_at_lem e in record { says = record { job = a.job; is = judged ∙ job-accepted a.job (sym number_is ∙ z); points = a.points; loans = a.loans; layout = a.layout } }
 
-      pub record_accepted : k ≡ 0 → DecodedSays (judge s) s t (Accept h)
-      record_accepted z = let a = verdict_at_lem e in record { says = record { job = a.job; is = judged ∙ job-accepted a.job (sym number_is ∙ z); points = a.points; loans = a.loans; layout = a.layout } }
-
-      pub job-refused : (k ≡ 0 → ⊥) → DecodedSays (judge s) s t (Refused k)
-      job-refused z = record { says = judged ∙ job-rejected (verdict_at_lem e).job k number_is z }
+    pub job-refused : {refused : Refusal} → k ≡ number_of refused → DecodedSays (judge s) s t (Err refused)
+    job-refused {refused} i = record { says = judged ∙ job-rejected (verdict_at_lem e).job (number_of refused) (sym i ∙ number_is) (some_number refused) }

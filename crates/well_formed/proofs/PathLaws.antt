@@ -1,58 +1,45 @@
 -- Paths, their types, and the paths of an action. Assumes nothing.
-use mathlib.Core.Path.{◌≡◌, refl, sym, ap, subst, ◌∙◌}
-use mathlib.Core.Bool.{Bool, true, false, ◌&&◌, and-true, and-false, and_comm, cond}
+use mathlib.Core.Path.{◌≡◌, refl, sym, ap, ◌∙◌}
+use mathlib.Core.Bool.{Bool, true, false, ◌&&◌, and-true, and-false, and_comm}
 use mathlib.Core.List.{List, []}
-use Prim.Native.Nat.{ℕ, ◌≤◌, ◌<◌}
+use Prim.Native.Nat.{ℕ, ◌<◌}
 use native.Mathlib.Omega.{arith}
-use lib.ListN.{length, drop}
-use borrow.Author.Tests.{lt-ltb, le-ltb}
+use lib.ListN.{length}
+use borrow.Author.Tests.{lt-ltb}
 use Rattle.nll_spec.specs.Lists.{every}
 use Rattle.nll_spec.specs.Syntax as syntax
 use Rattle.nll_spec.specs.Syntax.{Job}
 use Rattle.nll_spec.specs.Decode.{read, done, items, path}
 use Rattle.nll_spec.specs.Types.{path_type}
 use Rattle.nll_spec.specs.WellFormed.{path_fits, paths_of, same_shape, shape_fits}
-use Rattle.repr.specs.Reading.{rest, borrow_kind_of, path_of, path_says}
-use Rattle.repr.specs.Parts.{action_says, sources_of}
+use Rattle.repr.specs.Reading.{rest, path_of}
+use Rattle.repr.specs.Parts.{action_says, action_read, sources_of}
 use Rattle.repr.specs.declared.Cursor.{Cursor}
 use Rattle.repr.specs.declared.Path.{Path}
-use Rattle.repr.specs.declared.PathStep.{PathStep}
-use Rattle.repr.specs.declared.PathStep.TheVariants as path_step
-use Rattle.repr.specs.declared.EndStep.TheVariants.{Ended, Refused}
-use Rattle.repr.specs.declared.RegionName.{RegionName}
-use Rattle.repr.specs.declared.BorrowKind as repr_kind
 use Rattle.repr.specs.declared.Action.{Action}
 use Rattle.repr.specs.declared.Action.TheVariants.{Noop, Init, Borrow, Assign, Constraint, Use, Drop, StorageDead}
-use Rattle.repr.specs.declared.ActionStep.{ActionStep}
-use Rattle.repr.specs.declared.ActionStep.TheVariants as action_step
-use Rattle.repr.proofs.ReadLaws.{told}
-use Rattle.record.specs.Layout.{Layout}
-use Rattle.record.specs.Access.{entry_in, Acts}
+use Rattle.record.specs.Layout.{Layout, Holds}
 use Rattle.record.specs.declared.Head.{Head}
-use Rattle.ty.specs.Shape.{SameShape, SameAsRef}
-use Rattle.repr.proofs.SpellLaws.{clash, carry, then}
-use Rattle.refusals.specs.Tests.{Passes, Tested}
-use Rattle.refusals.proofs.PartLaws.{none_passes, read-passes, read-fails}
-use Rattle.env.specs.Paths.{PathIs, PathResult}
+use Rattle.record.specs.Access.{entry_in, Acts}
+use Rattle.record.specs.declared.Record.{Record}
+use Rattle.repr.proofs.SpellLaws.{carry, then}
+use Rattle.refusals.specs.Tests.{Tested}
+use Rattle.env.specs.Paths.{PathIs}
 use Rattle.env.proofs.PathLaws.{no_entries, stepless}
-use Rattle.env.specs.declared.paths.PathType.{PathType}
-use Rattle.env.specs.declared.paths.PathType.TheVariants as path_types
-use Rattle.well_formed.specs.Tests.{refusal_of, path_taken, TypeSays, action_taken, own_taken, own_shape, TypesFit, SecondSays, PairSays}
+use Rattle.well_formed.specs.Tests.{refusal_of, path_taken, action_taken, own_taken, own_shape, TypesFit, SecondSays, PairSays}
 use Rattle.well_formed.specs.declared.shapes.Wanted.{Wanted}
 use Rattle.well_formed.specs.declared.shapes.Wanted.TheVariants as wanted
+use Rattle.repr.specs.declared.refusal.Refusal.{Refusal}
+use Rattle.std.specs.Prelude.{Result, Ok}
 
 -- ---- A path
 
--- it may not be taken
-pub record Untaken (s t : List ℕ) (h : Head) (p : Path) : Type 0 where
-  pub not : (j : Job) → Layout s t h j → path_taken j (path_of s p) ≡ false
-
 -- it may be taken, and its type stands there
-pub record Typed (s t : List ℕ) (h : Head) (p : Path) (bytes : List ℕ) (at : ℕ) : Type 0 where
-  pub named : p.base.0 < h.variables
+pub record Typed (input : Record) (p : Path) (bytes : List ℕ) (at : ℕ) : Type 0 where
+  pub named : p.base.0 < input.head.variables
   pub kinds : List ℕ
   pub names : List ℕ
-  pub is : (j : Job) → Layout s t h j → PathIs j (path_of s p) bytes at kinds names
+  pub is : (j : Job) → Holds input j → PathIs j (path_of input.bytes.now p) bytes at kinds names
 
 in_job : {s t : List ℕ} {h : Head} {j : Job} {v : ℕ} → Layout s t h j → v < h.variables → v < length j.variables
 in_job w l = let n = w.variable_count in omega arith
@@ -60,44 +47,15 @@ in_job w l = let n = w.variable_count in omega arith
 named-is : {s t : List ℕ} {h : Head} {j : Job} {b : Bool} (p : Path) → Layout s t h j → p.base.0 < h.variables → path_fits j (path_of s p) ≡ b → path_taken j (path_of s p) ≡ b
 named-is {j = j} p w l e = rw (lt-ltb p.base.0 (length j.variables) (in_job w l), e)
 
-pub past_untaken : {s t : List ℕ} {h : Head} (p : Path) → h.variables ≤ p.base.0 → Untaken s t h p
-past_untaken p l = record { not = λ j w. let n = w.variable_count in rw (le-ltb p.base.0 (length j.variables) (omega arith)) }
-
-module _ {s t : List ℕ} {h : Head} {p : Path} where
-  pub typed_taken : {bytes : List ℕ} {at : ℕ} → Typed s t h p bytes at → (j : Job) → Layout s t h j → path_taken j (path_of s p) ≡ true
+module _ {input : Record} {p : Path} where
+  pub typed_taken : {bytes : List ℕ} {at : ℕ} → Typed input p bytes at → (j : Job) → Holds input j → path_taken j (path_of input.bytes.now p) ≡ true
   typed_taken v j w = named-is p w v.named (v.is j w).fits
 
-  module _ (l : p.base.0 < h.variables) where
-    typed : {out : List ℕ} {d x : PathType} (m : TypeSays s t h p out d) → d ≡ x → (j : Job) → Layout s t h j → PathResult j (path_of s p) s out m.kinds m.names x
-    typed {out} m e j w = subst (λ (y : PathType). PathResult j (path_of s p) s out m.kinds m.names y) e (m.says.says j w (in_job w l))
+pub stepless_typed : {input : Record} (p : Path) → p.base.0 < input.head.variables → (c : Cursor) → p.steps ≡ 0 → c.at ≡ entry_in input.layout.now 32 64 p.base.0 → Typed input p input.bytes.now c.at
+stepless_typed {input} p l c z e = record { named = l; kinds = no_entries; names = no_entries; is = λ j w. (stepless {input = input} p c z e).says j w (in_job w l) }
 
-    pub refused_untaken : {out : List ℕ} {d : PathType} → TypeSays s t h p out d → d ≡ path_types.Refused → Untaken s t h p
-    refused_untaken m e = record { not = λ j w. named-is p w l (typed m e j w) }
-
-    pub inside_typed : {out : List ℕ} {d : PathType} {c : Cursor} → TypeSays s t h p out d → d ≡ path_types.Inside c → Typed s t h p s c.at
-    inside_typed m e = record { named = l; kinds = m.kinds; names = m.names; is = λ j w. typed m e j w }
-
-    pub written_typed : {out : List ℕ} {d : PathType} {c : Cursor} → TypeSays s t h p out d → d ≡ path_types.Written c → Typed s t h p out c.at
-    written_typed m e = record { named = l; kinds = m.kinds; names = m.names; is = λ j w. typed m e j w }
-
-pub stepless_typed : {s t : List ℕ} {h : Head} (p : Path) → p.base.0 < h.variables → (c : Cursor) → p.steps ≡ 0 → c.at ≡ entry_in t 32 64 p.base.0 → Typed s t h p s c.at
-stepless_typed p l c z e = inside_typed l (record { kinds = no_entries; names = no_entries; says = stepless p c z e }) refl
-
-pub stepless_taken : {s t : List ℕ} {h : Head} (p : Path) → p.base.0 < h.variables → p.steps ≡ 0 → (j : Job) → Layout s t h j → path_taken j (path_of s p) ≡ true
-stepless_taken {t = t} p l z j w = typed_taken (stepless_typed p l (record { at = entry_in t 32 64 p.base.0 }) z refl) j w
-
--- ---- Sources
-
-module _ {f : syntax.Path → Bool} {s : List ℕ} {at : ℕ} {d : PathStep} (m : path_says s d ≡ path (drop at s)) where
-  pub source-refused : {k l : ℕ} → d ≡ path_step.Refused k → Passes path f s at (Refused l)
-  source-refused e = none_passes (told (path_says s) m e)
-
-  module _ {p : Path} {c : Cursor} {b : Bool} (e : d ≡ path_step.Path p c) (i : b ≡ f (path_of s p)) where
-    pub source-passes : b ≡ true → Passes path f s at (Ended c)
-    source-passes k = read-passes (told (path_says s) m e) (sym i ∙ k)
-
-    pub source-fails : {l : ℕ} → b ≡ false → Passes path f s at (Refused l)
-    source-fails k = read-fails (told (path_says s) m e) (sym i ∙ k)
+pub stepless_taken : (input : Record) (p : Path) → p.base.0 < input.head.variables → p.steps ≡ 0 → (j : Job) → Holds input j → true ≡ path_taken j (path_of input.bytes.now p)
+stepless_taken input p l z j w = sym (typed_taken (stepless_typed {input = input} p l (record { at = entry_in input.layout.now 32 64 p.base.0 }) z refl) j w)
 
 -- ---- The paths of an action
 
@@ -120,7 +78,7 @@ module _ (j : Job) (s : List ℕ) where
   two : (p q : Path) → path_taken j (path_of s p) && (path_taken j (path_of s q) && true) ≡ path_taken j (path_of s p) && path_taken j (path_of s q)
   two p q = ap (λ (z : Bool). path_taken j (path_of s p) && z) (one q)
 
-  action-is : (a : Action) (c : Cursor) {x : syntax.Action} {bs : List ℕ} → action_says s (action_step.Action a c) ≡ read x bs → ActionIs j s a c x bs
+  action-is : (a : Action) (c : Cursor) {x : syntax.Action} {bs : List ℕ} → action_read s a c ≡ read x bs → ActionIs j s a c x bs
   unfolding paths_of shape_fits done
   action-is Noop c e = alone refl refl refl e
   action-is (Init dest n) c e =
@@ -135,43 +93,12 @@ module _ (j : Job) (s : List ℕ) where
 
 -- ---- The refusal of an action
 
--- of a path alone
-pub alone-taken : {x z : Bool} → x ≡ z → x ≡ true → 0 ≡ refusal_of z true
-alone-taken e k = rw (← e, k)
+pub assign_is : {input : Record} {dest source : Path} {r : ℕ} → PairSays wanted.Same input source dest r → (j : Job) → Holds input j → r ≡ refusal_of (own_taken j input.bytes.now (Assign dest source)) (own_shape j input.bytes.now (Assign dest source))
+assign_is {input} {dest} {source} v j w =
+    v.says j w (syntax.Free 0) ∙ ap (λ (x : Bool). refusal_of x (same_shape (path_type j (path_of input.bytes.now source)) (path_type j (path_of input.bytes.now dest)))) (and_comm (path_taken j (path_of input.bytes.now source)) (path_taken j (path_of input.bytes.now dest)))
 
-pub alone_untaken : {x z : Bool} → x ≡ z → x ≡ false → 8 ≡ refusal_of z true
-alone_untaken e k = rw (← e, k)
-
-module _ {s t : List ℕ} {h : Head} {j : Job} (w : Layout s t h j) (a : Action) where
-  pub own_is : {b : Action} {r : ℕ} → a ≡ b → r ≡ refusal_of (own_taken j s b) (own_shape j s b) → r ≡ refusal_of (own_taken j s a) (own_shape j s a)
-  own_is e k = k ∙ sym (ap (λ (x : Action). refusal_of (own_taken j s x) (own_shape j s x)) e)
-
-  pub borrow-is : {dest source : Path} {o : RegionName} {kind : repr_kind.BorrowKind} {r : ℕ} → a ≡ Borrow dest o kind source → PairSays (wanted.RefTo kind) s t h dest source r → r ≡ refusal_of (own_taken j s a) (own_shape j s a)
-  borrow-is {o = o} e v = own_is e (v.says j w (syntax.Free o.0))
-
-  pub assign_is : {dest source : Path} {r : ℕ} → a ≡ Assign dest source → PairSays wanted.Same s t h source dest r → r ≡ refusal_of (own_taken j s a) (own_shape j s a)
-  assign_is {dest} {source} e v =
-      own_is e (v.says j w (syntax.Free 0) ∙ ap (λ (x : Bool). refusal_of x (same_shape (path_type j (path_of s source)) (path_type j (path_of s dest)))) (and_comm (path_taken j (path_of s source)) (path_taken j (path_of s dest))))
-
-  -- any other action has no paths: it is Noop, Constraint or StorageDead
-  pub other_is : ((p : Path) (n : ℕ) → a ≡ Init p n → ⊥) → ((p : Path) (r : RegionName) (k : repr_kind.BorrowKind) (q : Path) → a ≡ Borrow p r k q → ⊥) → ((p q : Path) → a ≡ Assign p q → ⊥) → ((p : Path) → a ≡ Use p → ⊥) → ((p : Path) → a ≡ Drop p → ⊥) → 0 ≡ refusal_of (own_taken j s a) (own_shape j s a)
-  other_is = go a
-    where
-      go : (a : Action) → ((p : Path) (n : ℕ) → a ≡ Init p n → ⊥) → ((p : Path) (r : RegionName) (k : repr_kind.BorrowKind) (q : Path) → a ≡ Borrow p r k q → ⊥) → ((p q : Path) → a ≡ Assign p q → ⊥) → ((p : Path) → a ≡ Use p → ⊥) → ((p : Path) → a ≡ Drop p → ⊥) → 0 ≡ refusal_of (own_taken j s a) (own_shape j s a)
-      go Noop i b g u d = refl
-      go (Init p n) i b g u d = absurd (i p n refl)
-      go (Borrow p r k q) i b g u d = absurd (b p r k q refl)
-      go (Assign p q) i b g u d = absurd (g p q refl)
-      go (Constraint sup sub) i b g u d = refl
-      go (Use p) i b g u d = absurd (u p refl)
-      go (Drop p) i b g u d = absurd (d p refl)
-      go (StorageDead v) i b g u d = refl
-
-module _ {s : List ℕ} {x : syntax.Action} {d : ActionStep} (m : Acts s x d) where
-  pub no_action : {A : Type 0} {k : ℕ} → d ≡ action_step.Refused k → A
-  no_action e = absurd (clash (sym (ap (action_says s) e) ∙ m.reads))
-
-  module _ (j : Job) {a : Action} {c : Cursor} {z : Bool} {n : ℕ} (e : d ≡ action_step.Action a c) (l : n ≡ sources_of a) (v : Tested (items n path) (every (path_taken j)) s c.at z) where
+module _ {s : List ℕ} {x : syntax.Action} {d : Result (Action × Cursor) Refusal} (m : Acts s x d) where
+  module _ (j : Job) {a : Action} {c : Cursor} {z : Bool} {n : ℕ} (e : d ≡ Ok (a, c)) (l : n ≡ sources_of a) (v : Tested (items n path) (every (path_taken j)) s c.at z) where
     tested : refusal_of (action_taken j x) (shape_fits j x) ≡ refusal_of (own_taken j s a && z) (own_shape j s a)
     tested = let w = action-is j s a c (sym (ap (action_says s) e) ∙ m.reads) in rw (w.same, w.shape, v.says w.sources m.over (rw l w.reads))
 
@@ -183,22 +110,10 @@ module _ {s : List ℕ} {x : syntax.Action} {d : ActionStep} (m : Acts s x d) wh
 
 -- ---- Two types, and two paths
 
-pub same-fit : {a b : List ℕ} {x y : ℕ} {d : Wanted} {z : Bool} {r : ℕ} → d ≡ wanted.Same → SameShape a x b y z → r ≡ cond z 0 9 → TypesFit d a x b y r
-same-fit e v k = rw e (record { says = λ t u o p q m n. k ∙ ap (λ (z : Bool). cond z 0 9) (v.says t u p q m n) })
-
-pub ref_fit : {a b : List ℕ} {x y : ℕ} {d : Wanted} {kind : repr_kind.BorrowKind} {z : Bool} {r : ℕ} → d ≡ wanted.RefTo kind → SameAsRef (borrow_kind_of kind) a x b y z → r ≡ cond z 0 9 → TypesFit d a x b y r
-ref_fit e v k = rw e (record { says = λ t u o p q m n. k ∙ ap (λ (z : Bool). cond z 0 9) (v.says t u o p q m n) })
-
-module _ {d : Wanted} {s t : List ℕ} {h : Head} {a : List ℕ} {x : ℕ} {q : Path} where
-  pub second_untaken : Untaken s t h q → SecondSays d s t h a x q 8
-  second_untaken v = record { says = λ j w u o p m. rw (v.not j w) }
-
-  pub second_typed : {b : List ℕ} {y r : ℕ} → Typed s t h q b y → TypesFit d a x b y r → SecondSays d s t h a x q r
+module _ {d : Wanted} {input : Record} {a : List ℕ} {x : ℕ} {q : Path} where
+  pub second_typed : {b : List ℕ} {y r : ℕ} → Typed input q b y → TypesFit d a x b y r → SecondSays d input a x q r
   second_typed v k = record { says = λ j w u o p m. let i = v.is j w in k.says u _ o p i.stands m i.few ∙ sym (rw (typed_taken v j w)) }
 
-module _ {d : Wanted} {s t : List ℕ} {h : Head} {p q : Path} where
-  pub pair_untaken : Untaken s t h p → PairSays d s t h p q 8
-  pair_untaken v = record { says = λ j w o. rw (v.not j w) }
-
-  pub pair_typed : {a : List ℕ} {x r : ℕ} → Typed s t h p a x → SecondSays d s t h a x q r → PairSays d s t h p q r
+module _ {d : Wanted} {input : Record} {p q : Path} where
+  pub pair_typed : {a : List ℕ} {x r : ℕ} → Typed input p a x → SecondSays d input a x q r → PairSays d input p q r
   pair_typed v k = record { says = λ j w o. let i = v.is j w in k.says j w _ o i.stands i.few ∙ sym (rw (typed_taken v j w)) }

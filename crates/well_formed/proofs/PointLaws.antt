@@ -7,7 +7,7 @@ use native.Mathlib.Omega.{arith}
 use native.Mathlib.Numerals.{add-one}
 use lib.ListN.{length, get_or, drop, drop_of_length-le}
 use lib.Seq.{drop-cons}
-use lib.Dec.{T, eqb, leb, ltb}
+use lib.Dec.{T, leb, ltb}
 use Rattle.nll_spec.specs.Lists.{every, gather}
 use Rattle.nll_spec.specs.Syntax.{Action, Noop, Init, Borrow, Assign, Constraint, Use, Drop, StorageDead, Block, Job, Point, BlockIndex}
 use Rattle.nll_spec.specs.Decode.{code_count}
@@ -17,9 +17,12 @@ use Rattle.nll_spec.proofs.Tests.{is_true, and_left, and_right}
 use Rattle.nll_spec.proofs.GraphLaws.{length-statements}
 use Rattle.record.specs.Layout.{Layout}
 use Rattle.record.specs.declared.Head.{Head}
-use Rattle.refusals.proofs.RowLaws.{Testing, testing_start, testing_fails, testing_more, testing_end, ItemTested}
 use Rattle.refusals.proofs.PartLaws.{every_append, every_both}
-use Rattle.well_formed.specs.Tests.{refusal_of, action_taken}
+use Rattle.well_formed.specs.Tests.{refusal_of, number_in, action_taken}
+use Rattle.repr.specs.declared.refusal.Refusal.{Refusal}
+use Rattle.repr.specs.declared.refusal.Refusal.TheVariants.{Version, Length, Form, Range, Size, Name, Arguments, Path, Shape, Room}
+use Rattle.repr.specs.Refusals.{number_of}
+use Rattle.std.specs.Prelude.{Result, Ok, Err, is_ok}
 
 -- what stands for a point that is not there
 abbrev pub no_point : Statement
@@ -47,9 +50,9 @@ module _ (f : Action → Bool) (none : f Noop ≡ true) where
   unfolding statements_of
   every-point j = every_statement j.blocks 0 0 j.blocks
 
-pub point_tested : (f : Action → Bool) (j : Job) {p : Point} {r : Bool} → r ≡ f (action_at (graph_of j) p) → ItemTested (at_point f) (statements_of j) no_point p r
+point_tested : (f : Action → Bool) (j : Job) (p : Point) {r : Bool} → r ≡ f (action_at (graph_of j) p) → r ≡ at_point f (get_or (statements_of j) p no_point)
 unfolding graph_of
-point_tested f j e = record { says = e }
+point_tested f j p e = e
 
 module _ {s t : List ℕ} {h : Head} {j : Job} (w : Layout s t h j) {code : ℕ} (e : code ≡ h.code) where
   pub points-counted : length (statements_of j) ≡ code
@@ -116,19 +119,52 @@ module _ (j : Job) where
 
 -- ---- The refusal of a point
 
-taken_of : (x y : Bool) {k : ℕ} → k ≡ refusal_of x y → (k ≡ 8 → ⊥) → x ≡ true
-taken_of true y e n = refl
-taken_of false y e n = absurd (n e)
+-- no refusal has the number 0
+pub some_number : (k : Refusal) → number_of k ≡ 0 → ⊥
+some_number Version e = omega arith
+some_number Length e = omega arith
+some_number Form e = omega arith
+some_number Range e = omega arith
+some_number Size e = omega arith
+some_number Name e = omega arith
+some_number Arguments e = omega arith
+some_number Path e = omega arith
+some_number Shape e = omega arith
+some_number Room e = omega arith
 
-untaken_of : (x y : Bool) {k : ℕ} → k ≡ refusal_of x y → k ≡ 8 → x ≡ false
+-- one has the number 8
+path_number : (k : Refusal) → number_of k ≡ 8 → k ≡ Path
+path_number Version e = absurd (omega arith)
+path_number Length e = absurd (omega arith)
+path_number Form e = absurd (omega arith)
+path_number Range e = absurd (omega arith)
+path_number Size e = absurd (omega arith)
+path_number Name e = absurd (omega arith)
+path_number Arguments e = absurd (omega arith)
+path_number Path e = refl
+path_number Shape e = absurd (omega arith)
+path_number Room e = absurd (omega arith)
+
+-- the refusal of an action whose paths may not be taken
+path_refused : (y : Bool) (d : Result (Unit {0}) Refusal) → number_in d ≡ refusal_of false y → d ≡ Err Path
+path_refused y (Ok u) e = absurd (omega arith)
+path_refused y (Err k) e = ap Err (path_number k e)
+
+taken_of : (x y : Bool) {d : Result (Unit {0}) Refusal} → number_in d ≡ refusal_of x y → (d ≡ Err Path → ⊥) → true ≡ x
+taken_of true y e n = refl
+taken_of false y {d} e n = absurd (n (path_refused y d e))
+
+untaken_of : (x y : Bool) {k : ℕ} → k ≡ refusal_of x y → k ≡ 8 → false ≡ x
 untaken_of true true e n = absurd (omega arith)
 untaken_of true false e n = absurd (omega arith)
 untaken_of false y e n = refl
 
-shape_of : (x y : Bool) {k : ℕ} → k ≡ refusal_of x y → (k ≡ 8 → ⊥) → eqb k 0 ≡ y
-shape_of true true e n = rw e
-shape_of true false e n = rw e
-shape_of false y e n = absurd (n e)
+shape_of : (x y : Bool) (d : Result (Unit {0}) Refusal) → number_in d ≡ refusal_of x y → (d ≡ Err Path → ⊥) → is_ok d ≡ y
+shape_of true true (Ok u) e n = refl
+shape_of true true (Err k) e n = absurd (some_number k e)
+shape_of true false (Ok u) e n = absurd (omega arith)
+shape_of true false (Err k) e n = refl
+shape_of false y d e n = absurd (n (path_refused y d e))
 
 -- from item i on
 every_from : {A : Type 0} (f : A → Bool) (xs : List A) (x : A) (i : ℕ) {r : Bool} → i < length xs → r ≡ f (get_or xs i x) → every f (drop i xs) ≡ r && every f (drop (i + 1) xs)
@@ -136,35 +172,29 @@ every_from f xs x i h e = rw (drop-cons xs i x h, add-one, e)
 
 -- all points are tested for both, up to p: their paths may be taken, and `fits` says whether the shapes fit
 pub record Judged (j : Job) (p : Point) (fits : Bool) : Type 0 where
-  pub paths : Testing (at_point (action_taken j)) (statements_of j) p
+  pub paths : every (at_point (action_taken j)) (statements_of j) ≡ every (at_point (action_taken j)) (drop p (statements_of j))
   pub shapes : every (at_point (shape_fits j)) (statements_of j) ≡ fits && every (at_point (shape_fits j)) (drop p (statements_of j))
 
-pub judged-start : (j : Job) → Judged j 0 true
-judged-start j = record { paths = testing_start _ _; shapes = refl }
-
 module _ {j : Job} {code p : ℕ} {fits : Bool} (c : length (statements_of j) ≡ code) (g : Judged j p fits) where
-  module _ {k : ℕ} (l : p < code) (e : k ≡ refusal_of (action_taken j (action_at (graph_of j) p)) (shape_fits j (action_at (graph_of j) p))) where
-    pub judged_stop : k ≡ 8 → T (named j) → 8 ≡ refusal_of (paths_fit j) (shapes_fit j)
-    judged_stop n h =
-        let f : false ≡ paths_fit j = testing_fails c g.paths l (point_tested (action_taken j) j (sym (untaken_of (action_taken j (action_at (graph_of j) p)) (shape_fits j (action_at (graph_of j) p)) e n))) refl ∙ every-path j h in
-        rw (← f)
+  -- a test of all points from p on
+  point_from : p < code → (f : Action → Bool) {r : Bool} → r ≡ f (action_at (graph_of j) p) → every (at_point f) (drop p (statements_of j)) ≡ r && every (at_point f) (drop (p + 1) (statements_of j))
+  point_from l f i = every_from (at_point f) (statements_of j) no_point p (omega arith) (point_tested f j p i)
 
-    pub judged-more : (k ≡ 8 → ⊥) → Judged j (p + 1) (fits && eqb k 0)
+  module _ (l : p < code) {d : Result (Unit {0}) Refusal} (e : number_in d ≡ refusal_of (action_taken j (action_at (graph_of j) p)) (shape_fits j (action_at (graph_of j) p))) where
+    pub judged_stop : d ≡ Err Path → T (named j) → number_in d ≡ refusal_of (paths_fit j) (shapes_fit j)
+    judged_stop n h =
+        let f : paths_fit j ≡ false = sym (every-path j h) ∙ g.paths ∙ point_from l (action_taken j) (untaken_of (action_taken j (action_at (graph_of j) p)) (shape_fits j (action_at (graph_of j) p)) e (ap number_in n)) in
+        ap number_in n ∙ rw f
+
+    pub judged-more : (d ≡ Err Path → ⊥) → Judged j (p + 1) (fits && is_ok d)
     judged-more n = record {
-      paths = testing_more c g.paths l (point_tested (action_taken j) j (sym (taken_of (action_taken j (action_at (graph_of j) p)) (shape_fits j (action_at (graph_of j) p)) e n))) refl;
-      shapes = g.shapes ∙ ap (λ (z : Bool). fits && z) (every_from (at_point (shape_fits j)) (statements_of j) no_point p (omega arith) (point_tested (shape_fits j) j (shape_of (action_taken j (action_at (graph_of j) p)) (shape_fits j (action_at (graph_of j) p)) e n)).says) ∙ sym (and_assoc fits (eqb k 0) _);
+      paths = g.paths ∙ point_from l (action_taken j) (taken_of (action_taken j (action_at (graph_of j) p)) (shape_fits j (action_at (graph_of j) p)) e n);
+      shapes = g.shapes ∙ ap (λ (z : Bool). fits && z) (point_from l (shape_fits j) (shape_of (action_taken j (action_at (graph_of j) p)) (shape_fits j (action_at (graph_of j) p)) d e n)) ∙ sym (and_assoc fits (is_ok d) _);
     }
 
-  module _ (l : code ≤ p) (h : T (named j)) where
-    judged-all : refusal_of (paths_fit j) (shapes_fit j) ≡ cond fits 0 9
-    judged-all =
-        let a : paths_fit j ≡ true = sym (every-path j h) ∙ sym (testing_end c g.paths l) in
-        let o : length (statements_of j) ≤ p = omega arith in
-        let b : shapes_fit j ≡ fits = sym (every_shape j) ∙ g.shapes ∙ rw (drop_of_length-le (statements_of j) o) (and-true fits) in
-        rw (a, b)
-
-    pub judged-end : fits ≡ true → 0 ≡ refusal_of (paths_fit j) (shapes_fit j)
-    judged-end e = sym (judged-all ∙ rw e)
-
-    pub judged-not : fits ≡ false → 9 ≡ refusal_of (paths_fit j) (shapes_fit j)
-    judged-not e = sym (judged-all ∙ rw e)
+  pub judged-all : code ≤ p → T (named j) → refusal_of (paths_fit j) (shapes_fit j) ≡ cond fits 0 9
+  judged-all l h =
+      let o : length (statements_of j) ≤ p = omega arith in
+      let a : paths_fit j ≡ true = sym (every-path j h) ∙ g.paths ∙ rw (drop_of_length-le (statements_of j) o) in
+      let b : shapes_fit j ≡ fits = sym (every_shape j) ∙ g.shapes ∙ rw (drop_of_length-le (statements_of j) o) (and-true fits) in
+      rw (a, b)

@@ -1,5 +1,5 @@
 -- What the tests of refusals 8 and 9 say.
-use Rattle.std.specs.Prelude.{◌≡◌, Bool, true, ◌&&◌, cond, List, ℕ, ◌≤◌}
+use Rattle.std.specs.Prelude.{◌≡◌, Bool, true, ◌&&◌, cond, List, ℕ, ◌≤◌, Option, Result, Ok, Err}
 use Rattle.nll_spec.specs.Lists.{every}
 use Rattle.nll_spec.specs.Syntax as syntax
 use Rattle.nll_spec.specs.Syntax.{Free, Region, Ty, RefTy, Job}
@@ -10,8 +10,10 @@ use Rattle.repr.specs.Reading.{borrow_kind_of, path_of}
 use Rattle.repr.specs.declared.Path.{Path}
 use Rattle.repr.specs.declared.Action.{Action}
 use Rattle.repr.specs.declared.Action.TheVariants.{Noop, Init, Borrow, Assign, Constraint, Use, Drop, StorageDead}
-use Rattle.record.specs.Layout.{Layout}
-use Rattle.record.specs.declared.Head.{Head}
+use Rattle.record.specs.Layout.{Holds}
+use Rattle.record.specs.declared.Record.{Record}
+use Rattle.repr.specs.Refusals.{number_of}
+use Rattle.repr.specs.declared.refusal.Refusal.{Refusal}
 use Rattle.repr.specs.Stands.{TypeAt}
 use Rattle.env.specs.Paths.{PathSays}
 use Rattle.env.specs.declared.paths.PathType.{PathType}
@@ -22,6 +24,11 @@ use Rattle.well_formed.specs.declared.shapes.Wanted.TheVariants.{Same, RefTo}
 abbrev pub refusal_of : Bool → Bool → ℕ
 refusal_of taken fits = cond taken (cond fits 0 9) 8
 
+-- the number of a refusal, or 0 where there is none
+abbrev pub number_in : Result (Unit {0}) Refusal → ℕ
+number_in (Ok u) = 0
+number_in (Err k) = number_of k
+
 -- ---- 8
 
 -- a path begins at a variable, and its steps may be taken
@@ -29,10 +36,10 @@ abbrev pub path_taken : Job → syntax.Path → Bool
 path_taken j p = path_named j p && path_fits j p
 
 -- The type of a path, whatever its steps leave.
-pub record TypeSays (s t : List ℕ) (h : Head) (p : Path) (out : List ℕ) (r : PathType) : Type 0 where
+pub record TypeSays (input : Record) (p : Path) (out : List ℕ) (r : Option PathType) : Type 0 where
   pub kinds : List ℕ
   pub names : List ℕ
-  pub says : PathSays s t h p out kinds names r
+  pub says : PathSays input p out kinds names r
 
 -- all paths of an action
 abbrev pub action_taken : Job → syntax.Action → Bool
@@ -61,12 +68,12 @@ pub record TypesFit (wanted : Wanted) (a : List ℕ) (x : ℕ) (b : List ℕ) (y
   pub says : (t u : Ty) (o : Region) → TypeAt a x t → TypeAt b y u → type_nodes t ≤ max_nodes → type_nodes u ≤ max_nodes → r ≡ cond (fitting wanted o t u) 0 9
 
 -- The answer is the refusal of the type that stands there and of the path q.
-pub record SecondSays (wanted : Wanted) (s t : List ℕ) (h : Head) (a : List ℕ) (x : ℕ) (q : Path) (r : ℕ) : Type 0 where
-  pub says : (j : Job) → Layout s t h j → (u : Ty) (o : Region) → TypeAt a x u → type_nodes u ≤ max_nodes → r ≡ refusal_of (path_taken j (path_of s q)) (fitting wanted o u (path_type j (path_of s q)))
+pub record SecondSays (wanted : Wanted) (input : Record) (a : List ℕ) (x : ℕ) (q : Path) (r : ℕ) : Type 0 where
+  pub says : (j : Job) → Holds input j → (u : Ty) (o : Region) → TypeAt a x u → type_nodes u ≤ max_nodes → r ≡ refusal_of (path_taken j (path_of input.bytes.now q)) (fitting wanted o u (path_type j (path_of input.bytes.now q)))
 
 -- The answer is the refusal of the paths p and q.
-pub record PairSays (wanted : Wanted) (s t : List ℕ) (h : Head) (p q : Path) (r : ℕ) : Type 0 where
-  pub says : (j : Job) → Layout s t h j → (o : Region) → r ≡ refusal_of (path_taken j (path_of s p) && path_taken j (path_of s q)) (fitting wanted o (path_type j (path_of s p)) (path_type j (path_of s q)))
+pub record PairSays (wanted : Wanted) (input : Record) (p q : Path) (r : ℕ) : Type 0 where
+  pub says : (j : Job) → Holds input j → (o : Region) → r ≡ refusal_of (path_taken j (path_of input.bytes.now p) && path_taken j (path_of input.bytes.now q)) (fitting wanted o (path_type j (path_of input.bytes.now p)) (path_type j (path_of input.bytes.now q)))
 
 -- what is assigned or borrowed has the shape of where it goes
 abbrev pub own_shape : Job → List ℕ → Action → Bool

@@ -1,18 +1,16 @@
 -- `borrowck::verdict` meets its contract. Assumes nothing.
-use Rattle.borrowck.proofs.FaultLaws.{verdict_free, verdict_refused, verdict_idle, verdict_there}
+use Rattle.repr.proofs.ReadLaws.{ok_some}
+use Rattle.borrowck.proofs.FaultLaws.{verdict_free, verdict_idle, verdict_clear, verdict_fault}
 use Rattle.borrowck.proofs.verdict.Goals as goal
 
 pub returns-then-not-some_in_scope : goal.returns-then-not-some_in_scope
-returns-then-not-some_in_scope c = verdict_free c.some_in_scope.ensures c.if-not-some_in_scope.true
+returns-then-not-some_in_scope c = verdict_free c.args.input.now c.args.loans.now c.args.scope.now c.args.p c.some_in_scope.ensures c.if-not-some_in_scope.true
 
 pub returns-then-accesses-eq0 : goal.returns-then-accesses-eq0
-returns-then-accesses-eq0 c = verdict_idle c.action_at.ensures c.in-Action.is c.accesses_of-accesses.ensures c.if-accesses-eq0.true
+returns-then-accesses-eq0 c = verdict_idle c.args.input.now c.args.loans.now c.args.scope.now c.args.p c.action_at.ensures (ok_some c.ok.ensures.value c.in_ok-a.was) c.accesses_of-accesses.ensures c.if-accesses-eq0.true
 
-pub check_accesses-k-requires : goal.check_accesses-k-requires
-check_accesses-k-requires c = (c.requires.1, c.accesses_of-accesses.ensures.few, c.some_in_scope.ensures.here c.if-not-some_in_scope.false)
+pub returns-in_err-k : goal.returns-in_err-k
+returns-in_err-k c = rw c.from_residual-in_err-k.ensures (verdict_clear c.args.input.now c.args.loans.now c.args.scope.now c.args.p c.action_at.ensures (ok_some c.ok.ensures.value c.in_ok-a.was) c.accesses_of-accesses.ensures c.check_accesses.ensures c.in_err-k.was)
 
-pub returns-in-Refused : goal.returns-in-Refused
-returns-in-Refused c = verdict_refused c.action_at.ensures c.in-Refused.is
-
-pub returns-else-accesses-eq0 : goal.returns-else-accesses-eq0
-returns-else-accesses-eq0 c = verdict_there c.action_at.ensures c.in-Action.is c.accesses_of-accesses.ensures c.check_accesses-k.ensures c.fault_at.ensures
+pub returns : goal.returns
+returns c = verdict_fault c.args.input.now c.args.loans.now c.args.scope.now c.args.p c.action_at.ensures (ok_some c.ok.ensures.value c.in_ok-a.was) c.accesses_of-accesses.ensures c.check_accesses.ensures c.in_ok-k.was

@@ -10,4 +10,4 @@ by_tables-requires g c =
     let n = g.row.N in
     let r = c.requires in
     let long = length-replicate {A = ℕ} n in
-    (r.0, r.3, r.4, r.5, start_blank n _ r.1, omega (arith, r.1, long 0), omega (arith, r.1, long 4294967295), r.6, r.7)
+    (r.2, r.3, r.4, start_blank n _ r.0, omega (arith, r.0, long 0), omega (arith, r.0, long 4294967295), r.5, r.6)

@@ -5,5 +5,5 @@ use Rattle.loans.proofs.kind_of.Goals as goal
 pub returns-then-x-eq0 : goal.returns-then-x-eq0
 returns-then-x-eq0 c = kind_mut c.args.x c.if-x-eq0.true
 
-pub returns : goal.returns
-returns c = kind_shared c.args.x c.if-x-eq0.false
+pub returns-else-x-eq0 : goal.returns-else-x-eq0
+returns-else-x-eq0 c = kind_shared c.args.x c.if-x-eq0.false

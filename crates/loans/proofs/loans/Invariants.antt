@@ -1,10 +1,6 @@
 -- `loans::loans` meets its contract. Assumes nothing.
-use Prim.Native.Nat.{◌-◌, ◌≤◌}
 use Rattle.loans.proofs.LendLaws.{Lending}
 use Rattle.loans.proofs.loans.Given as goal
 
 abbrev pub invariant-loop-p : goal.invariant-loop-p
-invariant-loop-p l = (l.p ≤ l.code) × (l.code ≤ 1024) × Lending l.s l.layout l.head l.walked l.p l.table l.n
-
-abbrev pub decreases-loop-p : goal.decreases-loop-p
-decreases-loop-p l = l.code - l.p
+invariant-loop-p l = Lending l.input l.walked l.p l.lent.numbers l.n

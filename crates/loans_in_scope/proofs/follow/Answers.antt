@@ -1,12 +1,8 @@
 -- `loans_in_scope::follow`. The loop's invariant: the points so far have what leaves p. Assumes nothing.
 use mathlib.Core.Path.{◌∙◌}
 use native.Mathlib.Omega.{arith}
-use Rattle.loans_in_scope.proofs.GainsLaws.{leaving_none, leaving_more, leaving_all}
-use borrow.Author.Rules.{rules}
+use Rattle.loans_in_scope.proofs.GainsLaws.{leaving_more, leaving_all}
 use Rattle.loans_in_scope.proofs.follow.Goals as goal
-
-pub loop-s-init : goal.loop-s-init
-loop-s-init c = let a = c.args in (search rules, leaving_none a.from.now a.code a.graph.now.first a.graph.now.succ a.scope.now a.p)
 
 pub loop-s-preserved : goal.loop-s-preserved
 loop-s-preserved c = let a = c.args in

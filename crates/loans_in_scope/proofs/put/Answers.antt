@@ -1,9 +1,6 @@
 -- `loans_in_scope::put`. Assumes nothing.
-use Rattle.loans_in_scope.proofs.GainsLaws.{gains_with, gains_not}
+use Rattle.loans_in_scope.proofs.GainsLaws.{gains_with}
 use Rattle.loans_in_scope.proofs.put.Goals as goal
 
 pub returns-then-comes : goal.returns-then-comes
 returns-then-comes c = rw c.add.ensures.0 (gains_with c.args.sets.now c.args.p c.args.i c.requires.0 c.requires.1 c.if-comes.true)
-
-pub returns-else-comes : goal.returns-else-comes
-returns-else-comes c = gains_not c.args.sets.now c.args.p c.args.i c.if-comes.false

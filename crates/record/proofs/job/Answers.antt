@@ -1,19 +1,14 @@
 -- `record::job` meets its contract. Assumes nothing.
-use Rattle.record.proofs.LayoutLaws.{job-counts, counts-fit, parts_result, job-refused, whole_says}
+use Rattle.record.proofs.LayoutLaws.{job-counts, job-refused, whole_says}
+use Rattle.repr.proofs.ReadLaws.{passed_on}
 use mathlib.Core.Path.{◌∙◌}
 use Rattle.record.proofs.job.Goals as goal
 
-pub parts-requires : goal.parts-requires
-parts-requires c = (counts-fit c.counts.ensures c.in-Counts.is, c.requires.0, c.requires.1)
+pub returns-in_err-n : goal.returns-in_err-n
+returns-in_err-n c = rw (passed_on c.from_residual.ensures) (job-refused _ (job-counts c.counts.ensures c.in_err-n.was))
 
-pub verdict-requires : goal.verdict-requires
-verdict-requires c = (parts_result c.parts.ensures c.in-Ended.is).most
+pub returns-in_err-code : goal.returns-in_err-code
+returns-in_err-code c = rw (passed_on c.from_residual-in_err-code.ensures) (job-refused _ (job-counts c.counts.ensures c.in_ok-n.was ∙ c.in_err-code.ensures.result))
 
-pub returns-in-Refused : goal.returns-in-Refused
-returns-in-Refused c = job-refused _ (job-counts c.counts.ensures c.in-Refused.is)
-
-pub returns-in-Refused-parts : goal.returns-in-Refused-parts
-returns-in-Refused-parts c = job-refused _ (job-counts c.counts.ensures c.in-Counts.is ∙ parts_result c.parts.ensures c.in-Refused-parts.is)
-
-pub returns-in-Ended : goal.returns-in-Ended
-returns-in-Ended c = whole_says _ (parts_result c.parts.ensures c.in-Ended.is) _ (job-counts c.counts.ensures c.in-Counts.is) c.verdict.ensures
+pub returns : goal.returns
+returns c = whole_says _ c.in_ok-code.ensures.result _ (job-counts c.counts.ensures c.in_ok-n.was) c.verdict.ensures

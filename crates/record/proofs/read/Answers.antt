@@ -13,10 +13,10 @@ pub returns-then-s-lt3 : goal.returns-then-s-lt3
 returns-then-s-lt3 c = record { says = length-missing _ c.if-s-lt1.false c.if-s-ne1.false c.if-s-lt3.true }
 
 pub returns-then-n-gt16384 : goal.returns-then-n-gt16384
-returns-then-n-gt16384 c = record { says = length_over _ c.if-s-ne1.false c.if-s-lt3.false c.wide.ensures.0 c.wide-2.ensures.0 c.if-n-gt16384.true }
+returns-then-n-gt16384 c = record { says = length_over _ c.if-s-ne1.false c.if-s-lt3.false c.from.ensures c.from-2.ensures c.if-n-gt16384.true }
 
 pub returns-then-n-s : goal.returns-then-n-s
-returns-then-n-s c = record { says = length_other _ c.if-s-ne1.false c.if-s-lt3.false c.wide.ensures.0 c.wide-2.ensures.0 c.if-n-gt16384.false c.if-n-s.true }
+returns-then-n-s c = record { says = length_other _ c.if-s-ne1.false c.if-s-lt3.false c.from.ensures c.from-2.ensures c.if-n-gt16384.false c.if-n-s.true }
 
 pub returns : goal.returns
-returns c = says_as (length_right _ c.if-s-ne1.false c.if-s-lt3.false c.wide.ensures.0 c.wide-2.ensures.0 c.if-n-gt16384.false c.if-n-s.false) refl c.job.ensures
+returns c = says_as (length_right _ c.if-s-ne1.false c.if-s-lt3.false c.from.ensures c.from-2.ensures c.if-n-gt16384.false c.if-n-s.false) refl c.job.ensures

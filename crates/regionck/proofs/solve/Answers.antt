@@ -9,10 +9,10 @@ use borrow.Author.Rules.{rules}
 use Rattle.regionck.proofs.solve.Goals as goal
 
 pub loop-init : goal.loop-init
-loop-init c = (search rules, c.clear.ensures.sized, search rules, search rules, search rules, sound_none c.requires.2, kept-none c.clear-2.ensures.1, going_start (omega arith) c.clear.ensures)
+loop-init c = (search rules, c.clear.ensures.sized, search rules, search rules, search rules, sound_none c.requires.1, kept-none c.clear-2.ensures.1, going_start (omega arith) c.clear.ensures)
 
 pub round-last-requires : goal.round-last-requires
-round-last-requires c = (c.requires.0, c.collect-to.ensures, c.loop.invariant.5)
+round-last-requires c = (c.collect-to.ensures, c.loop.invariant.5)
 
 pub shape_of-recent-then-not-any_marked : goal.shape_of-recent-then-not-any_marked
 shape_of-recent-then-not-any_marked c = omega (arith, c.recent-in-loop-1, c.loop.invariant.2, c.recent-1)

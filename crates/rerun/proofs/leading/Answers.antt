@@ -3,9 +3,6 @@ use native.Mathlib.Omega.{arith}
 use Rattle.rerun.proofs.KeepLaws.{start_small}
 use Rattle.rerun.proofs.leading.Goals as goal
 
-pub loop-r-init : goal.loop-r-init
-loop-r-init c = omega arith
-
 pub overflow_mul-r : goal.overflow_mul-r
 overflow_mul-r c = omega (arith, start_small c.loop-r.r c.args.width (omega arith) (omega arith))
 

@@ -13,5 +13,5 @@ returns-then-all_in c = more-none
 
 pub returns : goal.returns
 returns c =
-    let held = held_more c.point.ensures (held_none {from = c.args.p} refl (omega (arith, c.requires.1))) (omega arith) c.requires.1 in
+    let held = held_more c.point.ensures (held_none {from = c.args.p} refl (omega (arith, c.requires))) (omega arith) c.requires in
     more-held held c.rerun-next.ensures

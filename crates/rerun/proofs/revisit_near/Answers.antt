@@ -1,14 +1,10 @@
 -- `rerun::revisit_near`. The loop's invariant: more of the job's constraints are run. Assumes nothing.
-use native.Mathlib.Omega.{arith}
 use Rattle.rerun.proofs.RerunLaws.{more-none, more_then}
 use borrow.Author.Rules.{rules}
 use Rattle.rerun.proofs.revisit_near.Goals as goal
 
 pub loop-p-init : goal.loop-p-init
 loop-p-init c = (search rules, search rules, more-none)
-
-pub revisit-requires : goal.revisit-requires
-revisit-requires c = (c.requires, omega arith)
 
 pub loop-p-preserved : goal.loop-p-preserved
 loop-p-preserved c = (search rules, search rules, more_then c.loop-p.invariant.2 c.revisit.ensures)

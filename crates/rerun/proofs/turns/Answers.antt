@@ -1,5 +1,4 @@
 -- `rerun::turns`. The loop's invariant: more of the job's constraints are run. Assumes nothing.
-use native.Mathlib.Omega.{arith}
 use Rattle.rerun.proofs.RerunLaws.{more-none, more_recent, more_then}
 use borrow.Author.Rules.{rules}
 use Rattle.rerun.proofs.turns.Goals as goal
@@ -13,7 +12,7 @@ returns-then-not-any_marked c = c.loop.invariant.3
 pub loop-preserved : goal.loop-preserved
 loop-preserved c =
     let loop = c.loop in
-    (search rules, search rules, omega (arith, c.before-1, loop.invariant.2), λ to held. more_then (more_then (loop.invariant.3 to held) (c.turn-last.ensures to held)) (more_recent c.settle.ensures))
+    (search rules, search rules, search rules, λ to held. more_then (more_then (loop.invariant.3 to held) (c.turn-last.ensures to held)) (more_recent c.settle.ensures))
 
 pub returns : goal.returns
 returns c = c.loop.invariant.3

@@ -1,15 +1,15 @@
 -- `well_formed::judge` meets its contract. Assumes nothing.
+use mathlib.Core.Path.{ap}
+use Rattle.repr.proofs.ReadLaws.{passed_on}
+use Rattle.well_formed.specs.Tests.{number_in}
 use Rattle.well_formed.proofs.JudgeLaws as laws
 use Rattle.well_formed.proofs.judge.Goals as goal
 
-pub refusal-k-requires : goal.refusal-k-requires
-refusal-k-requires c = laws.table_size c.read.ensures c.in-Job.is
+pub returns-in_err-head : goal.returns-in_err-head
+returns-in_err-head c = rw (passed_on c.from_residual.ensures) (laws.record_refused c.read.ensures c.in_err-head.was)
 
-pub returns-in-Refused : goal.returns-in-Refused
-returns-in-Refused c = laws.record_refused c.read.ensures c.in-Refused.is
+pub returns-in_err-refusal : goal.returns-in_err-refusal
+returns-in_err-refusal c = rw (passed_on c.from_residual-in_err-refusal.ensures) (laws.job-refused c.read.ensures c.in_ok-head.was c.refusal.ensures (ap number_in c.in_err-refusal.was))
 
-pub returns-then-k-eq0 : goal.returns-then-k-eq0
-returns-then-k-eq0 c = laws.record_accepted c.read.ensures c.in-Job.is c.refusal-k.ensures c.if-k-eq0.true
-
-pub returns-else-k-eq0 : goal.returns-else-k-eq0
-returns-else-k-eq0 c = laws.job-refused c.read.ensures c.in-Job.is c.refusal-k.ensures c.if-k-eq0.false
+pub returns : goal.returns
+returns c = laws.record_accepted c.read.ensures c.in_ok-head.was c.refusal.ensures (ap number_in c.in_ok-refusal.was)

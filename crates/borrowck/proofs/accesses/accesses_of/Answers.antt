@@ -1,5 +1,4 @@
 -- `borrowck::accesses::accesses_of` meets its contract. Assumes nothing.
-use mathlib.Core.Path.{refl}
 use Rattle.borrowck.proofs.AccessLaws.{action_init, action-borrow, action_assign, action_use, action-drop, action_dead, action_idle}
 use Rattle.borrowck.proofs.accesses.accesses_of.Goals as goal
 
@@ -21,5 +20,5 @@ returns-in-Drop c = action-drop c.one-in-Drop.ensures c.in-Drop.is c.move_out.en
 pub returns-in-StorageDead : goal.returns-in-StorageDead
 returns-in-StorageDead c = action_dead c.one-in-StorageDead.ensures c.in-StorageDead.is c.storage_dead.ensures
 
-pub returns-in_default : goal.returns-in_default
-returns-in_default c = action_idle c.args.a c.in_default.not-Init c.in_default.not-Borrow c.in_default.not-Assign c.in_default.not-Use c.in_default.not-Drop c.in_default.not-StorageDead refl
+pub returns-in-Noop : goal.returns-in-Noop
+returns-in-Noop c = action_idle c.in-Noop.is c.none.ensures

@@ -1,21 +1,28 @@
--- `env::fields::field_type` meets its contract. Assumes nothing.
+use Prim.Native.Nat.{◌+◌, ◌-◌}
+use mathlib.Core.Path.{◌≡◌, sym}
+use native.Mathlib.Omega.{arith}
+use native.Mathlib.Nat.{sub-zero}
+use borrow.Author.Tests.{eqb-true}
+use Rattle.ty.proofs.FoundLaws.{got, refused_by}
 use Rattle.env.proofs.FieldLaws as laws
 use Rattle.env.proofs.fields.field_type.Goals as goal
 
-pub loop-left-init : goal.loop-left-init
-loop-left-init c = laws.seeking _ _ _ _
+pub loop-init : goal.loop-init
+loop-init c = rw sub-zero (laws.seeking _ _ _ _)
 
-pub returns-in_default : goal.returns-in_default
-returns-in_default c = record { says = λ x w. laws.seeking_refused c.loop-left.invariant c.loop-left-test.true c.field.ensures c.in_default.is x.fields w.fields }
+pub returns-in_err-number : goal.returns-in_err-number
+returns-in_err-number c = rw c.from_residual.ensures (record { says = λ x w. laws.seeking_refused c.loop.invariant (λ z. omega arith) c.field.ensures (refused_by c.ok.ensures.value c.in_err-number.was).1 x.fields w.fields })
 
-pub returns-then-number-f : goal.returns-then-number-f
-returns-then-number-f c = record { says = λ x w. laws.seeking_found c.loop-left.invariant c.loop-left-test.true c.field.ensures c.in-Field.is c.if-number-f.true x.fields w.fields }
+pub returns-then-eq : goal.returns-then-eq
+returns-then-eq c = record { says = λ x w. laws.seeking_found c.loop.invariant (λ z. omega arith) c.field.ensures (got c.ok.ensures.value c.in_ok-number.was) (eqb-true _ _ (sym c.if-eq.ensures)) x.fields w.fields }
 
-pub returns-in_default-ty : goal.returns-in_default-ty
-returns-in_default-ty c = record { says = λ x w. laws.seeking_short c.loop-left.invariant c.loop-left-test.true c.field.ensures c.in-Field.is c.if-number-f.false c.ty.ensures c.in_default-ty.is x.fields w.fields }
+pub returns-in_err-c : goal.returns-in_err-c
+returns-in_err-c c = rw c.from_residual-in_err-c.ensures (record { says = λ x w. laws.seeking_short c.loop.invariant (λ z. omega arith) c.field.ensures (got c.ok.ensures.value c.in_ok-number.was) (laws.differ c.if-eq.ensures) c.ty.ensures (refused_by c.ok-in-loop.ensures.value c.in_err-c.was).1 x.fields w.fields })
 
-pub loop-left-preserved : goal.loop-left-preserved
-loop-left-preserved c = laws.seeking_more c.loop-left.invariant c.loop-left-test.true c.field.ensures c.in-Field.is c.if-number-f.false c.ty.ensures c.in-Ended.is
+pub loop-preserved : goal.loop-preserved
+loop-preserved c =
+    let i : c.args.d.fields - (c.loop.counter + 1) ≡ c.args.d.fields - c.loop.counter - 1 = omega arith in
+    rw i (laws.seeking_more c.loop.invariant (λ z. omega arith) c.field.ensures (got c.ok.ensures.value c.in_ok-number.was) (laws.differ c.if-eq.ensures) c.ty.ensures (got c.ok-in-loop.ensures.value c.in_ok-c.was))
 
 pub returns : goal.returns
-returns c = record { says = λ x w. laws.seeking_end c.loop-left.invariant c.loop-left-test.false x.fields w.fields }
+returns c = record { says = λ x w. laws.seeking_end c.loop.invariant (omega arith) x.fields w.fields }

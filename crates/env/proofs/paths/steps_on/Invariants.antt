@@ -1,12 +1,16 @@
--- `env::paths::steps_on` meets its contract. Assumes nothing.
-use Rattle.env.proofs.PathLaws as laws
 use mathlib.Core.Path.{◌≡◌}
-use Prim.Native.Nat.{◌+◌, ◌≤◌}
 use lib.ListN.{length}
+use Prim.Native.Nat.{◌+◌, ◌≤◌}
+use Rattle.env.specs.Steps.{kinds_of, names_of}
+use Rattle.env.proofs.PathLaws as laws
 use Rattle.env.proofs.paths.steps_on.Given as goal
 
-abbrev pub invariant-loop-left : goal.invariant-loop-left
-invariant-loop-left l = (length l.kinds ≡ 8) × (length l.names ≡ 8) × (l.i + l.left ≤ 255) × laws.Onward l.s l.layout l.head l.initial.out 0 l.initial.kinds l.initial.names l.initial.i l.initial.at.at l.initial.left l.out 0 l.kinds l.names l.i l.at.at l.left
+abbrev pub invariant-loop-ahead : goal.invariant-loop-ahead
+invariant-loop-ahead l = record {
+  size : length l.taken ≡ 8;
+  few : l.ahead.i + l.ahead.left ≤ 255;
+  onward : laws.Onward l.input l.initial.out 0 (kinds_of l.initial.taken) (names_of l.initial.taken) l.initial.ahead.i l.initial.ahead.at.at l.initial.ahead.left l.out 0 (kinds_of l.taken) (names_of l.taken) l.ahead.i l.ahead.at.at l.ahead.left;
+}
 
-abbrev pub decreases-loop-left : goal.decreases-loop-left
-decreases-loop-left l = l.left
+abbrev pub decreases-loop-ahead : goal.decreases-loop-ahead
+decreases-loop-ahead l = l.ahead.left

@@ -1,12 +1,12 @@
--- `env::paths::steps_within` meets its contract. Assumes nothing.
-use Rattle.env.proofs.PathLaws as laws
 use mathlib.Core.Path.{◌≡◌}
-use Prim.Native.Nat.{◌+◌, ◌≤◌}
 use lib.ListN.{length}
+use Prim.Native.Nat.{◌+◌, ◌-◌}
+use Rattle.env.specs.Steps.{kinds_of, names_of}
+use Rattle.env.proofs.PathLaws as laws
 use Rattle.env.proofs.paths.steps_within.Given as goal
 
-abbrev pub invariant-loop-left : goal.invariant-loop-left
-invariant-loop-left l = (length l.kinds ≡ 8) × (length l.names ≡ 8) × (l.left ≤ l.initial.left) × (l.i + l.left ≤ l.initial.i + l.initial.left) × laws.Onward l.s l.layout l.head l.from l.initial.c.at l.initial.kinds l.initial.names l.initial.i l.initial.at.at l.initial.left l.from l.c.at l.kinds l.names l.i l.at.at l.left
-
-abbrev pub decreases-loop-left : goal.decreases-loop-left
-decreases-loop-left l = l.left
+abbrev pub invariant-loop-k : goal.invariant-loop-k
+invariant-loop-k l = record {
+  size : length l.taken ≡ 8;
+  onward : laws.Onward l.input l.from l.initial.c.at (kinds_of l.initial.taken) (names_of l.initial.taken) l.ahead.i l.ahead.at.at l.ahead.left l.from l.c.at (kinds_of l.taken) (names_of l.taken) (l.ahead.i + l.k) l.at.at (l.ahead.left - l.k);
+}

@@ -1,16 +1,14 @@
--- `env::prefixes::shortest` meets its contract. Assumes nothing.
-use Rattle.env.proofs.PrefixLaws as laws
-use mathlib.Core.Path.{ap}
-use Prim.Native.Nat.{ℕ, ◌-◌}
+use mathlib.Core.Path.{sym}
+use Prim.Native.Nat.{◌<◌}
 use native.Mathlib.Omega.{arith}
-use lib.ListN.{get_or}
+use lib.ListN.{length}
+use Rattle.std.proofs.lemmas.List.{get_or-map, length-map}
+use Rattle.env.specs.Steps.{kind_in, kinds_of}
+use Rattle.env.proofs.PrefixLaws as laws
 use Rattle.env.proofs.prefixes.shortest.Goals as goal
 
-pub loop-i-init : goal.loop-i-init
-loop-i-init c = (omega arith, laws.shortest-none _)
-
 pub loop-i-preserved : goal.loop-i-preserved
-loop-i-preserved c = (omega arith, laws.shortest-more c.loop-i.invariant.1 (omega arith) (ap (λ (n : ℕ). get_or c.args.kinds.now n 0) c.wide.ensures.0) c.later-r.ensures)
-
-pub returns : goal.returns
-returns c = laws.shortest-end c.loop-i.invariant.1 (omega arith) (omega arith) (λ h. omega arith)
+loop-i-preserved c =
+    let h : c.loop-i.i < length c.args.taken.now = omega arith in
+    let k : c.loop-i.i < length (kinds_of c.args.taken.now) = rw (length-map c.args.taken.now kind_in) h in
+    laws.shortest-more c.loop-i.invariant k (rw c.from.ensures (sym (get_or-map kind_in c.args.taken.now c.loop-i.i _ 0 h))) c.later-r.ensures

@@ -1,12 +1,13 @@
 -- `graph::edges::block` meets its contract. Assumes nothing.
 use Rattle.graph.proofs.EdgeLaws.{no_point_lem, no_entry, block-rows}
+use Rattle.std.proofs.Common.{rules}
 use Rattle.graph.proofs.edges.block.Goals as goal
 
 pub returns-then-end_point-ge1024 : goal.returns-then-end_point-ge1024
-returns-then-end_point-ge1024 c = no_point_lem _ _ _ _ c.requires.2 c.requires.1 c.shape-d.ensures c.if-end_point-ge1024.true
+returns-then-end_point-ge1024 c = no_point_lem _ _ _ _ (search rules) c.requires c.shape-d.ensures c.if-end_point-ge1024.true
 
 pub returns-then-end_entry-d-gt1536 : goal.returns-then-end_entry-d-gt1536
-returns-then-end_entry-d-gt1536 c = no_entry _ _ _ _ c.requires.2 c.requires.1 c.shape-d.ensures c.if-end_entry-d-gt1536.true
+returns-then-end_entry-d-gt1536 c = no_entry _ _ _ _ (search rules) c.requires c.shape-d.ensures c.if-end_entry-d-gt1536.true
 
 pub returns : goal.returns
-returns c = block-rows _ _ _ _ c.requires.2 c.requires.1 c.shape-d.ensures c.if-end_point-ge1024.false c.if-end_entry-d-gt1536.false c.chain.ensures c.end.ensures
+returns c = block-rows _ _ _ _ (search rules) c.requires c.shape-d.ensures c.if-end_point-ge1024.false c.if-end_entry-d-gt1536.false c.chain.ensures c.end.ensures

@@ -1,13 +1,10 @@
 -- `graph::shapes::listed` meets its contract. Assumes nothing.
-use Rattle.graph.proofs.ShapeLaws.{listed_none, listed_cut, listed_whole}
+use Rattle.graph.proofs.ShapeLaws.{listed_none, listed_within}
 use native.Mathlib.Omega.{arith}
 use Rattle.graph.proofs.shapes.listed.Goals as goal
 
 pub returns-then-s-from : goal.returns-then-s-from
 returns-then-s-from c = listed_none _ c.args.d c.from-actions.ensures (omega arith) c.from-count.ensures (omega arith) c.if-s-from.true
 
-pub returns-then-s-from-2 : goal.returns-then-s-from-2
-returns-then-s-from-2 c = listed_cut _ c.args.d c.from-actions.ensures (omega arith) c.from-count.ensures (omega arith) c.if-s-from.false c.if-s-from-2.true
-
 pub returns : goal.returns
-returns c = listed_whole _ c.args.d c.from-actions.ensures (omega arith) c.from-count.ensures (omega arith) c.if-s-from.false c.if-s-from-2.false
+returns c = listed_within _ c.args.d c.from-actions.ensures (omega arith) c.from-count.ensures (omega arith) c.if-s-from.false c.min.ensures

@@ -2,5 +2,5 @@
 use Rattle.listing.proofs.PlaceLaws.{count_job}
 use Rattle.listing.proofs.places.count.Goals as goal
 
-pub returns-in-Job : goal.returns-in-Job
-returns-in-Job c = count_job c.read.ensures c.in-Job.is c.from.ensures
+pub returns-in-Ok : goal.returns-in-Ok
+returns-in-Ok c = count_job c.read.ensures c.in-Ok.is c.from.ensures

@@ -2,8 +2,5 @@
 use Rattle.liveness.proofs.NeedLaws.{Sourcing}
 use Rattle.liveness.proofs.actions.sources.Given as goal
 
-abbrev pub invariant-loop-left : goal.invariant-loop-left
-invariant-loop-left l = Sourcing l.s l.initial.c l.count l.c l.left l.p l.initial.sets l.sets
-
-abbrev pub decreases-loop-left : goal.decreases-loop-left
-decreases-loop-left l = l.left
+abbrev pub invariant-loop : goal.invariant-loop
+invariant-loop l = Sourcing l.s l.initial.c l.count l.c l.counter l.p l.initial.sets l.sets

@@ -5,7 +5,7 @@ use Rattle.nll.proofs.WriteLaws.{writes}
 use Rattle.nll.proofs.answer.write.Goals as goal
 
 pub marks-requires : goal.marks-requires
-marks-requires c = (c.solve.ensures.size, c.requires.1, marks-room c.args.head (length c.args.words.now) (length c.args.bytes.now) c.requires.2 c.verdicts.ensures.size)
+marks-requires c = (c.requires.0, marks-room c.args.input.now.head (length c.args.words.now) (length c.args.bytes.now) c.requires.1 c.verdicts.ensures.size)
 
 pub returns : goal.returns
-returns c = writes c.edges.ensures.1 c.walked.ensures.1 c.solve.ensures c.verdicts.ensures c.marks.ensures
+returns c = writes c.edges.ensures c.walked.ensures c.solve.ensures c.verdicts.ensures c.marks.ensures

@@ -4,4 +4,4 @@ use borrow.Author.Rules.{rules}
 use Rattle.nll.proofs.words.by_rows.Goals as goal
 
 pub returns : goal.returns
-returns c = let r = c.requires in seeds_by r.2 r.3 (search rules) (search rules) c.liveness.ensures c.seeds.ensures
+returns c = seeds_by c.requires.0 c.requires.1 (search rules) (search rules) c.liveness.ensures c.seeds.ensures

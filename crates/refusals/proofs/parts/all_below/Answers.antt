@@ -1,18 +1,23 @@
 -- `refusals::parts::all_below` meets its contract. Assumes nothing.
-use Rattle.refusals.proofs.PartLaws.{below-start, below_end, below_out, below_fails, below_more}
+use mathlib.Core.Path.{ap, ◌∙◌}
+use mathlib.Core.List.{List}
+use Prim.Native.Nat.{ℕ}
+use lib.Dec.{ltb}
+use lib.ListN.{take}
+use Rattle.std.proofs.lemmas.List.{take_rest}
+use Rattle.refusals.specs.Tests.{all_below}
+use Rattle.refusals.proofs.PartLaws.{below_out}
+use Rattle.std.proofs.Common.{rules}
+use Rattle.std.proofs.lemmas.Iterator.{YieldsList-from_slice, YieldsList-from_take}
+use Rattle.std.proofs.lemmas.Iterator.Search.{all_from_yields_List}
+use Rattle.refusals.proofs.RowLaws.{list_every}
 use Rattle.refusals.proofs.parts.all_below.Goals as goal
 
-pub loop-left-init : goal.loop-left-init
-loop-left-init c = below-start _ _ _ _
-
-pub returns-in-Refused : goal.returns-in-Refused
-returns-in-Refused c = below_out c.loop-left.invariant c.byte.ensures c.in-Refused.is
-
-pub returns-then-limit-x : goal.returns-then-limit-x
-returns-then-limit-x c = below_fails c.loop-left.invariant c.byte.ensures c.in-Byte.is c.loop-left-test.true c.if-limit-x.true
-
-pub loop-left-preserved : goal.loop-left-preserved
-loop-left-preserved c = below_more c.loop-left.invariant c.byte.ensures c.in-Byte.is c.loop-left-test.true c.if-limit-x.false
-
 pub returns : goal.returns
-returns c = below_end c.loop-left.invariant c.loop-left-test.false
+returns c =
+    let bytes = rw (← c.take.ensures.source) at (YieldsList-from_slice {s = c.iter.result} c.in-Some.rest.now c.iter.ensures.rest) in
+    let taken = YieldsList-from_take {s = c.take.result} c.args.count bytes (c.take.ensures.count ∙ c.from.ensures) in
+    all_from_yields_List (λ x. ltb x c.args.limit) _ _ c.all.result c.all.ensures.ran taken (λ x b q p. search rules) ∙ list_every (λ x. ltb x c.args.limit) (take c.args.count c.in-Some.rest.now) ∙ ap (λ (l : List ℕ). all_below c.args.limit (take c.args.count l)) (c.in-Some.ensures.lookup.0.2 ∙ take_rest c.args.s.now c.args.from.at)
+
+pub returns-in_default : goal.returns-in_default
+returns-in_default c = below_out c.args.limit c.args.count c.args.s.now c.args.from.at (search (rules, c.in_default.ensures.lookup))

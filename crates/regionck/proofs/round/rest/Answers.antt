@@ -6,10 +6,10 @@ use borrow.Author.Rules.{rules}
 use Rattle.regionck.proofs.round.rest.Goals as goal
 
 pub loop-p-init : goal.loop-p-init
-loop-p-init c = (search rules, search rules, search rules, λ ws x. x, own_same, c.requires.2)
+loop-p-init c = (search rules, search rules, search rules, λ ws x. x, own_same, c.requires.1)
 
 pub visit-requires : goal.visit-requires
-visit-requires c = (c.requires.0, omega arith, c.loop-p.invariant.5)
+visit-requires c = (omega arith, c.loop-p.invariant.5)
 
 pub loop-p-preserved : goal.loop-p-preserved
 loop-p-preserved c =

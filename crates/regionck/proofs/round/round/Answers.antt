@@ -6,11 +6,8 @@ use Rattle.regionck.proofs.round.round.Goals as goal
 pub sweep-grew-requires : goal.sweep-grew-requires
 sweep-grew-requires c = c.requires
 
-pub repeat-requires : goal.repeat-requires
-repeat-requires c = c.requires.0
-
 pub returns : goal.returns
 returns c =
     let swept = c.sweep-grew.ensures in
-    let more = c.repeat.ensures c.requires.1 in
+    let more = c.repeat.ensures c.requires.0 in
     (below_all swept.0 swept.1 more, own_then swept.1 more.own, swept.2)

@@ -4,10 +4,10 @@ use Rattle.regionck.proofs.RoundLaws.{below_none, below_more}
 use Rattle.regionck.proofs.round.sweep.Goals as goal
 
 pub rest-requires : goal.rest-requires
-rest-requires c = (c.requires.0, c.requires.1.within, c.requires.2)
+rest-requires c = (c.requires.0.within, c.requires.1)
 
 pub returns : goal.returns
 returns c =
     let run = c.run.ensures in
     let rest = c.rest.ensures in
-    (rest.0 c.args.words.now (below_more below_none c.requires.1 run.0), own_then (own_then (own-fewer c.make_room.ensures) (own-drawn c.requires.1 run.1)) rest.1, rest.2)
+    (rest.0 c.args.words.now (below_more below_none c.requires.0 run.0), own_then (own_then (own-fewer c.make_room.ensures) (own-drawn c.requires.0 run.1)) rest.1, rest.2)

@@ -7,11 +7,11 @@ use Rattle.regionck.proofs.RoundLaws.{below_more, below-passed, sound_more}
 use Rattle.regionck.proofs.round.visit.Goals as goal
 
 pub returns-then-all_in : goal.returns-then-all_in
-returns-then-all_in c = (λ ws x. below-passed x c.requires.1 c.requires.2 c.marked-marks.ensures c.all_in.ensures c.if-all_in.true, own_same, c.requires.2)
+returns-then-all_in c = (λ ws x. below-passed x c.requires.0 c.requires.1 c.marked-marks.ensures c.all_in.ensures c.if-all_in.true, own_same, c.requires.1)
 
 pub returns : goal.returns
 returns c =
     let added = c.point.ensures in
     let run = c.run.ensures in
-    let held = held_more added (held_none {from = c.args.p} refl (omega (arith, c.requires.1))) (omega arith) c.requires.1 in
-    (λ ws x. below_more x held run.0, own-drawn held run.1, sound_more c.requires.2 refl (omega arith) added c.requires.1 c.put.ensures)
+    let held = held_more added (held_none {from = c.args.p} refl (omega (arith, c.requires.0))) (omega arith) c.requires.0 in
+    (λ ws x. below_more x held run.0, own-drawn held run.1, sound_more c.requires.1 refl (omega arith) added c.requires.0 c.put.ensures)

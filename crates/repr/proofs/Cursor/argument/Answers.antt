@@ -1,22 +1,27 @@
 -- `repr::Cursor::argument` meets its contract. Assumes nothing.
-use Rattle.repr.proofs.ReadLaws.{told, step, stop, picked, unpicked, second}
-use Rattle.repr.specs.Reading.{byte_says, region_says}
-use Rattle.nll_spec.specs.Decode.{args}
-use mathlib.Core.Path.{sym, ◌∙◌}
+use native.Mathlib.Omega.{arith}
+use Rattle.repr.proofs.ReadLaws.{step, stop, picked, unknown, passed_on}
+use Rattle.nll_spec.specs.Decode.{args, one_of}
+use mathlib.Core.Path.{sym, ◌∙◌, subst}
+use Rattle.repr.specs.Types.{ArgumentSays}
 use Rattle.repr.proofs.Cursor.argument.Goals as goal
 
-pub returns-then-tag-ne0 : goal.returns-then-tag-ne0
-unfolding args
-returns-then-tag-ne0 c = record { same = λ inner n left. sym (picked _ _ 1 (told (byte_says _) c.choice.ensures c.in-Byte.is) (second _ (told (byte_says _) c.choice.ensures c.in-Byte.is) c.if-tag-ne0.true)) }
+pub returns-in_err-tag : goal.returns-in_err-tag
+unfolding args one_of
+returns-in_err-tag c = rw (passed_on c.from_residual.ensures) (record { same = λ inner n left. sym (stop _ _ _ (sym c.in_err-tag.ensures)) })
 
-pub returns-in-Refused : goal.returns-in-Refused
+pub returns-in_err-region-in-0 : goal.returns-in_err-region-in-0
 unfolding args
-returns-in-Refused c = record { same = λ inner n left. sym (unpicked _ _ (told (byte_says _) c.choice.ensures c.in-Refused.is)) }
+returns-in_err-region-in-0 c = rw (passed_on c.from_residual-in_err-region-in-0.ensures) (record { same = λ inner n left. sym (stop _ _ _ (sym c.in_err-region-in-0.ensures)) ∙ picked _ _ 0 c.in_ok-tag.ensures c.in-0.is })
 
-pub returns-in-Refused-region : goal.returns-in-Refused-region
+pub returns-in_ok-region-in-0 : goal.returns-in_ok-region-in-0
 unfolding args
-returns-in-Refused-region c = record { same = λ inner n left. sym (picked _ _ 0 (told (byte_says _) c.choice.ensures c.in-Byte.is) c.if-tag-ne0.false ∙ stop _ _ _ (told (region_says _) c.region.ensures c.in-Refused-region.is)) }
+returns-in_ok-region-in-0 c = record { same = λ inner n left. sym (step _ _ _ (sym c.in_ok-region-in-0.ensures)) ∙ picked _ _ 0 c.in_ok-tag.ensures c.in-0.is }
 
-pub returns-in-Region : goal.returns-in-Region
+pub returns-in-1 : goal.returns-in-1
 unfolding args
-returns-in-Region c = record { same = λ inner n left. sym (picked _ _ 0 (told (byte_says _) c.choice.ensures c.in-Byte.is) c.if-tag-ne0.false ∙ step _ _ _ (told (region_says _) c.region.ensures c.in-Region.is)) }
+returns-in-1 c = record { same = λ inner n left. picked _ _ 1 c.in_ok-tag.ensures c.in-1.is }
+
+pub returns-in_default : goal.returns-in_default
+unfolding args
+returns-in_default c = record { same = λ inner n left. unknown _ _ c.in_ok-tag.ensures (omega arith) }

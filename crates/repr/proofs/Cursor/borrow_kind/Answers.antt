@@ -1,18 +1,17 @@
 -- `repr::Cursor::borrow_kind` meets its contract. Assumes nothing.
-use Rattle.repr.proofs.ReadLaws.{told, picked, unpicked, second}
-use Rattle.repr.specs.Reading.{byte_says}
+use native.Mathlib.Omega.{arith}
+use Rattle.repr.proofs.ReadLaws.{picked, unknown}
 use Rattle.nll_spec.specs.Decode.{borrow_kind, done}
-use mathlib.Core.Path.{sym}
 use Rattle.repr.proofs.Cursor.borrow_kind.Goals as goal
 
-pub returns-in-Refused : goal.returns-in-Refused
+pub returns-in-0 : goal.returns-in-0
+unfolding borrow_kind done
+returns-in-0 c = picked _ _ 0 c.in_ok-tag.ensures c.in-0.is
+
+pub returns-in-1 : goal.returns-in-1
+unfolding borrow_kind done
+returns-in-1 c = picked _ _ 1 c.in_ok-tag.ensures c.in-1.is
+
+pub returns-in_default : goal.returns-in_default
 unfolding borrow_kind
-returns-in-Refused c = sym (unpicked _ _ (told (byte_says _) c.choice.ensures c.in-Refused.is))
-
-pub returns-then-n-eq0 : goal.returns-then-n-eq0
-unfolding borrow_kind done
-returns-then-n-eq0 c = sym (picked _ _ 0 (told (byte_says _) c.choice.ensures c.in-Byte.is) c.if-n-eq0.true)
-
-pub returns-else-n-eq0 : goal.returns-else-n-eq0
-unfolding borrow_kind done
-returns-else-n-eq0 c = sym (picked _ _ 1 (told (byte_says _) c.choice.ensures c.in-Byte.is) (second _ (told (byte_says _) c.choice.ensures c.in-Byte.is) c.if-n-eq0.false))
+returns-in_default c = unknown _ _ c.in_ok-tag.ensures (omega arith)

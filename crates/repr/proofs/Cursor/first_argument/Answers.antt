@@ -1,12 +1,11 @@
 -- `repr::Cursor::first_argument` meets its contract. Assumes nothing.
-use Rattle.repr.proofs.TypeLaws.{first-refused, first-region, first-type}
+use Rattle.std.specs.Prelude.{Ok}
+use Rattle.repr.proofs.TypeLaws.{first-region, first-type}
+use mathlib.Core.Path.{ap, ◌∙◌}
 use Rattle.repr.proofs.Cursor.first_argument.Goals as goal
 
-pub returns-in-Refused : goal.returns-in-Refused
-returns-in-Refused c = first-refused _ c.argument.ensures c.in-Refused.is
-
 pub returns-in-Region : goal.returns-in-Region
-returns-in-Region c = first-region _ c.argument.ensures c.in-Region.is
+returns-in-Region c = first-region _ c.argument.ensures (c.in_ok-next.was ∙ ap Ok c.in-Region.is)
 
 pub returns-in-Type : goal.returns-in-Type
-returns-in-Type c = first-type _ c.argument.ensures c.in-Type.is c.opened.ensures
+returns-in-Type c = first-type _ c.argument.ensures (c.in_ok-next.was ∙ ap Ok c.in-Type.is) c.opened.ensures

@@ -1,12 +1,10 @@
 -- `repr::Cursor::nodes` meets its contract. Assumes nothing.
-use Rattle.repr.proofs.TypeLaws.{type-refused, type_arguments, type-ended}
+use Rattle.repr.proofs.ReadLaws.{passed_on}
+use Rattle.repr.proofs.TypeLaws.{type-refused, type_arguments}
 use Rattle.repr.proofs.Cursor.nodes.Goals as goal
 
-pub returns-then-count-eq0 : goal.returns-then-count-eq0
-returns-then-count-eq0 c = type-ended c.opened.ensures c.in-Opened.is c.if-count-eq0.true
+pub returns-in_err-first : goal.returns-in_err-first
+returns-in_err-first c = rw (passed_on c.from_residual.ensures) (type-refused c.opened.ensures c.in_err-first.was)
 
-pub returns-in-Refused : goal.returns-in-Refused
-returns-in-Refused c = type-refused c.opened.ensures c.in-Refused.is
-
-pub returns-else-count-eq0 : goal.returns-else-count-eq0
-returns-else-count-eq0 c = type_arguments c.opened.ensures c.in-Opened.is c.arguments.ensures
+pub returns : goal.returns
+returns c = type_arguments c.opened.ensures c.in_ok-first.was c.arguments.ensures

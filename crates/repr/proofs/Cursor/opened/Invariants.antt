@@ -1,9 +1,7 @@
 -- `repr::Cursor::opened` meets its contract. The loop's invariant: up to c there are Refs. Assumes nothing.
+use Prim.Native.Nat.{◌+◌}
 use Rattle.repr.proofs.TypeLaws.{Down}
 use Rattle.repr.proofs.Cursor.opened.Given as goal
 
 abbrev pub invariant-loop-few : goal.invariant-loop-few
 invariant-loop-few l = Down l.s l.initial.c.at l.left l.c.at l.few
-
-abbrev pub decreases-loop-few : goal.decreases-loop-few
-decreases-loop-few l = l.few

@@ -1,18 +1,16 @@
 -- `repr::Cursor::parameters` meets its contract. Assumes nothing.
-use Rattle.repr.proofs.PartLaws.{row-none, row_stop, row_step}
-use Rattle.repr.proofs.ReadLaws.{told}
-use Rattle.repr.specs.Reading.{ended, parameter_says}
-use mathlib.Core.Path.{refl, sym, ap, ◌∙◌}
+use Rattle.repr.proofs.PartLaws.{passed_more, passed_stop, passed-all}
+use Rattle.repr.proofs.ReadLaws.{passed_on}
+use Rattle.repr.specs.Reading.{ended}
+use native.Mathlib.Omega.{arith}
+use mathlib.Core.Path.{sym, ap}
 use Rattle.repr.proofs.Cursor.parameters.Goals as goal
 
-pub loop-left-init : goal.loop-left-init
-loop-left-init c = refl
+pub returns-in_err-c : goal.returns-in_err-c
+returns-in_err-c c = rw (passed_on c.from_residual.ensures) (passed_stop c.loop.invariant (omega arith) (ap ended (sym c.in_err-c.ensures)))
 
-pub returns-in-Refused : goal.returns-in-Refused
-returns-in-Refused c = sym (c.loop-left.invariant ∙ row_stop _ _ _ c.loop-left-test.true (ap ended (told (parameter_says _) c.parameter.ensures c.in-Refused.is)))
-
-pub loop-left-preserved : goal.loop-left-preserved
-loop-left-preserved c = c.loop-left.invariant ∙ row_step _ _ _ c.loop-left-test.true (ap ended (told (parameter_says _) c.parameter.ensures c.in-Parameter.is))
+pub loop-preserved : goal.loop-preserved
+loop-preserved c = passed_more c.loop.invariant (omega arith) (ap ended (sym c.in_ok-c.ensures))
 
 pub returns : goal.returns
-returns c = sym (c.loop-left.invariant ∙ row-none _ _ c.loop-left-test.false)
+returns c = passed-all c.loop.invariant (omega arith)

@@ -1,12 +1,7 @@
 -- `repr::Cursor::paths` meets its contract. Assumes nothing.
-use Rattle.repr.specs.Reading.{ended}
-use Rattle.nll_spec.specs.Decode.{items, path}
-use lib.ListN.{drop}
-use mathlib.Core.Path.{◌≡◌}
+use Rattle.repr.proofs.PartLaws.{Passed}
+use Rattle.nll_spec.specs.Decode.{path}
 use Rattle.repr.proofs.Cursor.paths.Given as goal
 
-abbrev pub invariant-loop-left : goal.invariant-loop-left
-invariant-loop-left l = ended (items l.count path (drop l.initial.c.at l.s)) ≡ ended (items l.left path (drop l.c.at l.s))
-
-abbrev pub decreases-loop-left : goal.decreases-loop-left
-decreases-loop-left l = l.left
+abbrev pub invariant-loop : goal.invariant-loop
+invariant-loop l = Passed path l.s l.initial.c.at l.count l.c.at l.counter

@@ -1,21 +1,26 @@
 -- `repr::Cursor::region` meets its contract. Assumes nothing.
-use Rattle.repr.proofs.ReadLaws.{region_stop, told, step, picked, unpicked, second}
-use Rattle.repr.specs.Reading.{byte_says}
+use native.Mathlib.Omega.{arith}
+use Rattle.repr.proofs.ReadLaws.{step, stop, picked, unknown, passed_on}
 use Rattle.nll_spec.specs.Decode.{region, done}
 use mathlib.Core.Path.{sym, ◌∙◌}
 use Rattle.repr.proofs.Cursor.region.Goals as goal
 
-pub returns-in-Refused : goal.returns-in-Refused
+pub returns-in_err-name-in-0 : goal.returns-in_err-name-in-0
 unfolding region
-returns-in-Refused c = sym (unpicked _ _ (told (byte_says _) c.choice.ensures c.in-Refused.is))
+returns-in_err-name-in-0 c = rw (passed_on c.from_residual-in_err-name-in-0.ensures) (sym (stop _ _ _ (sym c.in_err-name-in-0.ensures)) ∙ picked _ _ 0 c.in_ok-tag.ensures c.in-0.is)
 
-pub returns-in-Refused-byte : goal.returns-in-Refused-byte
-returns-in-Refused-byte c = sym (region_stop _ (told (byte_says _) c.choice.ensures c.in-Byte.is) (told (byte_says _) c.byte.ensures c.in-Refused-byte.is))
-
-pub returns-then-tag-eq0 : goal.returns-then-tag-eq0
+pub returns-in_ok-name-in-0 : goal.returns-in_ok-name-in-0
 unfolding region done
-returns-then-tag-eq0 c = sym (picked _ _ 0 (told (byte_says _) c.choice.ensures c.in-Byte.is) c.if-tag-eq0.true ∙ step _ _ _ (told (byte_says _) c.byte.ensures c.in-Byte-byte.is))
+returns-in_ok-name-in-0 c = sym (step _ _ _ (sym c.in_ok-name-in-0.ensures)) ∙ picked _ _ 0 c.in_ok-tag.ensures c.in-0.is
 
-pub returns-else-tag-eq0 : goal.returns-else-tag-eq0
+pub returns-in_err-bound-in-1 : goal.returns-in_err-bound-in-1
+unfolding region
+returns-in_err-bound-in-1 c = rw (passed_on c.from_residual-in_err-bound-in-1.ensures) (sym (stop _ _ _ (sym c.in_err-bound-in-1.ensures)) ∙ picked _ _ 1 c.in_ok-tag.ensures c.in-1.is)
+
+pub returns-in_ok-bound-in-1 : goal.returns-in_ok-bound-in-1
 unfolding region done
-returns-else-tag-eq0 c = sym (picked _ _ 1 (told (byte_says _) c.choice.ensures c.in-Byte.is) (second _ (told (byte_says _) c.choice.ensures c.in-Byte.is) c.if-tag-eq0.false) ∙ step _ _ _ (told (byte_says _) c.byte.ensures c.in-Byte-byte.is))
+returns-in_ok-bound-in-1 c = sym (step _ _ _ (sym c.in_ok-bound-in-1.ensures)) ∙ picked _ _ 1 c.in_ok-tag.ensures c.in-1.is
+
+pub returns-in_default : goal.returns-in_default
+unfolding region
+returns-in_default c = unknown _ _ c.in_ok-tag.ensures (omega arith)

@@ -2,18 +2,17 @@
 use native.Mathlib.Omega.{arith}
 use mathlib.Core.Path.{◌≡◌}
 use Rattle.rerun.proofs.MarkLaws.{noted_none, noted_more}
-use borrow.Author.Rules.{rules}
 use Rattle.rerun.proofs.marks.note.Goals as goal
 
 pub loop-r-init : goal.loop-r-init
-loop-r-init c = (search rules, noted_none c.args.grew.now c.args.grown.now)
+loop-r-init c = noted_none c.args.grew.now c.args.grown.now
 
 pub loop-r-preserved : goal.loop-r-preserved
 loop-r-preserved c = let a = c.args in
     let l = c.loop-r in
-    (omega arith, λ k. noted_more a.grew.now a.grown.now l.grown l.r c.marked.result (omega arith) (l.invariant.1 k) c.marked.ensures)
+    λ k. noted_more a.grew.now a.grown.now l.grown l.r c.marked.result (omega arith) (l.invariant k) c.marked.ensures
 
 pub returns : goal.returns
 returns c = let l = c.loop-r in
     let e : l.r ≡ 128 = omega arith in
-    λ k. rw (← e) (l.invariant.1 k)
+    λ k. rw (← e) (l.invariant k)

@@ -1,12 +1,8 @@
 -- `rerun::marks::note`. The loop's invariant: the marks of the first r regions are put to those of `grown`. Assumes nothing.
-use Prim.Native.Nat.{◌-◌, ◌≤◌}
 use mathlib.Core.Path.{◌≡◌}
 use lib.ListN.{length}
 use Rattle.rerun.specs.Rerun.{Noted}
 use Rattle.rerun.proofs.marks.note.Given as goal
 
 abbrev pub invariant-loop-r : goal.invariant-loop-r
-invariant-loop-r l = (l.r ≤ 128) × (length l.initial.grown ≡ 128 → Noted l.grew l.initial.grown l.grown l.r)
-
-abbrev pub decreases-loop-r : goal.decreases-loop-r
-decreases-loop-r l = 128 - l.r
+invariant-loop-r l = length l.initial.grown ≡ 128 → Noted l.grew l.initial.grown l.grown l.r

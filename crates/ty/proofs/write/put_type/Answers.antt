@@ -1,15 +1,27 @@
-use Rattle.ty.proofs.WriteLaws as laws
 use native.Mathlib.Omega.{arith}
+use Prim.Native.Nat.{◌-◌}
+use lib.ListN.{drop}
+use Rattle.std.proofs.lemmas.List.{length-take}
+use Rattle.ty.proofs.FoundLaws.{got, refused_by}
+use Rattle.ty.proofs.WriteLaws as laws
 use Rattle.ty.proofs.write.put_type.Goals as goal
 
-pub put_bytes-requires : goal.put_bytes-requires
-put_bytes-requires c = let w = laws.lies c.nodes.ensures c.in-Ended.is c.within-to.ensures in (w.ordered, c.within-to.ensures.inside, let n = w.nodes in let o = w.room in omega arith)
+pub returns-in_err-rest : goal.returns-in_err-rest
+returns-in_err-rest c = rw c.from_residual.ensures (laws.copy_over c.nodes.ensures (refused_by c.ok.ensures.value c.in_err-rest.was).1)
 
-pub overflow_sub-result : goal.overflow_sub-result
-overflow_sub-result c = (laws.lies c.nodes.ensures c.in-Ended.is c.within-to.ensures).ordered
+pub slice_bounds-bytes-count : goal.slice_bounds-bytes-count
+slice_bounds-bytes-count c = (laws.lies c.nodes.ensures (got c.ok.ensures.value c.in_ok-rest.was) c.min.ensures).ordered
 
-pub returns-in-Refused : goal.returns-in-Refused
-returns-in-Refused c = laws.copy_over c.nodes.ensures c.in-Refused.is
+pub slice_bounds-bytes-start : goal.slice_bounds-bytes-start
+slice_bounds-bytes-start c = (laws.lies c.nodes.ensures (got c.ok.ensures.value c.in_ok-rest.was) c.min.ensures).ordered
 
-pub returns-in-Ended : goal.returns-in-Ended
-returns-in-Ended c = laws.copied c.nodes.ensures c.in-Ended.is c.within-to.ensures c.put_bytes.ensures
+pub put_run-requires : goal.put_run-requires
+put_run-requires c =
+    let w = laws.lies c.nodes.ensures (got c.ok.ensures.value c.in_ok-rest.was) c.min.ensures in
+    let n = w.nodes in
+    let o = w.room in
+    let l = length-take (c.min.result - c.args.item.at) (drop c.args.item.at c.args.s.now) in
+    omega arith
+
+pub returns : goal.returns
+returns c = laws.copied c.nodes.ensures (got c.ok.ensures.value c.in_ok-rest.was) c.min.ensures c.put_run.ensures

@@ -1,8 +1,8 @@
 use Rattle.ty.proofs.SubstLaws as laws
 use Rattle.ty.proofs.write.subst.Goals as goal
 
-pub returns-in-Over : goal.returns-in-Over
-returns-in-Over c = laws.whole-over c.subst_type.ensures c.in-Over.is
+pub returns-in_err-subst_type : goal.returns-in_err-subst_type
+returns-in_err-subst_type c = rw c.from_residual.ensures (laws.whole-over c.subst_type.ensures c.in_err-subst_type.was)
 
-pub returns-in-Ended : goal.returns-in-Ended
-returns-in-Ended c = laws.whole_written c.subst_type.ensures c.in-Ended.is
+pub returns : goal.returns
+returns c = laws.whole_written c.subst_type.ensures c.in_ok-subst_type.was
