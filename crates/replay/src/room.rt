@@ -15,7 +15,7 @@ pub struct FileBytes {
 }
 
 impl FileBytes {
-    ghost use Rattle.std.specs.Prelude.{◌+◌, length, replicate};
+    ghost use Rattle.std.specs.Prelude.{◌+◌, length, take, replicate};
     ghost use Rattle.replay.specs.Run.{content, Appended};
 
     pub fn new() -> FileBytes
@@ -65,8 +65,10 @@ impl FileBytes {
         self.len = end;
     }
 
-    // Reads until the room is full, the input ends or a read fails.
-    pub fn read<R: Read>(&mut self, input: &mut R) {
+    // Reads until the room is full, the input ends or a read fails. What is read stands after what there was.
+    pub fn read<R: Read>(&mut self, input: &mut R)
+        ensures { take self.old.len (content self.new) ≡ content self.old }
+    {
         for _ in 0..u64::MAX {
             if self.is_full() {
                 break;
