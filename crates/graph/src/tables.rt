@@ -22,11 +22,11 @@ pub struct FuncGraph<'a> {
 }
 
 impl<'a> FuncGraph<'a> {
-    // The graph of the record's job, which starts at this block.
-    pub fn new(input: Record<'a>, start: BasicBlockIndex) -> FuncGraph<'a>
+    // The graph of the record's job, which starts at block 0.
+    pub fn new(input: Record<'a>) -> FuncGraph<'a>
         ensures { (result.input ≡ input.entry)
             × ((j : Job) → Holds input.entry j → T (successors_named j) → point_count j ≤ 1024 → Edges (graph_of j) result.first result.succ
-            × (j.start ≡ start.0 → T (ltb j.start (length j.blocks)) → WalkedIn j result.walked)) }
+            × (T (ltb j.start (length j.blocks)) → WalkedIn j result.walked)) }
     {
         let mut graph = FuncGraph {
             input,
@@ -35,7 +35,7 @@ impl<'a> FuncGraph<'a> {
             walked: [0; 32],
         };
         graph.edges();
-        walked(&input, start, &mut graph.walked);
+        walked(&input, BasicBlockIndex(0), &mut graph.walked);
         graph
     }
 
