@@ -20,7 +20,8 @@ use Rattle.graph.specs.Tables.{row_start, row_end, Edge, up_to, successors}
 use Rattle.graph.proofs.RowLaws.{successor_at}
 use Rattle.graph.specs.Search.{Marked, Popped, State, state, zeros}
 use Rattle.graph.proofs.SearchLaws.{mark-kept, mark-new, mark-old, no_mark, work, zeros-mark, zeros-replicate}
-use Rattle.dfs.specs.Walk.{in_code, Chained, Along, Stopped, Reach, here, step, pushed, visited, nexts, row, left, Roomy, Leaf, is_leaf, Reaches}
+use Rattle.graph.specs.Search.{pushed}
+use Rattle.dfs.specs.Walk.{in_code, Chained, Along, Stopped, Reach, here, step, visited, nexts, row, left, Roomy, Leaf, is_leaf, Reaches}
 use Rattle.dfs.proofs.ChainLaws.{with_kept, has-none, up_to_le}
 
 -- ---- The invariant

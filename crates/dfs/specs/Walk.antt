@@ -1,10 +1,9 @@
 -- What the search of one constraint computes, from the tables and the words that it is handed.
-use Rattle.std.specs.Prelude.{◌≡◌, ◌⊎◌, Bool, true, not, ◌&&◌, cond, List, ℕ, zero, suc, ◌+◌, ◌-◌, ◌*◌, ◌/◌, ◌%◌, ◌^◌, ◌≤◌, ◌<◌, length, get_or, set, eqb, leb, ltb}
+use Rattle.std.specs.Prelude.{◌≡◌, ◌⊎◌, Bool, true, not, ◌&&◌, cond, List, ℕ, zero, suc, ◌+◌, ◌-◌, ◌*◌, ◌/◌, ◌%◌, ◌^◌, ◌≤◌, ◌<◌, length, get_or, eqb, leb, ltb}
 use Rattle.nll_spec.specs.Output.{word_bits}
 use Rattle.bit_set.specs.Bits.{has}
 use Rattle.graph.specs.Tables.{row_start, row_end, up_to, Edge}
-use Rattle.graph.specs.Search.{zeros, State, state}
-use Rattle.dfs.specs.declared.Search.{Search}
+use Rattle.graph.specs.Search.{zeros, State, pushed}
 
 -- ---- The walk
 
@@ -50,14 +49,6 @@ pub record Run (links inner b n : ℕ) : Type 0 where
 pub record Mask (b n m : ℕ) : Type 0 where
   pub inside : (i : ℕ) → b ≤ i → i ≤ b + n → m / 2 ^ i % 2 ≡ 1
   pub only : (i : ℕ) → m / 2 ^ i % 2 ≡ 1 → (b ≤ i) × (i ≤ b + n)
-
--- s with a mark and on the stack
-abbrev pub pushed : ℕ → State → State
-pushed s st = state (set st.seen s 1) (set st.stack st.depth s) (st.depth + 1)
-
--- the marks and the stack of a search
-abbrev pub state_of : Search → State
-state_of s = state s.seen s.stack s.depth
 
 -- s is marked and pushed, where it has no mark and h holds it
 abbrev pub visited : (ℕ → Bool) → ℕ → State → State

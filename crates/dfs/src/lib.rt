@@ -1,18 +1,19 @@
 #![tactic(auto)]
 // The walk of one constraint, "S outlives T at p": the points that are reached from p through T.
-ghost use Rattle.std.specs.Prelude.{◌≡◌, true, ◌+◌, ◌<◌, ◌≤◌, min, length};
+ghost use Rattle.std.specs.Prelude.{◌≡◌, true, ◌+◌, ◌<◌, ◌≤◌};
 ghost use Rattle.bit_set.specs.Bits.{has, with_bit};
-ghost use Rattle.graph.specs.Search.{Popped};
+ghost use Rattle.graph.specs.Search.{state_of};
 ghost use Rattle.graph.specs.Tables.{Edge};
-ghost use Rattle.dfs.specs.Walk.{in_code, Follows, Chained, Along, Stopped, Run, Mask, Reach, state_of, pushed, visited, left, is_leaf, Roomy, Reaches};
+ghost use Rattle.dfs.specs.Walk.{in_code, Follows, Chained, Along, Stopped, Run, Mask, Reach, visited, left, is_leaf, Roomy, Reaches};
 
+use graph::search::Search;
 use graph::tables::FuncGraph;
 
 // A walk along the edges of a graph through the points of a set: the points below `code` of the set that starts at word `from`. Each point of the chain is followed by the
 // next one alone.
 #[derive(Clone, Copy)]
 pub struct Walk<'a> {
-    pub graph: &'a FuncGraph,
+    pub graph: &'a FuncGraph<'a>,
     pub chain: &'a [u32; 32],
     pub words: &'a [u32],
     pub from: usize,
@@ -27,7 +28,7 @@ pub struct Reached {
 }
 
 // Whether the one point that follows q is q + 1.
-fn follows(graph: &FuncGraph, q: usize) -> bool
+fn follows(graph: &FuncGraph<'_>, q: usize) -> bool
     requires { q < 1024 }
     ensures { result ≡ true → Follows graph.now.first graph.now.succ q }
 {
@@ -35,7 +36,7 @@ fn follows(graph: &FuncGraph, q: usize) -> bool
 }
 
 // Points below code, each followed by the next one alone. Not all of them need be there: a smaller chain is as right, and slower.
-pub fn chains(graph: &FuncGraph, code: usize) -> [u32; 32]
+pub fn chains(graph: &FuncGraph<'_>, code: usize) -> [u32; 32]
     ensures { Chained result graph.now.first graph.now.succ }
 {
     let mut chain = [0; 32];
@@ -48,38 +49,6 @@ pub fn chains(graph: &FuncGraph, code: usize) -> [u32; 32]
         }
     }
     chain
-}
-
-// The marks of the points that were seen, and a stack of those that are still to be left.
-#[derive(Drop)]
-struct Search {
-    seen: [u8; 1024],
-    stack: [u16; 1024],
-    depth: usize,
-}
-
-impl Search {
-    // Marks and pushes point s.
-    fn push(&mut self, s: u16)
-        requires { (s < 1024) × (self.old.depth < 1024) }
-        ensures { state_of self.new ≡ pushed s (state_of self.old) }
-    {
-        self.seen[usize::from(s)] = 1;
-        self.stack[self.depth] = s;
-        self.depth += 1;
-    }
-
-    // Takes the last point off the stack.
-    fn pop(&mut self) -> Option<usize>
-        requires { self.old.depth ≤ 1024 }
-        ensures { Popped (state_of self.old) result (state_of self.new) }
-    {
-        if self.depth == 0 {
-            return None;
-        }
-        self.depth -= 1;
-        Some(usize::from(self.stack[self.depth]))
-    }
 }
 
 // How many steps a walk may take from bit b on within a word: from a bit of links to the next bit, if that is of inner.
@@ -111,7 +80,7 @@ impl Walk<'_> {
     // Puts the next points of the walk along the chain into the points, as far as they are in one word, and returns the last of them. Returns q where q is not of the
     // chain, the set lacks q + 1, or q + 1 is among the points.
     fn advance(&self, points: &mut [u32; 32], q: usize) -> usize
-        requires { (self.now.code ≤ 1024) × (q < 1024) × (length points.old ≡ 32) }
+        requires { (self.now.code ≤ 1024) × (q < 1024) }
         ensures { Along self.now.chain.now (in_code self.now.words.now self.now.from self.now.code) points.old points.new q result
             × (result ≡ q → Stopped self.now.chain.now (in_code self.now.words.now self.now.from self.now.code) points.new q) }
     {
@@ -138,7 +107,7 @@ impl Walk<'_> {
 
     // Puts q and the points that the walk takes after it along the chain into the points, and returns the last of them.
     fn follow(&self, points: &mut [u32; 32], q: usize) -> usize
-        requires { (self.now.code ≤ 1024) × (q < 1024) × (length points.old ≡ 32) }
+        requires { (self.now.code ≤ 1024) × (q < 1024) }
         ensures { Along self.now.chain.now (in_code self.now.words.now self.now.from self.now.code) (with_bit points.old q) points.new q result
             × Stopped self.now.chain.now (in_code self.now.words.now self.now.from self.now.code) points.new result }
     {
@@ -154,7 +123,7 @@ impl Walk<'_> {
     }
 
     // Marks and pushes s, where it is one of the walk's points and has no mark.
-    fn visit(&self, s: u16, search: &mut Search)
+    fn visit(&self, s: u16, search: &mut Search<1024>)
         requires { (self.now.code ≤ 1024) × Roomy search.old.seen search.old.depth }
         ensures { state_of search.new ≡ visited (in_code self.now.words.now self.now.from self.now.code) s (state_of search.old) }
     {
@@ -172,7 +141,7 @@ impl Walk<'_> {
     }
 
     // Visits each point that follows q, where q is not of the chain.
-    fn leave(&self, q: usize, search: &mut Search)
+    fn leave(&self, q: usize, search: &mut Search<1024>)
         requires { (self.now.code ≤ 1024) × (q < 1024) × Roomy search.old.seen search.old.depth }
         ensures { state_of search.new
             ≡ left self.now.chain.now (in_code self.now.words.now self.now.from self.now.code) self.now.graph.now.first self.now.graph.now.succ q (state_of search.old) }
@@ -202,11 +171,7 @@ impl Walk<'_> {
     {
         let mut points = [0; 32];
         let mut exit = false;
-        let mut search = Search {
-            seen: [0; 1024],
-            stack: [0; 1024],
-            depth: 0,
-        };
+        let mut search = Search::<1024>::new();
         search.push(p as u16);
         while let Some(q) = search.pop() {
             let end = self.follow(&mut points, q);

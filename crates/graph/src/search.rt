@@ -34,7 +34,7 @@ impl<const N: usize> Search<N> {
     }
 
     // Takes the last number off the stack.
-    pub fn pop(&mut self) -> Option<u16>
+    pub fn pop(&mut self) -> Option<usize>
         requires { self.old.depth ≤ N }
         ensures { Popped (state_of self.old) result (state_of self.new) }
     {
@@ -42,6 +42,6 @@ impl<const N: usize> Search<N> {
             return None;
         }
         self.depth -= 1;
-        Some(self.stack[self.depth])
+        Some(usize::from(self.stack[self.depth]))
     }
 }

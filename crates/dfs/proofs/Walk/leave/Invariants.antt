@@ -1,5 +1,6 @@
 -- `dfs::Walk::leave`. The loop's invariant: the points so far are visited. Assumes nothing.
-use Rattle.dfs.specs.Walk.{in_code, state_of}
+use Rattle.graph.specs.Search.{state_of}
+use Rattle.dfs.specs.Walk.{in_code}
 use Rattle.dfs.proofs.SearchLaws.{Nexted}
 use Rattle.dfs.proofs.Walk.leave.Given as goal
 

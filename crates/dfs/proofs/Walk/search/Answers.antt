@@ -1,22 +1,28 @@
 -- `dfs::Walk::search`. The loop's invariant: `Going`. The measure is `work`. Assumes nothing.
+use mathlib.Core.Path.{ap, ◌∙◌}
 use native.Mathlib.Omega.{arith}
-use Rattle.dfs.specs.Walk.{in_code, state_of}
+use Rattle.graph.specs.Search.{State, pushed}
+use Rattle.graph.specs.Search.{state_of}
+use Rattle.dfs.specs.Walk.{in_code}
 use Rattle.dfs.proofs.SearchLaws.{going_start, popped_small, popped_roomy, turn_popped, finish, code-small}
 use Rattle.dfs.proofs.Walk.search.Goals as goal
 
 pub push-requires : goal.push-requires
-push-requires c = let w = c.args.self.now in (code-small w.words.now w.from w.code c.requires.0 c.args.p c.requires.1, omega arith)
+push-requires c = let w = c.args.self.now in
+    let p = code-small w.words.now w.from w.code c.requires.0 c.args.p c.requires.1 in
+    let z = ap (λ (st : State). st.depth) c.new-search.ensures in
+    (omega arith, omega arith)
 
 pub loop-q-init : goal.loop-q-init
 loop-q-init c = let w = c.args.self.now in
-    rw c.push.ensures (going_start w.chain.now w.graph.now.first w.graph.now.succ (in_code w.words.now w.from w.code) c.args.p (code-small w.words.now w.from w.code c.requires.0) c.requires.1)
+    rw (c.push.ensures ∙ ap (pushed _) c.new-search.ensures) (going_start w.chain.now w.graph.now.first w.graph.now.succ (in_code w.words.now w.from w.code) c.args.p (code-small w.words.now w.from w.code c.requires.0) c.requires.1)
 
 pub pop-requires : goal.pop-requires
 pop-requires c = omega (arith, c.loop-q.invariant.search.roomy.room)
 
 pub follow-end-requires : goal.follow-end-requires
 follow-end-requires c = let w = c.args.self.now in
-    (c.requires.0, popped_small w.chain.now w.graph.now.first w.graph.now.succ (in_code w.words.now w.from w.code) c.args.p (code-small w.words.now w.from w.code c.requires.0) c.loop-q.invariant c.in-Some.ensures, c.loop-q.invariant.sized)
+    (c.requires.0, popped_small w.chain.now w.graph.now.first w.graph.now.succ (in_code w.words.now w.from w.code) c.args.p (code-small w.words.now w.from w.code c.requires.0) c.loop-q.invariant c.in-Some.ensures)
 
 pub is_leaf-exit-requires : goal.is_leaf-exit-requires
 is_leaf-exit-requires c = c.follow-end.ensures.0.below

@@ -1,6 +1,7 @@
 -- `dfs::Walk::search`. The loop's invariant: `Going`. The measure is `work`. Assumes nothing.
 use Rattle.graph.proofs.SearchLaws.{work}
-use Rattle.dfs.specs.Walk.{in_code, state_of}
+use Rattle.graph.specs.Search.{state_of}
+use Rattle.dfs.specs.Walk.{in_code}
 use Rattle.dfs.proofs.SearchLaws.{Going}
 use Rattle.dfs.proofs.Walk.search.Given as goal
 

@@ -1,7 +1,7 @@
 -- `dfs::Walk::visit`: each return is a way that a visit goes. The stack has a place, since the point had no mark. Assumes nothing.
 use native.Mathlib.Omega.{arith}
 use mathlib.Core.Path.{◌∙◌}
-use Rattle.dfs.specs.Walk.{state_of}
+use Rattle.graph.specs.Search.{state_of}
 use Rattle.graph.proofs.SearchLaws.{zeros-mark}
 use Rattle.dfs.proofs.SearchLaws.{visit_far, visit_seen, visit_out, visit_new}
 use Rattle.dfs.proofs.Walk.visit.Goals as goal
