@@ -48,79 +48,90 @@ fn edge(sets: &mut [u32], pass: &[u32], p: usize, q: usize) -> bool
     (b3 != c3) | ((b2 != c2) | ((b1 != c1) | (b0 != c0)))
 }
 
-// The same for p and the point s that follows it, in the direction. A number that is no point of a block is passed by.
-fn turned(
-    sets: &mut [u32],
-    pass: &[u32],
-    code: usize,
-    p: usize,
-    s: u16,
-    direction: Direction,
-) -> bool
-    requires { (code ≤ 1024) × (p < code) × (4 * code ≤ length sets.old) × (4 * code ≤ length pass.now) }
-    ensures { Ran (Turned direction code p s) pass.now sets.old sets.new result }
-{
-    let q = usize::from(s);
-    if code <= q {
-        return false;
-    }
-    match direction {
-        Direction::Forward => edge(sets, pass, p, q),
-        Direction::Backward => edge(sets, pass, q, p),
-    }
-}
-
-// The same for p and each point that follows it.
-fn row(
-    sets: &mut [u32],
-    pass: &[u32],
-    graph: &FuncGraph,
-    code: usize,
-    p: usize,
-    direction: Direction,
-) -> bool
-    requires { (code ≤ 1024) × (p < code) × (4 * code ≤ length sets.old) × (4 * code ≤ length pass.now) }
-    ensures { Ran (Row direction code graph.now.first graph.now.succ p) pass.now sets.old sets.new result }
-{
-    let mut changed = false;
-    for &s in graph.successors(p) {
-        changed = turned(sets, pass, code, p, s, direction) | changed;
-    }
-    changed
-}
-
-// Point number i of a round, which goes down where numbers go backward.
-fn point(code: usize, i: usize, direction: Direction) -> usize
-    requires { i < code }
-    ensures { (result ≡ nth direction code i) × (result < code) }
-{
-    match direction {
-        Direction::Forward => i,
-        Direction::Backward => code - 1 - i,
-    }
-}
-
-// Every edge once.
-fn round(
-    sets: &mut [u32],
-    pass: &[u32],
-    graph: &FuncGraph,
+// What numbers go along: the edges of a graph between points below `code`, in one direction, to points that let them pass.
+#[derive(Clone, Copy)]
+struct Ways<'a> {
+    pass: &'a [u32],
+    graph: &'a FuncGraph<'a>,
     code: usize,
     direction: Direction,
-) -> bool
-    requires { (code ≤ 1024) × (4 * code ≤ length sets.old) × (4 * code ≤ length pass.now) }
-    ensures { Ran (Rows direction code graph.now.first graph.now.succ code) pass.now sets.old sets.new result }
-{
-    let mut changed = false;
-    for i in 0..code {
-        let p = point(code, i, direction);
-        changed = row(sets, pass, graph, code, p, direction) | changed;
+}
+
+impl Ways<'_> {
+    // The same for p and the point s that follows it, in the direction. A number that is no point of a block is passed by.
+    fn turned(&self, sets: &mut [u32], p: usize, s: u16) -> bool
+        requires { (self.now.code ≤ 1024) × (p < self.now.code) × (4 * self.now.code ≤ length sets.old) × (4 * self.now.code ≤ length self.now.pass.now) }
+        ensures { Ran (Turned self.now.direction self.now.code p s) self.now.pass.now sets.old sets.new result }
+    {
+        let q = usize::from(s);
+        if self.code <= q {
+            return false;
+        }
+        match self.direction {
+            Direction::Forward => edge(sets, self.pass, p, q),
+            Direction::Backward => edge(sets, self.pass, q, p),
+        }
     }
-    changed
+
+    // The same for p and each point that follows it.
+    fn row(&self, sets: &mut [u32], p: usize) -> bool
+        requires { (self.now.code ≤ 1024) × (p < self.now.code) × (4 * self.now.code ≤ length sets.old) × (4 * self.now.code ≤ length self.now.pass.now) }
+        ensures { Ran (Row self.now.direction self.now.code self.now.graph.now.first self.now.graph.now.succ p) self.now.pass.now sets.old sets.new result }
+    {
+        let mut changed = false;
+        for &s in self.graph.successors(p) {
+            changed = self.turned(sets, p, s) | changed;
+        }
+        changed
+    }
+
+    // Point number i of a round, which goes down where numbers go backward.
+    fn point(&self, i: usize) -> usize
+        requires { i < self.now.code }
+        ensures { (result ≡ nth self.now.direction self.now.code i) × (result < self.now.code) }
+    {
+        match self.direction {
+            Direction::Forward => i,
+            Direction::Backward => self.code - 1 - i,
+        }
+    }
+
+    // Every edge once.
+    fn round(&self, sets: &mut [u32]) -> bool
+        requires { (self.now.code ≤ 1024) × (4 * self.now.code ≤ length sets.old) × (4 * self.now.code ≤ length self.now.pass.now) }
+        ensures { Ran (Rows self.now.direction self.now.code self.now.graph.now.first self.now.graph.now.succ self.now.code) self.now.pass.now sets.old sets.new result }
+    {
+        let mut changed = false;
+        for i in 0..self.code {
+            let p = self.point(i);
+            changed = self.row(sets, p) | changed;
+        }
+        changed
+    }
+
+    // Every edge until no set changes.
+    fn run(&self, sets: &mut [u32])
+        requires { (self.now.code ≤ 1024) × (4 * self.now.code ≤ length sets.old) × (4 * self.now.code ≤ length self.now.pass.now) }
+        ensures { (length sets.new ≡ length sets.old)
+            × ((g : Graph) → Edges g self.now.graph.now.first self.now.graph.now.succ → self.now.code ≡ g.code
+            → FlowSays g self.now.direction self.now.pass.now sets.old sets.new) }
+    {
+        loop {
+            if !self.round(sets) {
+                return;
+            }
+        }
+    }
 }
 
 // Puts into each point's set the numbers that come to it along edges, through points that let them pass, if both tables have four words a point.
-pub fn flow(sets: &mut [u32], pass: &[u32], graph: &FuncGraph, code: usize, direction: Direction)
+pub fn flow(
+    sets: &mut [u32],
+    pass: &[u32],
+    graph: &FuncGraph<'_>,
+    code: usize,
+    direction: Direction,
+)
     ensures { (length sets.new ≡ length sets.old) × (4 * code ≤ length sets.old → 4 * code ≤ length pass.now
         → (g : Graph) → Edges g graph.now.first graph.now.succ → code ≡ g.code
         → FlowSays g direction pass.now sets.old sets.new) }
@@ -134,17 +145,21 @@ pub fn flow(sets: &mut [u32], pass: &[u32], graph: &FuncGraph, code: usize, dire
     if pass.len() < 4 * code {
         return;
     }
-    // A loop for each direction, so that no edge has to test it.
+    // Each direction by itself, so that no edge has to test it.
     match direction {
-        Direction::Forward => loop {
-            if !round(sets, pass, graph, code, Direction::Forward) {
-                return;
-            }
-        },
-        Direction::Backward => loop {
-            if !round(sets, pass, graph, code, Direction::Backward) {
-                return;
-            }
-        },
+        Direction::Forward => Ways {
+            pass,
+            graph,
+            code,
+            direction: Direction::Forward,
+        }
+        .run(sets),
+        Direction::Backward => Ways {
+            pass,
+            graph,
+            code,
+            direction: Direction::Backward,
+        }
+        .run(sets),
     }
 }

@@ -1,6 +1,6 @@
--- `flow::point`. Assumes nothing.
+-- `flow::Ways::point`. Assumes nothing.
 use native.Mathlib.Omega.{arith}
-use Rattle.flow.proofs.point.Goals as goal
+use Rattle.flow.proofs.Ways.point.Goals as goal
 
 pub returns-in-Backward : goal.returns-in-Backward
 returns-in-Backward c = (rw c.in-Backward.is, omega arith)

@@ -1,8 +1,0 @@
--- `flow::round`. The loop's invariant: the edges of the first i points are run. Assumes nothing.
-use mathlib.Core.Path.{◌≡◌}
-use lib.ListN.{length}
-use Rattle.flow.specs.Running.{Ran, Rows}
-use Rattle.flow.proofs.round.Given as goal
-
-abbrev pub invariant-loop-i : goal.invariant-loop-i
-invariant-loop-i l = (length l.sets ≡ length l.initial.sets) × Ran (Rows l.direction l.code l.graph.first l.graph.succ l.i) l.pass l.initial.sets l.sets l.changed
