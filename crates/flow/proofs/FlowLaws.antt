@@ -143,7 +143,3 @@ module _ (d : Direction) (code : ℕ) (first succ pass ws : List ℕ) where
         closed : (v w i : ℕ) → Rows d g.code first succ g.code v w → i < word_bits → has x (word_bits * v + i) ≡ true → has pass (word_bits * w + i) ≡ true → has x (word_bits * w + i) ≡ true
         closed v w i y n h p =
             ap (λ (l : List ℕ). has l (word_bits * w + i)) (a.same e) ∙ b.closed e v w i y n (sym (ap (λ (l : List ℕ). has l (word_bits * v + i)) (a.same e)) ∙ h) p
-
--- more points than the tables have room for
-pub flows_none : (d : Direction) (code : ℕ) (first succ pass ws : List ℕ) → 1024 < code → (g : Graph) → Edges g first succ → code ≡ g.code → FlowSays g d pass ws ws
-flows_none d code first succ pass ws l g t k = absurd (omega (arith, t.ordered, t.few))

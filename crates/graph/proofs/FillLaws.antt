@@ -1,10 +1,9 @@
 -- Laws of the tables as they are filled. Assumes nothing.
 use mathlib.Core.Path.{◌≡◌, refl, sym, ap, subst, subst₂, ◌∙◌}
-use mathlib.Core.List.{List, [], ◌∷◌, ◌++◌, map, map-append, append_assoc, append-nil}
+use mathlib.Core.List.{List, [], ◌∷◌, ◌++◌, map, map-append, append_assoc}
 use Prim.Native.Nat.{ℕ, suc, ◌+◌, ◌≤◌, ◌<◌}
 use native.Mathlib.Omega.{arith}
 use native.Mathlib.Numerals.{add-one}
-use native.Mathlib.Nat.{add-zero}
 use native.Mathlib.Decide.{ℕ_discrete}
 use lib.ListN.{length, get_or, take, drop, set, length-set, length-drop, length-map}
 use lib.Seq.{slice, get_or-set_same, get_or-set_other, take-suc-set, take-suc, take-append-le, take-take, drop_at, length-take-le, get_or-drop}
@@ -80,18 +79,12 @@ module _ {p k i : ℕ} {first₀ succ₀ first succ : List ℕ} (w : Chained p i
       row : length succ ≡ 1536 → take (k + i + 1) (set succ (k + i) (p + i + 1)) ≡ take (k + i) succ ++ suc (p + i) ∷ []
       row e = rw (add-one (k + i), add-one (p + i)) (take-suc-set succ (k + i) (suc (p + i)) (omega arith))
 
-pub chained_all : {p k i n : ℕ} {first₀ succ₀ first succ : List ℕ} → Chained p i k first₀ succ₀ first succ → i ≤ n → n ≤ i → Chained p n k first₀ succ₀ first succ
-chained_all {p} {k} {i} {n} {first₀} {succ₀} {first} {succ} w a b = subst (λ (m : ℕ). Chained p m k first₀ succ₀ first succ) (omega arith) w
-
 -- ---- The end of a block
 
 -- The first i successors stand after the first k entries.
 pub record Ending (g : ℕ → ℕ) (s : List ℕ) (from i k : ℕ) (succ₀ succ : List ℕ) : Type 0 where
   pub size : length succ ≡ 1536
   pub row : take (k + i) succ ≡ take k succ₀ ++ map g (take i (drop from s))
-
-pub ending_none : (g : ℕ → ℕ) (s : List ℕ) (from k : ℕ) {succ : List ℕ} → length succ ≡ 1536 → Ending g s from 0 k succ succ
-ending_none g s from k e = record { size = e; row = rw (add-zero, append-nil) }
 
 pub ending_more : {g : ℕ → ℕ} {s : List ℕ} {from i k : ℕ} {succ₀ succ : List ℕ} → Ending g s from i k succ₀ succ → k + i < 1536 → from + i < length s → {v : ℕ} → v ≡ g (get_or s (from + i) 0)
     → Ending g s from (i + 1) k succ₀ (set succ (k + i) v)

@@ -4,7 +4,6 @@ use mathlib.Core.Bool.{true, false, ◌&&◌}
 use mathlib.Core.List.{List}
 use Prim.Native.Nat.{ℕ, zero, suc, ◌+◌, ◌-◌, ◌*◌, ◌≤◌, ◌<◌}
 use native.Mathlib.Omega.{arith}
-use native.Mathlib.Numerals.{add-one}
 use native.Mathlib.Decide.{dec_lt}
 use lib.ListN.{length, get_or}
 use lib.Dec.{T, ltb, lt→ltb}
@@ -21,7 +20,7 @@ use Rattle.nll_spec.proofs.GraphLaws.{block_at, no_block, first_of, actions_in, 
 use Rattle.record.specs.Layout.{Layout}
 use Rattle.record.specs.declared.Head.{Head}
 use Rattle.record.proofs.AccessLaws.{block-at}
-use Rattle.bit_set.specs.Bits.{has, with_bit, cleared}
+use Rattle.bit_set.specs.Bits.{has, cleared}
 use Rattle.bit_set.proofs.BitLaws.{has_with, has_with_other, length_with}
 use Rattle.bit_set.proofs.SetLaws.{length-cleared, has-cleared}
 use Rattle.record.specs.Access.{entry_in}
@@ -40,12 +39,6 @@ pub record Running (p i : ℕ) (ws₀ ws : List ℕ) : Type 0 where
 
 pub running_none : (p : ℕ) (ws : List ℕ) → Running p 0 ws ws
 running_none p ws = record { is = refl }
-
-pub running_more : {p i : ℕ} {ws₀ ws u : List ℕ} → Running p i ws₀ ws → u ≡ with_bit ws (word_bits * 0 + (p + i)) → Running p (i + 1) ws₀ u
-running_more {p} {i} w e = let k : word_bits * 0 + (p + i) ≡ p + i = omega arith in record { is = rw (add-one i) (e ∙ rw (k, w.is)) }
-
-pub running_all : {p i n : ℕ} {ws₀ ws : List ℕ} → Running p i ws₀ ws → i ≤ n → n ≤ i → ws ≡ with_run ws₀ p n
-running_all {p} {i} {n} {ws₀} w a b = let e : n ≡ i = omega arith in rw e w.is
 
 module _ (ws : List ℕ) (p : ℕ) where
   length_run : (n : ℕ) → length (with_run ws p n) ≡ length ws
