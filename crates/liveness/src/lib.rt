@@ -17,65 +17,51 @@ ghost use Rattle.liveness.specs.Rows.{LiveRows};
 use actions::fill;
 use flow::Direction;
 use graph::tables::FuncGraph;
-use record::Record;
 use rows::rows;
 
 // Fills the rows of the variables, by two tables of the points' sets: nothing starts yet, and everything passes.
 fn by_tables(
-    input: &Record<'_>,
-    graph: &FuncGraph,
-    walked: &[u32; 32],
+    graph: &FuncGraph<'_>,
     width: usize,
     sets: &mut [u32],
     pass: &mut [u32],
     used: &mut [u32],
     dropped: &mut [u32],
 )
-    requires { (input.now.head.code ≤ 32 * width) × (width ≤ 32) × (input.now.head.variables ≤ 64) × Blank input.now.head.code sets.old pass.old
-        × (4 * input.now.head.code ≤ length sets.old) × (4 * input.now.head.code ≤ length pass.old) × (64 * width ≤ length used.old) × (64 * width ≤ length dropped.old) }
-    ensures { (j : Job) → Holds input.now j → Edges (graph_of j) graph.now.first graph.now.succ → WalkedIn j walked.now
+    requires { (graph.now.input.head.code ≤ 32 * width) × (width ≤ 32) × (graph.now.input.head.variables ≤ 64) × Blank graph.now.input.head.code sets.old pass.old
+        × (4 * graph.now.input.head.code ≤ length sets.old) × (4 * graph.now.input.head.code ≤ length pass.old) × (64 * width ≤ length used.old) × (64 * width ≤ length dropped.old) }
+    ensures { (j : Job) → Holds graph.now.input j → Edges (graph_of j) graph.now.first graph.now.succ → WalkedIn j graph.now.walked
         → LiveRows j width used.new dropped.new }
 {
-    fill(input, sets, pass);
-    let code = usize::from(input.head.code);
+    fill(&graph.input, sets, pass);
+    let code = usize::from(graph.input.head.code);
     flow::flow(sets, pass, graph, code, Direction::Backward);
-    rows(input.head, walked, sets, 0, width, used);
-    rows(input.head, walked, sets, 64, width, dropped);
+    rows(graph, sets, 0, width, used);
+    rows(graph, sets, 64, width, dropped);
 }
 
 // The same by tables of N words.
 #[inline(never)]
 fn with_tables<const N: usize>(
-    input: &Record<'_>,
-    graph: &FuncGraph,
-    walked: &[u32; 32],
+    graph: &FuncGraph<'_>,
     width: usize,
     used: &mut [u32],
     dropped: &mut [u32],
 )
-    requires { (4 * input.now.head.code ≤ N) × (N ≤ 4096) × (input.now.head.code ≤ 32 * width) × (width ≤ 32) × (input.now.head.variables ≤ 64) × (64 * width ≤ length used.old) × (64 * width ≤ length dropped.old) }
-    ensures { (j : Job) → Holds input.now j → Edges (graph_of j) graph.now.first graph.now.succ → WalkedIn j walked.now
+    requires { (4 * graph.now.input.head.code ≤ N) × (N ≤ 4096) × (graph.now.input.head.code ≤ 32 * width) × (width ≤ 32) × (graph.now.input.head.variables ≤ 64) × (64 * width ≤ length used.old) × (64 * width ≤ length dropped.old) }
+    ensures { (j : Job) → Holds graph.now.input j → Edges (graph_of j) graph.now.first graph.now.succ → WalkedIn j graph.now.walked
         → LiveRows j width used.new dropped.new }
 {
     let mut sets = [0; N];
     let mut pass = [u32::MAX; N];
-    by_tables(
-        input, graph, walked, width, &mut sets, &mut pass, used, dropped,
-    );
+    by_tables(graph, width, &mut sets, &mut pass, used, dropped);
 }
 
 // Fills the rows of a job of the record, `width` words a variable, if that is enough for its points and there is room for 64 rows.
-pub fn liveness(
-    input: &Record<'_>,
-    graph: &FuncGraph,
-    walked: &[u32; 32],
-    width: usize,
-    used: &mut [u32],
-    dropped: &mut [u32],
-)
-    ensures { (j : Job) → Holds input.now j → code_count j.blocks ≤ word_bits * width → width ≤ 32
+pub fn liveness(graph: &FuncGraph<'_>, width: usize, used: &mut [u32], dropped: &mut [u32])
+    ensures { (j : Job) → Holds graph.now.input j → code_count j.blocks ≤ word_bits * width → width ≤ 32
         → 64 * width ≤ length used.old → 64 * width ≤ length dropped.old
-        → Edges (graph_of j) graph.now.first graph.now.succ → WalkedIn j walked.now
+        → Edges (graph_of j) graph.now.first graph.now.succ → WalkedIn j graph.now.walked
         → LiveRows j width used.new dropped.new }
 {
     if 32 < width {
@@ -87,18 +73,18 @@ pub fn liveness(
     if dropped.len() < 64 * width {
         return;
     }
-    let code = usize::from(input.head.code);
+    let code = usize::from(graph.input.head.code);
     if 32 * width < code {
         return;
     }
-    if 64 < input.head.variables {
+    if 64 < graph.input.head.variables {
         return;
     }
     if code <= 32 {
-        with_tables::<128>(input, graph, walked, width, used, dropped);
+        with_tables::<128>(graph, width, used, dropped);
     } else if code <= 128 {
-        with_tables::<512>(input, graph, walked, width, used, dropped);
+        with_tables::<512>(graph, width, used, dropped);
     } else {
-        with_tables::<4096>(input, graph, walked, width, used, dropped);
+        with_tables::<4096>(graph, width, used, dropped);
     }
 }

@@ -2,7 +2,7 @@
 ghost use Rattle.std.specs.Prelude.{◌≡◌, ◌*◌, ◌%◌, ◌<◌, ◌≤◌, length};
 ghost use Rattle.liveness.specs.Rows.{in_set, in_word, Column, Columns};
 
-use record::Head;
+use graph::tables::FuncGraph;
 
 // Puts point p into the row of each variable from `first` on and below n that a word has: its first bit is for variable `first`.
 fn word_column(w: u32, p: usize, first: usize, n: usize, width: usize, rows: &mut [u32])
@@ -38,21 +38,14 @@ fn column(sets: &[u32], p: usize, from: usize, many: usize, width: usize, rows: 
 }
 
 // The rows of all variables, with the walked points only.
-pub fn rows(
-    head: Head,
-    walked: &[u32; 32],
-    sets: &[u32],
-    from: usize,
-    width: usize,
-    rows: &mut [u32],
-)
-    requires { (head.code ≤ 32 * width) × (width ≤ 32) × (from ≤ 64) × (from % 32 ≡ 0) × (head.variables ≤ 64) × (64 * width ≤ length rows.old) }
-    ensures { Columns width head.variables head.code from walked.now sets.now rows.new }
+pub fn rows(graph: &FuncGraph<'_>, sets: &[u32], from: usize, width: usize, rows: &mut [u32])
+    requires { (graph.now.input.head.code ≤ 32 * width) × (width ≤ 32) × (from ≤ 64) × (from % 32 ≡ 0) × (graph.now.input.head.variables ≤ 64) × (64 * width ≤ length rows.old) }
+    ensures { Columns width graph.now.input.head.variables graph.now.input.head.code from graph.now.walked sets.now rows.new }
 {
-    let many = usize::from(head.variables);
+    let many = usize::from(graph.input.head.variables);
     bit_set::clear(rows, 0, many * width);
-    for p in 0..usize::from(head.code) {
-        if bit_set::test(walked, 0, p) {
+    for p in 0..usize::from(graph.input.head.code) {
+        if bit_set::test(&graph.walked, 0, p) {
             column(sets, p, from, many, width, rows);
         }
     }

@@ -16,7 +16,7 @@ ghost use Rattle.graph.specs.Search.{WalkedIn};
 ghost use Rattle.seeds.specs.Seeded.{Seeded};
 
 use declared::ends;
-use record::Record;
+use graph::tables::FuncGraph;
 use repr::Cursor;
 use rows::{fill_declared, fill_live};
 
@@ -35,27 +35,27 @@ pub struct Parameters {
     pub at: Cursor,
 }
 
-// The seeds of a job's regions, in rows of `width` words. `walked` has the walked points, and row v of `used` and of `dropped` those of them on
-// entry to which variable v is used or dropped later.
+// The seeds of a job's regions, in rows of `width` words. Row v of `used` and of `dropped` has the walked points on entry to which variable v is
+// used or dropped later.
 pub fn seeds(
-    input: &Record<'_>,
-    walked: &[u32; 32],
+    graph: &FuncGraph<'_>,
     used: &[u32],
     dropped: &[u32],
     width: usize,
     words: &mut [u32],
 )
-    ensures { (j : Job) → Holds input.now j → T (named j) → point_count j ≤ 1024
-        → WalkedIn j walked.now → 64 * width ≤ length used.now → 64 * width ≤ length dropped.now → LiveRows j width used.now dropped.now
+    ensures { (j : Job) → Holds graph.now.input j → T (named j) → point_count j ≤ 1024
+        → WalkedIn j graph.now.walked → 64 * width ≤ length used.now → 64 * width ≤ length dropped.now → LiveRows j width used.now dropped.now
         → width ≡ word_count (point_count j) → j.regions * width ≤ length words.old
         → Seeded j width words.old words.new }
 {
     if 32 < width {
         return;
     }
+    let input = &graph.input;
     bit_set::clear(words, 0, usize::from(input.head.regions) * width);
     let mut rows = [0; 16];
     ends(input, &mut rows);
-    fill_declared(input.head, walked, &rows, width, words);
+    fill_declared(graph, &rows, width, words);
     fill_live(input, used, dropped, width, words);
 }

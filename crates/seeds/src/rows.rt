@@ -6,6 +6,7 @@ ghost use Rattle.seeds.specs.Seeded.{Room, Adds, lent, ended, declared_seed, spr
 
 use super::Which;
 use super::regions::type_regions;
+use graph::tables::FuncGraph;
 use record::{Head, Record};
 use repr::Variable;
 
@@ -70,21 +71,21 @@ fn end_bit(ends: &[u32; 16], r: usize, e: usize, start: usize, point: usize, wor
 
 // A declared region's row: the walked points, and the ends of what it outlives.
 fn declared_row(
-    head: Head,
-    walked: &[u32; 32],
+    graph: &FuncGraph<'_>,
     ends: &[u32; 16],
     r: u8,
     width: usize,
     words: &mut [u32],
 )
     requires { width ≤ 32 }
-    ensures { r < head.regions → Room head width words.old
-        → Adds width head.regions (λ k p. eqb k r && declared_seed head.code head.declared walked.now ends.now k p) words.old words.new }
+    ensures { r < graph.now.input.head.regions → Room graph.now.input.head width words.old
+        → Adds width graph.now.input.head.regions (λ k p. eqb k r && declared_seed graph.now.input.head.code graph.now.input.head.declared graph.now.walked ends.now k p) words.old words.new }
 {
+    let head = graph.input.head;
     let row = usize::from(r);
     let code = usize::from(head.code);
     let start = row * width;
-    bit_set::union_from(words, start, walked, 0, width);
+    bit_set::union_from(words, start, &graph.walked, 0, width);
     for e in 0..usize::from(head.declared) {
         end_bit(ends, row, e, start, code + e, words);
     }
@@ -92,17 +93,16 @@ fn declared_row(
 
 // The rows of all declared regions.
 pub fn fill_declared(
-    head: Head,
-    walked: &[u32; 32],
+    graph: &FuncGraph<'_>,
     ends: &[u32; 16],
     width: usize,
     words: &mut [u32],
 )
     requires { width ≤ 32 }
-    ensures { Room head width words.old
-        → Adds width head.regions (λ r p. ltb r head.declared && declared_seed head.code head.declared walked.now ends.now r p) words.old words.new }
+    ensures { Room graph.now.input.head width words.old
+        → Adds width graph.now.input.head.regions (λ r p. ltb r graph.now.input.head.declared && declared_seed graph.now.input.head.code graph.now.input.head.declared graph.now.walked ends.now r p) words.old words.new }
 {
-    for r in 0..head.declared {
-        declared_row(head, walked, ends, r, width, words);
+    for r in 0..graph.input.head.declared {
+        declared_row(graph, ends, r, width, words);
     }
 }

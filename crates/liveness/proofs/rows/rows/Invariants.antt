@@ -5,4 +5,4 @@ use Rattle.liveness.specs.Rows.{Columns}
 use Rattle.liveness.proofs.rows.rows.Given as goal
 
 abbrev pub invariant-loop-p : goal.invariant-loop-p
-invariant-loop-p l = (length l.rows ≡ length l.initial.rows) × Columns l.width l.fn.head.variables l.p l.from l.walked l.sets l.rows
+invariant-loop-p l = (length l.rows ≡ length l.initial.rows) × Columns l.width l.fn.graph.input.head.variables l.p l.from l.graph.walked l.sets l.rows

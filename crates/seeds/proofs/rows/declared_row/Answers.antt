@@ -9,4 +9,4 @@ pub loop-e-preserved : goal.loop-e-preserved
 loop-e-preserved c = ending_more c.loop-e.invariant c.end_bit.ensures
 
 pub returns : goal.returns
-returns c = λ l room. rw (← c.from-row.ensures) (declared-row _ c.args.walked.now _ c.loop-e.invariant c.union_from.ensures.0 refl (omega arith) c.from-code.ensures (omega arith) (search rules) room)
+returns c = λ l room. rw (← c.from-row.ensures) (declared-row _ c.args.graph.now.walked _ c.loop-e.invariant c.union_from.ensures.0 refl (omega arith) c.from-code.ensures (omega arith) (search rules) room)
