@@ -37,13 +37,7 @@ pub struct Parameters {
 
 // The seeds of a job's regions, in rows of `width` words. Row v of `used` and of `dropped` has the walked points on entry to which variable v is
 // used or dropped later.
-pub fn seeds(
-    graph: &FuncGraph<'_>,
-    used: &[u32],
-    dropped: &[u32],
-    width: usize,
-    words: &mut [u32],
-)
+pub fn seeds(graph: &FuncGraph<'_>, used: &[u32], dropped: &[u32], width: usize, words: &mut [u32])
     ensures { (j : Job) → Holds graph.now.input j → T (named j) → point_count j ≤ 1024
         → WalkedIn j graph.now.walked → 64 * width ≤ length used.now → 64 * width ≤ length dropped.now → LiveRows j width used.now dropped.now
         → width ≡ word_count (point_count j) → j.regions * width ≤ length words.old

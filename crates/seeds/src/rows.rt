@@ -70,34 +70,22 @@ fn end_bit(ends: &[u32; 16], r: usize, e: usize, start: usize, point: usize, wor
 }
 
 // A declared region's row: the walked points, and the ends of what it outlives.
-fn declared_row(
-    graph: &FuncGraph<'_>,
-    ends: &[u32; 16],
-    r: u8,
-    width: usize,
-    words: &mut [u32],
-)
+fn declared_row(graph: &FuncGraph<'_>, ends: &[u32; 16], r: u8, width: usize, words: &mut [u32])
     requires { width ≤ 32 }
     ensures { r < graph.now.input.head.regions → Room graph.now.input.head width words.old
         → Adds width graph.now.input.head.regions (λ k p. eqb k r && declared_seed graph.now.input.head.code graph.now.input.head.declared graph.now.walked ends.now k p) words.old words.new }
 {
-    let head = graph.input.head;
     let row = usize::from(r);
-    let code = usize::from(head.code);
+    let code = usize::from(graph.input.head.code);
     let start = row * width;
     bit_set::union_from(words, start, &graph.walked, 0, width);
-    for e in 0..usize::from(head.declared) {
+    for e in 0..usize::from(graph.input.head.declared) {
         end_bit(ends, row, e, start, code + e, words);
     }
 }
 
 // The rows of all declared regions.
-pub fn fill_declared(
-    graph: &FuncGraph<'_>,
-    ends: &[u32; 16],
-    width: usize,
-    words: &mut [u32],
-)
+pub fn fill_declared(graph: &FuncGraph<'_>, ends: &[u32; 16], width: usize, words: &mut [u32])
     requires { width ≤ 32 }
     ensures { Room graph.now.input.head width words.old
         → Adds width graph.now.input.head.regions (λ r p. ltb r graph.now.input.head.declared && declared_seed graph.now.input.head.code graph.now.input.head.declared graph.now.walked ends.now r p) words.old words.new }
