@@ -18,7 +18,7 @@ use Rattle.nll_spec.proofs.OutputLaws.{sized-sets}
 use Rattle.bit_set.specs.Bits.{has}
 use Rattle.bit_set.specs.Rows.{Says}
 use Rattle.record.specs.Layout.{Holds}
-use Rattle.record.specs.declared.Record.{Record}
+use Rattle.graph.specs.declared.tables.FuncGraph.{FuncGraph}
 use Rattle.infer.specs.declared.Shape.{Shape}
 use Rattle.loans.specs.Loans.{LoansAt}
 use Rattle.loans.specs.declared.LoanTable.{LoanTable}
@@ -38,21 +38,21 @@ sets_rows : (j : Job) → length (answer every_end j).sets ≡ j.regions
 unfolding answer
 sets_rows j = (sized-sets every_end j).rows
 
-module _ {input : Record} {first succ walked ws : List ℕ} {lent : LoanTable} {scope : List ℕ} (bs bs' : List ℕ) {shape : Shape} (e : shape ≡ shape_of input.head)
-    (found : (j : Job) → Holds input j → T (named j) → T (paths_fit j) → WalkedIn j walked → length (loans_of (graph_of j)) ≤ 128
-    → LoansAt input.bytes.now j lent.numbers lent.count)
-    {room : ℕ} (enough : input.head.code ≤ 1024 → 4 * input.head.code ≤ room)
-    (scoped : 4 * input.head.code ≤ room → ScopeSays input first succ ws shape.width lent.numbers lent.count scope)
+module _ {g : FuncGraph} {ws : List ℕ} {lent : LoanTable} {scope : List ℕ} (bs bs' : List ℕ) {shape : Shape} (e : shape ≡ shape_of g.input.head)
+    (found : (j : Job) → Holds g.input j → T (named j) → T (paths_fit j) → WalkedIn j g.walked → length (loans_of (graph_of j)) ≤ 128
+    → LoansAt g.input.bytes.now j lent.numbers lent.count)
+    {room : ℕ} (enough : g.input.head.code ≤ 1024 → 4 * g.input.head.code ≤ room)
+    (scoped : 4 * g.input.head.code ≤ room → ScopeSays g ws shape.width lent.numbers lent.count scope)
     (checked : (length bs' ≡ length bs)
-    × ((j : Job) (u : Table) → Holds input j → LoansAt input.bytes.now j lent.numbers lent.count
+    × ((j : Job) (u : Table) → Holds g.input j → LoansAt g.input.bytes.now j lent.numbers lent.count
     → ((p : Point) → p < code_count j.blocks → (i : ℕ) → i < lent.count → has scope (128 * p + i) ≡ holds u i p)
     → 2 * point_count j ≤ length bs
     → bs' ≡ overwrite (bytes_to (verdict_at j (graph_of j) u (loans_of (graph_of j))) (point_count j)) bs)) where
-  module _ (j : Job) (a : JobAt input j) (m : Mapped first succ walked j) (says : Says (word_count (point_count j)) (answer every_end j).sets ws) where
-    loans-at : LoansAt input.bytes.now j lent.numbers lent.count
+  module _ (j : Job) (a : JobAt g.input j) (m : Mapped g j) (says : Says (word_count (point_count j)) (answer every_end j).sets ws) where
+    loans-at : LoansAt g.input.bytes.now j lent.numbers lent.count
     loans-at = let n = names_and_paths j a.accepted in found j a.layout n.0 n.1 m.walks (let x = loans-few j in omega (arith, a.loans))
 
-    given : Given input ws shape.width lent.numbers lent.count j (answer every_end j).sets
+    given : Given g.input ws shape.width lent.numbers lent.count j (answer every_end j).sets
     given =
         let w = ap (λ (x : Shape). x.width) e ∙ width_is a.layout in
         record {
@@ -72,12 +72,12 @@ module _ {input : Record} {first succ walked ws : List ℕ} {lent : LoanTable} {
     unfolding scope_table_lem
     in_scope p hp i hi =
         let e : 128 * p + i ≡ word_bits * (4 * p) + i = omega arith in
-        let k : input.head.code ≤ 1024 = omega (arith, points-are a.layout, a.points) in
+        let k : g.input.head.code ≤ 1024 = omega (arith, points-are a.layout, a.points) in
         ap (has scope) e ∙ (scoped (enough k)).bits j (answer every_end j).sets given m.edges p i hp hi
 
     judged : verdict_bytes * point_count j ≤ length bs → bs' ≡ overwrite (verdicts_of (answer every_end j)) bs
     unfolding scope_table_lem
     judged k = checked.1 j scope_table_lem a.layout loans-at in_scope k ∙ ap (λ (x : List ℕ). overwrite x bs) (same_bytes j)
 
-  pub judges : Judges input first succ walked ws bs bs'
+  pub judges : Judges g ws bs bs'
   judges = record { size = checked.0; judged = judged }

@@ -21,7 +21,7 @@ use Rattle.nll_spec.proofs.OutputLaws.{length-words_of}
 use Rattle.bit_set.specs.Rows.{Says}
 use Rattle.bit_set.proofs.TableLaws.{says-answer}
 use Rattle.record.specs.Layout.{Holds}
-use Rattle.record.specs.declared.Record.{Record}
+use Rattle.graph.specs.declared.tables.FuncGraph.{FuncGraph}
 use Rattle.graph.specs.Tables.{Edges}
 use Rattle.graph.specs.Search.{WalkedIn}
 use Rattle.infer.specs.Ran.{Words}
@@ -33,13 +33,13 @@ use Rattle.nll.specs.Steps.{shape_of, JobAt, Mapped, Seeds, Answered, Solves}
 use Rattle.nll.proofs.JobLaws.{names_and_paths, code_is, points-are, width_is}
 use Rattle.nll.proofs.OverwriteLaws.{same-tail}
 
-pub seeds_by : {input : Record} {first succ walked used dropped : List ℕ} {width m n : ℕ} {ws ws' : List ℕ}
+pub seeds_by : {g : FuncGraph} {used dropped : List ℕ} {width m n : ℕ} {ws ws' : List ℕ}
     → (width ≤ 32 → 64 * width ≤ m) → (width ≤ 32 → 64 * width ≤ n) → length used ≡ m → length dropped ≡ n
-    → ((j : Job) → Holds input j → code_count j.blocks ≤ word_bits * width → width ≤ 32 → 64 * width ≤ m → 64 * width ≤ n → Edges (graph_of j) first succ → WalkedIn j walked → LiveRows j width used dropped)
-    → ((j : Job) → Holds input j → T (named j) → point_count j ≤ 1024 → WalkedIn j walked
+    → ((j : Job) → Holds g.input j → code_count j.blocks ≤ word_bits * width → width ≤ 32 → 64 * width ≤ m → 64 * width ≤ n → Edges (graph_of j) g.first g.succ → WalkedIn j g.walked → LiveRows j width used dropped)
+    → ((j : Job) → Holds g.input j → T (named j) → point_count j ≤ 1024 → WalkedIn j g.walked
     → 64 * width ≤ length used → 64 * width ≤ length dropped → LiveRows j width used dropped
     → width ≡ word_count (point_count j) → j.regions * width ≤ length ws → Seeded j width ws ws')
-    → Seeds input first succ walked width ws ws'
+    → Seeds g width ws ws'
 unfolding point_count
 seeds_by {width = width} for-used for-dropped u d rows seeded = record {
   seeded = λ j a m e.
@@ -90,9 +90,9 @@ module _ (j : Job) {ws mid ws' grown : List ℕ} (many : length j.outlives ≤ l
       size : length (take (length j.outlives) grown) ≡ length j.outlives
       size = length-take-le (length j.outlives) grown many
 
-module _ {input : Record} {first succ walked ws mid : List ℕ} {shape : Shape} (e : shape ≡ shape_of input.head) where
+module _ {g : FuncGraph} {ws mid : List ℕ} {shape : Shape} (e : shape ≡ shape_of g.input.head) where
   -- the seeds, as the solver is handed them
-  handed : (j : Job) → JobAt input j → Mapped first succ walked j → Words mid → Seeded j (word_count (point_count j)) ws mid → regionck.Seeded input first succ walked shape mid j
+  handed : (j : Job) → JobAt g.input j → Mapped g j → Words mid → Seeded j (word_count (point_count j)) ws mid → regionck.Seeded g shape mid j
   handed j a m fits seeded =
       record {
         layout = a.layout;
@@ -106,12 +106,12 @@ module _ {input : Record} {first succ walked ws mid : List ℕ} {shape : Shape} 
         seeds = seeded.says;
       }
 
-  pub solves : {ws' grown : List ℕ} → Words mid → Seeds input first succ walked shape.width ws mid → length grown ≡ 128
-      → ((j : Job) → regionck.Seeded input first succ walked shape mid j → regionck.Solved every_end j mid ws' grown) → Solves input first succ walked ws ws' grown
+  pub solves : {ws' grown : List ℕ} → Words mid → Seeds g shape.width ws mid → length grown ≡ 128
+      → ((j : Job) → regionck.Seeded g shape mid j → regionck.Solved every_end j mid ws' grown) → Solves g ws ws' grown
   unfolding words_needed
   solves {ws'} {grown} fits seeds size solved = record { size = size; solved = by }
     where
-      by : (j : Job) → JobAt input j → Mapped first succ walked j → words_needed j ≤ length ws → Answered j ws ws' grown
+      by : (j : Job) → JobAt g.input j → Mapped g j → words_needed j ≤ length ws → Answered j ws ws' grown
       by j a m k =
           let w = ap (λ (x : Shape). x.width) e ∙ width_is a.layout in
           let x : Seeded j (word_count (point_count j)) ws mid = subst (λ (n : ℕ). Seeded j n ws mid) w (seeds.seeded j a m w (subst (λ (n : ℕ). j.regions * n ≤ length ws) (sym w) k)) in

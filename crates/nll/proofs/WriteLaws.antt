@@ -17,6 +17,7 @@ use Rattle.nll_spec.proofs.AcceptedLaws.{accepted-job}
 use Rattle.nll_spec.proofs.OutputLaws.{length-bytes_of}
 use Rattle.record.specs.Layout.{Holds}
 use Rattle.record.specs.declared.Record.{Record}
+use Rattle.graph.specs.declared.tables.FuncGraph.{FuncGraph}
 use Rattle.graph.specs.Tables.{Edges}
 use Rattle.graph.specs.Search.{WalkedIn}
 use Rattle.nll.specs.Steps.{shape_of, JobAt, Mapped, Answered, Solves, verdicts_of, Judges, Writes}
@@ -43,26 +44,26 @@ module _ (j : Job) where
       ∙ pasted (verdicts_of (answer every_end j)) (map bit (answer every_end j).grown) bs grown (ap (λ (k : ℕ). take k grown) (length-marks j) ∙ e)
       ∙ ap (λ (x : List ℕ). overwrite x bs) (sym bytes_apart)
 
-module _ {input : Record} {first succ walked : List ℕ}
-    (edges : (j : Job) → Holds input j → T (successors_named j) → point_count j ≤ 1024 → Edges (graph_of j) first succ)
-    (walks : (j : Job) → Holds input j → T (successors_named j) → point_count j ≤ 1024 → j.start ≡ 0 → T (ltb j.start (length j.blocks)) → WalkedIn j walked)
+module _ {input : Record} {g : FuncGraph} (is : g.input ≡ input)
+    (graphed : (j : Job) → Holds input j → T (successors_named j) → point_count j ≤ 1024 → Edges (graph_of j) g.first g.succ × (T (ltb j.start (length j.blocks)) → WalkedIn j g.walked))
   where
-    mapped : (j : Job) → JobAt input j → Mapped first succ walked j
+    at : (j : Job) → JobAt input j → JobAt g.input j
+    at j = subst (λ (x : Record). JobAt x j) (sym is)
+
+    mapped : (j : Job) → JobAt input j → Mapped g j
     mapped j a =
         let ok = accepted-job j a.accepted in
-        record {
-          edges = edges j a.layout ok.successors-named a.points;
-          walks = walks j a.layout ok.successors-named a.points a.layout.start ok.start-named;
-        }
+        let m = graphed j a.layout ok.successors-named a.points in
+        record { edges = m.0; walks = m.1 ok.start-named }
 
-    module _ {ws ws' grown bs mid bs' : List ℕ} (solves : Solves input first succ walked ws ws' grown) (judges : Judges input first succ walked ws' bs mid)
+    module _ {ws ws' grown bs mid bs' : List ℕ} (solves : Solves g ws ws' grown) (judges : Judges g ws' bs mid)
         (marks : bs' ≡ paste mid (verdict_bytes * (shape_of input.head).points) grown input.head.declared) where
       found : (j : Job) → JobAt input j → Room j ws bs → Answered j ws ws' grown
-      found j a room = solves.solved j a (mapped j a) room.0
+      found j a room = solves.solved j (at j a) (mapped j a) room.0
 
       verdicts : (j : Job) → JobAt input j → Room j ws bs → mid ≡ overwrite (verdicts_of (answer every_end j)) bs
       unfolding bytes_needed
-      verdicts j a room = judges.judged j a (mapped j a) (found j a room).says (omega (arith, room.1))
+      verdicts j a room = judges.judged j (at j a) (mapped j a) (found j a room).says (omega (arith, room.1))
 
       pub writes : Writes input ws bs ws' bs'
       writes =

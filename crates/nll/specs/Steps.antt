@@ -14,6 +14,7 @@ use Rattle.record.specs.declared.Head.{Head}
 use Rattle.record.specs.declared.Record.{Record}
 use Rattle.graph.specs.Tables.{Edges}
 use Rattle.graph.specs.Search.{WalkedIn}
+use Rattle.graph.specs.declared.tables.FuncGraph.{FuncGraph}
 use Rattle.infer.specs.declared.Shape.{Shape}
 use Rattle.seeds.specs.Seeded.{Seeded}
 
@@ -37,15 +38,15 @@ pub record JobAt (input : Record) (j : Job) : Type 0 where
   pub loans : borrow_count j ≤ 128
 
 -- The tables say what follows each point, and the words which points are walked.
-pub record Mapped (first succ walked : List ℕ) (j : Job) : Type 0 where
-  pub edges : Edges (graph_of j) first succ
-  pub walks : WalkedIn j walked
+pub record Mapped (g : FuncGraph) (j : Job) : Type 0 where
+  pub edges : Edges (graph_of j) g.first g.succ
+  pub walks : WalkedIn j g.walked
 
 -- ---- The words
 
 -- The words become the regions' seeds.
-pub record Seeds (input : Record) (first succ walked : List ℕ) (width : ℕ) (ws ws' : List ℕ) : Type 0 where
-  pub seeded : (j : Job) → JobAt input j → Mapped first succ walked j → width ≡ word_count (point_count j) → j.regions * width ≤ length ws → Seeded j width ws ws'
+pub record Seeds (g : FuncGraph) (width : ℕ) (ws ws' : List ℕ) : Type 0 where
+  pub seeded : (j : Job) → JobAt g.input j → Mapped g j → width ≡ word_count (point_count j) → j.regions * width ≤ length ws → Seeded j width ws ws'
 
 -- The words are the answer's, and the marks say which declared regions are grown.
 pub record Answered (j : Job) (ws ws' grown : List ℕ) : Type 0 where
@@ -53,9 +54,9 @@ pub record Answered (j : Job) (ws ws' grown : List ℕ) : Type 0 where
   pub words : ws' ≡ overwrite (words_of (answer every_end j)) ws
   pub marks : take (length j.outlives) grown ≡ map bit (answer every_end j).grown
 
-pub record Solves (input : Record) (first succ walked ws ws' grown : List ℕ) : Type 0 where
+pub record Solves (g : FuncGraph) (ws ws' grown : List ℕ) : Type 0 where
   pub size : length grown ≡ 128
-  pub solved : (j : Job) → JobAt input j → Mapped first succ walked j → words_needed j ≤ length ws → Answered j ws ws' grown
+  pub solved : (j : Job) → JobAt g.input j → Mapped g j → words_needed j ≤ length ws → Answered j ws ws' grown
 
 -- ---- The bytes
 
@@ -64,9 +65,9 @@ abbrev pub verdicts_of : Answer → List ℕ
 verdicts_of a = gather (λ v. v.kind ∷ v.operand ∷ []) a.verdicts
 
 -- The verdicts are written.
-pub record Judges (input : Record) (first succ walked ws bs bs' : List ℕ) : Type 0 where
+pub record Judges (g : FuncGraph) (ws bs bs' : List ℕ) : Type 0 where
   pub size : length bs' ≡ length bs
-  pub judged : (j : Job) → JobAt input j → Mapped first succ walked j → Says (word_count (point_count j)) (answer every_end j).sets ws
+  pub judged : (j : Job) → JobAt g.input j → Mapped g j → Says (word_count (point_count j)) (answer every_end j).sets ws
       → verdict_bytes * point_count j ≤ length bs → bs' ≡ overwrite (verdicts_of (answer every_end j)) bs
 
 -- ---- Both

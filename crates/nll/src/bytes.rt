@@ -9,60 +9,41 @@ use borrowck::borrow_check;
 use graph::tables::FuncGraph;
 use loans::{LoanTable, loans};
 use loans_in_scope::loans_in_scope;
-use record::{Head, Record};
+use record::Head;
 
 // Writes the verdicts, by the regions' sets. `scope` is for the loans in scope.
-fn by_scope(
-    input: &Record<'_>,
-    graph: &FuncGraph,
-    walked: &[u32; 32],
-    words: &[u32],
-    scope: &mut [u32],
-    bytes: &mut [u8],
-)
-    requires { input.now.head.code ≤ 1024 → 4 * input.now.head.code ≤ length scope.old }
-    ensures { Judges input.now graph.now.first graph.now.succ walked.now words.now bytes.old bytes.new }
+fn by_scope(graph: &FuncGraph<'_>, words: &[u32], scope: &mut [u32], bytes: &mut [u8])
+    requires { graph.now.input.head.code ≤ 1024 → 4 * graph.now.input.head.code ≤ length scope.old }
+    ensures { Judges graph.now words.now bytes.old bytes.new }
 {
-    let shape = shape_of(input.head);
+    let shape = shape_of(graph.input.head);
     let mut lent = LoanTable::none();
-    loans(input, walked, &mut lent);
-    loans_in_scope(input, graph, words, shape.width, &lent, scope);
-    borrow_check(input, &lent, scope, bytes);
+    loans(graph, &mut lent);
+    loans_in_scope(graph, words, shape.width, &lent, scope);
+    borrow_check(&graph.input, &lent, scope, bytes);
 }
 
 // The same with N words for the loans in scope.
 #[inline(never)]
-fn with_words<const N: usize>(
-    input: &Record<'_>,
-    graph: &FuncGraph,
-    walked: &[u32; 32],
-    words: &[u32],
-    bytes: &mut [u8],
-)
-    requires { (input.now.head.code ≤ 1024 → 4 * input.now.head.code ≤ N) × (N ≤ 4096) }
-    ensures { Judges input.now graph.now.first graph.now.succ walked.now words.now bytes.old bytes.new }
+fn with_words<const N: usize>(graph: &FuncGraph<'_>, words: &[u32], bytes: &mut [u8])
+    requires { (graph.now.input.head.code ≤ 1024 → 4 * graph.now.input.head.code ≤ N) × (N ≤ 4096) }
+    ensures { Judges graph.now words.now bytes.old bytes.new }
 {
     let mut scope = [0; N];
-    by_scope(input, graph, walked, words, &mut scope, bytes);
+    by_scope(graph, words, &mut scope, bytes);
 }
 
 // The same with words of a size for so many points.
-pub fn verdicts(
-    input: &Record<'_>,
-    graph: &FuncGraph,
-    walked: &[u32; 32],
-    words: &[u32],
-    bytes: &mut [u8],
-)
-    ensures { Judges input.now graph.now.first graph.now.succ walked.now words.now bytes.old bytes.new }
+pub fn verdicts(graph: &FuncGraph<'_>, words: &[u32], bytes: &mut [u8])
+    ensures { Judges graph.now words.now bytes.old bytes.new }
 {
-    let code = input.head.code;
+    let code = graph.input.head.code;
     if code <= 32 {
-        with_words::<128>(input, graph, walked, words, bytes);
+        with_words::<128>(graph, words, bytes);
     } else if code <= 128 {
-        with_words::<512>(input, graph, walked, words, bytes);
+        with_words::<512>(graph, words, bytes);
     } else {
-        with_words::<4096>(input, graph, walked, words, bytes);
+        with_words::<4096>(graph, words, bytes);
     }
 }
 
