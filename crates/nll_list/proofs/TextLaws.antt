@@ -4,7 +4,7 @@ use mathlib.Core.Path.{◌≡◌, refl, sym, ◌∙◌, ap, ap₂}
 use mathlib.Core.List.{List, [], ◌∷◌, ◌++◌, append_assoc, append-nil}
 use Prim.Native.Nat.{ℕ}
 use native.Mathlib.Omega.{arith}
-use lib.ListN.{length, take}
+use lib.ListN.{length, take, length-take}
 use Rattle.nll_spec.specs.Syntax.{Job}
 use Rattle.nll_spec.specs.Decode.{decoded, decode}
 use Rattle.nll_spec.specs.Listing.{line}
@@ -20,6 +20,7 @@ use Rattle.listing.specs.declared.writer.Text.{Text}
 use Rattle.listing.specs.declared.Counts.{Counts}
 use Rattle.listing.specs.declared.Place.{Place}
 use Rattle.listing.specs.declared.Place.TheVariants.{Points, Done}
+use Rattle.listing.proofs.WriteLaws.{line-room}
 use Rattle.listing.proofs.ListingLaws.{lists_refusal, lists_answer}
 use Rattle.nll_list.specs.Text.{IsRead, Begins}
 
@@ -66,6 +67,7 @@ module _ (input ws bs : List ℕ) (n : Counts) (counted : (j : Job) → decode i
   pub begins_answer : {t : Text} → number ≡ 0 → t.used ≡ 0 → Begins input (record { text = t; counts = n; next = Points }) ws' bs'
   begins_answer {t} e z =
       record {
+        within = omega (arith, length-take t.used t.bytes, z);
         goes = λ text kept.
             lists_answer text input ws bs n kept counted w b (sym s.number ∙ e)
             ∙ ap₂ (λ (x y : List ℕ). rest n x y Points) (sym s.words) (sym s.bytes)
@@ -73,8 +75,10 @@ module _ (input ws bs : List ℕ) (n : Counts) (counted : (j : Job) → decode i
       }
 
   pub begins_refusal : (k : Refusal) {m : ℕ} {t : Text} → number ≡ number_of k → m ≡ number_of k → text_of t ≡ line "refused" (m ∷ []) → Begins input (record { text = t; counts = n; next = Done }) ws' bs'
+  unfolding ascii
   begins_refusal k {m} {t} e f p =
       record {
+        within = omega (arith, ap length p, line-room "refused" m (omega (arith, e, f, s.refuses.one_of_ten)));
         goes = λ text kept.
             lists_refusal text input ws bs n kept counted w b (λ z. not_zero k (sym e ∙ s.number ∙ z))
             ∙ ap (λ (x : ℕ). line "refused" (x ∷ [])) (sym s.number ∙ e ∙ sym f)

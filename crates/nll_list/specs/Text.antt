@@ -1,5 +1,5 @@
 -- What the program's functions promise of the text that it reads and of the listing that it prints.
-use Rattle.std.specs.Prelude.{◌≡◌, List, ◌++◌, ℕ}
+use Rattle.std.specs.Prelude.{◌≡◌, List, ◌++◌, ℕ, ◌≤◌, length}
 use Rattle.nll_spec.specs.Listing.{listing}
 use Rattle.listing.specs.Reading.{hex_record, Reads}
 use Rattle.listing.specs.Writing.{text_of}
@@ -12,6 +12,7 @@ pub record IsRead (h : Hex) : Type 0 where
   pub text : List ℕ
   pub reads : Reads text h
 
--- What is printed first, and then all from the place that follows, is the listing of a text whose record, as far as it is kept, is `input`.
+-- What is printed first, at most 16 bytes, and then all from the place that follows, is the listing of a text whose record, as far as it is kept, is `input`.
 pub record Begins (input : List ℕ) (r : Begun) (ws bs : List ℕ) : Type 0 where
+  pub within : length (text_of r.text) ≤ 16
   pub goes : (text : List ℕ) → hex_record text ≡ input → listing text ≡ text_of r.text ++ rest r.counts ws bs r.next
