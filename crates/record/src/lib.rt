@@ -60,14 +60,6 @@ pub enum ActionKind {
     StorageDead,
 }
 
-// The parts that stand in a row of their own.
-#[derive(Clone, Copy)]
-pub enum Part {
-    Struct,
-    Outlives,
-    Variable,
-}
-
 // The five counts.
 #[derive(Clone, Copy)]
 pub struct Counts {

@@ -3,8 +3,8 @@ ghost use Rattle.std.specs.Prelude.{◌≡◌, ◌≤◌, length};
 ghost use Rattle.record.specs.Layout.{InRange, CountsSay, PartsSay, verdict_of};
 
 use super::blocks::blocks;
-use super::rows::row;
-use super::{Code, Counts, Head, OUTLIVES, Part, STRUCTS, VARIABLES};
+use super::rows::{outlives_end, row};
+use super::{Code, Counts, Head, OUTLIVES, STRUCTS, VARIABLES};
 use repr::{Cursor, Reading, Refusal};
 
 // The five counts: structs, regions, declared regions, variables, blocks.
@@ -31,9 +31,9 @@ pub fn parts(n: Counts, c: Cursor, s: &[u8], layout: &mut [u16; 1280]) -> Result
     requires { InRange n × (length s.now ≤ 65535) }
     ensures { PartsSay n s.now c.at layout.new result }
 {
-    let second = row(Part::Struct, c, s, n.structs, STRUCTS, layout)?;
-    let third = row(Part::Outlives, second, s, n.declared, OUTLIVES, layout)?;
-    let last = row(Part::Variable, third, s, n.variables, VARIABLES, layout)?;
+    let second = row(Cursor::struct_end, c, s, n.structs, STRUCTS, layout)?;
+    let third = row(outlives_end, second, s, n.declared, OUTLIVES, layout)?;
+    let last = row(Cursor::ty, third, s, n.variables, VARIABLES, layout)?;
     blocks(last, s, n.blocks, layout)
 }
 
