@@ -1,5 +1,5 @@
 #![tactic(auto)]
-// The whole record: refusals 1 to 5, and a table of where each part of the job lies.
+// The whole record: the refusals from `Refusal::Version` to `Refusal::Size`, and a table of where each part of the job lies.
 mod access;
 mod blocks;
 mod rows;
@@ -88,7 +88,7 @@ fn job(s: &[u8], layout: &mut [u16; 1280]) -> Result<Head, Refusal>
     verdict(n, s.len(), code)
 }
 
-// The refusal of a record, 1 to 5, or the head of its job, with the table of where each part lies. A record that is refused leaves anything in the table.
+// The refusal of a record, from `Refusal::Version` to `Refusal::Size`, or the head of its job, with the table of where each part lies. A record that is refused leaves anything in the table.
 pub fn read(s: &[u8], layout: &mut [u16; 1280]) -> Result<Head, Refusal>
     ensures { DecodedSays (decode s.now) s.now layout.new result }
 {

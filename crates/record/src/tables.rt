@@ -1,4 +1,4 @@
-// The five counts, the parts that they count, and refusal 5.
+// The five counts, the parts that they count, and the limits of a whole record.
 ghost use Rattle.std.specs.Prelude.{◌≡◌, ◌≤◌, length};
 ghost use Rattle.record.specs.Layout.{InRange, CountsSay, PartsSay, verdict_of};
 
@@ -37,7 +37,7 @@ pub fn parts(n: Counts, c: Cursor, s: &[u8], layout: &mut [u16; 1280]) -> Result
     blocks(last, s, n.blocks, layout)
 }
 
-// What a record of this size is, by what was read of it: bytes that follow give 3, then too many points or loans 5.
+// What a record of this size is, by what was read of it: bytes that follow are `Refusal::Form`, then too many points or loans `Refusal::Size`.
 pub fn verdict(n: Counts, size: usize, code: Code) -> Result<Head, Refusal>
     requires { code.points ≤ 16384 }
     ensures { result ≡ verdict_of n size code.next code.points code.loans }
