@@ -16,11 +16,10 @@ use Rattle.nll_spec.specs.Decode as decode
 use Rattle.repr.specs.Reading.{rest}
 use Rattle.repr.specs.declared.Cursor.{Cursor}
 use Rattle.repr.proofs.ReadLaws.{step, stop}
-use Rattle.record.specs.Rows.{Standing, none, more, Row, RowResult, RowSays, reader}
+use Rattle.record.specs.Rows.{Standing, none, more, Row}
 use Rattle.record.specs.Blocks.{Blocks, BlocksResult}
 use Rattle.record.specs.Layout.{DecodedSays, InRange, counts_says, CountsFit, CountsSay, parts_of, head_of, Parts, PartsResult, PartsSay}
 use Rattle.record.specs.Layout.{verdict_of}
-use Rattle.record.specs.declared.Part.{Part}
 use Rattle.record.specs.declared.Counts.{Counts}
 use Rattle.record.proofs.BlockLaws.{window_kept}
 use Rattle.repr.specs.declared.refusal.Refusal.{Refusal}
@@ -46,9 +45,6 @@ count_most low high {n} bs {over} e = go (byte bs) refl
     go (read m r) i = test m r (leb low m && leb m high) refl (sym (step _ _ _ i) ∙ e)
 
 -- ---- The rows
-
-pub row-result : {part : Part} {s : List ℕ} {from : Cursor} {n base : ℕ} {old t : List ℕ} {r x : Result Cursor Refusal} → RowSays part s from n base old t r → r ≡ x → RowResult (reader part) s from n base t x
-row-result {part} {s} {from} {n} {base} {old} {t} h e = subst (λ (y : Result Cursor Refusal). RowResult (reader part) s from n base t y) e h.result
 
 standing_length : {A : Type 0} {m : Reader A} {s os : List ℕ} {xs : List A} → Standing m s os xs → length xs ≡ length os
 standing_length none = refl

@@ -1,5 +1,5 @@
 -- Reading a row item by item, with an entry of the table for each. Assumes nothing.
-use mathlib.Core.Path.{◌≡◌, refl, sym, ap, subst, ◌∙◌}
+use mathlib.Core.Path.{◌≡◌, refl, ap, ◌∙◌}
 use mathlib.Core.List.{List, [], ◌∷◌, ◌++◌, append_assoc, append-nil}
 use Prim.Native.Nat.{ℕ, zero, suc, ◌+◌, ◌-◌, ◌≤◌, ◌<◌, min}
 use native.Mathlib.Omega.{arith}
@@ -13,11 +13,9 @@ use Rattle.repr.specs.Reading.{ended, end_says, bytes_say}
 use Rattle.repr.proofs.ReadLaws.{step, stop}
 use Rattle.repr.proofs.PartLaws.{end_readable, end_refused, end-over}
 use Rattle.repr.specs.Stands.{Stands}
-use Rattle.record.specs.Rows.{Standing, none, more, Row, reader}
-use Rattle.record.specs.declared.Part.{Part}
+use Rattle.record.specs.Rows.{Standing, none, more, Row}
 use Rattle.repr.specs.declared.Cursor.{Cursor}
 use Rattle.repr.specs.declared.refusal.Refusal.{Refusal}
-use Rattle.repr.specs.Refusals.{number_of}
 use Rattle.std.specs.Prelude.{Result, Ok, Err}
 
 -- ---- Items that were read, before a reading of more
@@ -91,10 +89,6 @@ window_more t base i o h = let l : i < length (drop base t) = simp length-drop (
 pub bytes-end : (s : List ℕ) (c : Cursor) (n : ℕ) (r : Result Cursor Refusal) → end_says s r ≡ ended (bytes_say s c n r)
 bytes-end s c n (Ok next) = refl
 bytes-end s c n (Err k) = refl
-
--- what is read of a part of this kind
-pub as_part : {p q : Part} (x : Reading (Unit {0})) (bs : List ℕ) → p ≡ q → x ≡ ended (reader q bs) → x ≡ ended (reader p bs)
-as_part x bs e h = subst (λ (k : Part). x ≡ ended (reader k bs)) (sym e) h
 
 -- ---- A row
 

@@ -47,7 +47,7 @@ Holds r j = Layout r.bytes.now r.layout.now r.head j
 
 -- ---- What a record is
 
--- a job within the limits of refusal 5, and where it lies
+-- a job within the limits of points and loans, and where it lies
 pub record Accepted (d : decode.Decoded) (s t : List ℕ) (h : Head) : Type 0 where
   pub job : Job
   pub is : d ≡ decode.decoded job

@@ -1,11 +1,11 @@
 -- A row of parts, with an entry of the table for each.
 use Rattle.std.specs.Prelude.{◌≡◌, List, [], ◌∷◌, ℕ, length, take, drop, Result, Ok, Err}
+use Rattle.std.specs.Borrow.{Bor}
 use Rattle.nll_spec.specs.Syntax.{StructDecl, Ty, RegionName}
 use Rattle.nll_spec.specs.Decode.{refused, read, Reader, byte, items, counted, max_outlived, struct_decl, type}
+use Rattle.repr.specs.Reading.{ended, end_says}
 use Rattle.repr.specs.Stands.{Stands}
 use Rattle.repr.specs.declared.Cursor.{Cursor}
-use Rattle.record.specs.declared.Part.{Part}
-use Rattle.record.specs.declared.Part.TheVariants.{Struct, Outlives, Variable}
 use Rattle.repr.specs.declared.refusal.Refusal.{Refusal}
 use Rattle.repr.specs.Refusals.{number_of}
 
@@ -14,7 +14,13 @@ pub data Standing {A : Type 0} (m : Reader A) (s : List ℕ) : List ℕ → List
   none : Standing m s [] []
   more : {o : ℕ} {os : List ℕ} {x : A} {xs : List A} → Stands m x (drop o s) → Standing m s os xs → Standing m s (o ∷ os) (x ∷ xs)
 
--- What each kind of part is, and its reader.
+-- The parts that stand in a row of their own.
+pub data Part : Type 0 where
+  Struct : Part
+  Outlives : Part
+  Variable : Part
+
+-- What each of them is, and its reader.
 abbrev pub Held : Part → Type 0
 Held Struct = StructDecl
 Held Outlives = List RegionName
@@ -24,6 +30,10 @@ abbrev pub reader : (part : Part) → Reader (Held part)
 reader Struct = struct_decl
 reader Outlives = counted max_outlived byte
 reader Variable = type
+
+-- The answers for a place and some bytes say where a part of this kind ends that begins there.
+abbrev pub Ends : Part → (Cursor → Bor (List ℕ) → Result Cursor Refusal → Type 0) → Type 0
+Ends part answers = (c : Cursor) (s : Bor (List ℕ)) (r : Result Cursor Refusal) → answers c s r → end_says s.now r ≡ ended (reader part (drop c.at s.now))
 
 -- n items that m reads from one place of s to another, with their offsets from entry `base` of the table t on.
 pub record Row {A : Type 0} (m : Reader A) (s : List ℕ) (from next : ℕ) (n base : ℕ) (t : List ℕ) : Type 0 where

@@ -1,5 +1,5 @@
 #![tactic(auto)]
-// The whole record: refusals 1 to 5, and a table of where each part of the job lies.
+// The whole record: the refusals from `Refusal::Version` to `Refusal::Size`, and a table of where each part of the job lies.
 mod access;
 mod blocks;
 mod rows;
@@ -28,9 +28,6 @@ pub const POINTS: usize = 256;
 
 pub const END: u16 = 65535;
 
-// The tag of a Borrow.
-pub const BORROW: u8 = 2;
-
 // How many parts there are of each kind; `code` counts the points of all blocks.
 #[derive(Clone, Copy)]
 pub struct Head {
@@ -50,12 +47,17 @@ pub struct Record<'a> {
     pub head: Head,
 }
 
-// The parts that stand in a row of their own.
-#[derive(Clone, Copy)]
-pub enum Part {
-    Struct,
-    Outlives,
-    Variable,
+// What an action does, without its parts.
+#[derive(Clone, Copy, PartialEq, Eq)]
+pub enum ActionKind {
+    Noop,
+    Init,
+    Borrow,
+    Assign,
+    Constraint,
+    Use,
+    Drop,
+    StorageDead,
 }
 
 // The five counts.
@@ -86,7 +88,7 @@ fn job(s: &[u8], layout: &mut [u16; 1280]) -> Result<Head, Refusal>
     verdict(n, s.len(), code)
 }
 
-// The refusal of a record, 1 to 5, or the head of its job, with the table of where each part lies. A record that is refused leaves anything in the table.
+// The refusal of a record, from `Refusal::Version` to `Refusal::Size`, or the head of its job, with the table of where each part lies. A record that is refused leaves anything in the table.
 pub fn read(s: &[u8], layout: &mut [u16; 1280]) -> Result<Head, Refusal>
     ensures { DecodedSays (decode s.now) s.now layout.new result }
 {

@@ -2,9 +2,8 @@
 ghost use Rattle.std.specs.Prelude.{◌≡◌, ◌+◌, ◌≤◌, min, length, drop};
 ghost use Rattle.nll_spec.specs.Decode.{counted, max_outlived, byte};
 ghost use Rattle.repr.specs.Reading.{ended, end_says};
-ghost use Rattle.record.specs.Rows.{reader, RowSays};
+ghost use Rattle.record.specs.Rows.{Part, Ends, RowSays};
 
-use super::Part;
 use repr::{Cursor, Refusal};
 
 // A place as an entry of the table. No record is so long that it stands for another.
@@ -22,32 +21,23 @@ pub fn outlives_end(c: Cursor, s: &[u8]) -> Result<Cursor, Refusal>
     next.bytes(s, n)
 }
 
-pub fn part_end(part: Part, c: Cursor, s: &[u8]) -> Result<Cursor, Refusal>
-    ensures { end_says s.now result ≡ ended (reader part (drop c.at s.now)) }
-{
-    match part {
-        Part::Struct => c.struct_end(s),
-        Part::Outlives => outlives_end(c, s),
-        Part::Variable => c.ty(s),
-    }
-}
-
-// So many parts of a kind, each with its entry from `base` on.
-pub fn row(
-    part: Part,
+// So many parts, each with its entry from `base` on, where `end` finds the end of the part at a place.
+pub fn row<F: Fn(Cursor, &[u8]) -> Result<Cursor, Refusal>>(
+    end: F,
     from: Cursor,
     s: &[u8],
     count: u8,
     base: usize,
     layout: &mut [u16; 1280],
 ) -> Result<Cursor, Refusal>
-    requires { (base + count ≤ 1280) × (length s.now ≤ 65535) }
-    ensures { RowSays part s.now from count base layout.old layout.new result }
+    requires fits { (base + count ≤ 1280) × (length s.now ≤ 65535) }
+    requires callable { F.IsAlwaysCallable end }
+    ensures { (part : Part) → Ends part (F.post end) → RowSays part s.now from count base layout.old layout.new result }
 {
     let mut c = from;
     for i in 0..usize::from(count) {
         layout[base + i] = offset(c);
-        c = part_end(part, c, s)?;
+        c = end(c, s)?;
     }
     Ok(c)
 }

@@ -1,10 +1,10 @@
-// The five counts, the parts that they count, and refusal 5.
+// The five counts, the parts that they count, and the limits of a whole record.
 ghost use Rattle.std.specs.Prelude.{◌≡◌, ◌≤◌, length};
 ghost use Rattle.record.specs.Layout.{InRange, CountsSay, PartsSay, verdict_of};
 
 use super::blocks::blocks;
-use super::rows::row;
-use super::{Code, Counts, Head, OUTLIVES, Part, STRUCTS, VARIABLES};
+use super::rows::{outlives_end, row};
+use super::{Code, Counts, Head, OUTLIVES, STRUCTS, VARIABLES};
 use repr::{Cursor, Reading, Refusal};
 
 // The five counts: structs, regions, declared regions, variables, blocks.
@@ -31,13 +31,13 @@ pub fn parts(n: Counts, c: Cursor, s: &[u8], layout: &mut [u16; 1280]) -> Result
     requires { InRange n × (length s.now ≤ 65535) }
     ensures { PartsSay n s.now c.at layout.new result }
 {
-    let second = row(Part::Struct, c, s, n.structs, STRUCTS, layout)?;
-    let third = row(Part::Outlives, second, s, n.declared, OUTLIVES, layout)?;
-    let last = row(Part::Variable, third, s, n.variables, VARIABLES, layout)?;
+    let second = row(Cursor::struct_end, c, s, n.structs, STRUCTS, layout)?;
+    let third = row(outlives_end, second, s, n.declared, OUTLIVES, layout)?;
+    let last = row(Cursor::ty, third, s, n.variables, VARIABLES, layout)?;
     blocks(last, s, n.blocks, layout)
 }
 
-// What a record of this size is, by what was read of it: bytes that follow give 3, then too many points or loans 5.
+// What a record of this size is, by what was read of it: bytes that follow are `Refusal::Form`, then too many points or loans `Refusal::Size`.
 pub fn verdict(n: Counts, size: usize, code: Code) -> Result<Head, Refusal>
     requires { code.points ≤ 16384 }
     ensures { result ≡ verdict_of n size code.next code.points code.loans }
