@@ -13,6 +13,7 @@ use Rattle.nll_spec.proofs.Tests.{contains_one}
 use Rattle.graph.specs.Tables.{row_start, row_end, Edges}
 use Rattle.infer.specs.Ran.{Setting, Given, Names, constraint}
 use Rattle.infer.specs.declared.EndRule.TheVariants.{EveryEnd}
+use Rattle.infer.specs.declared.Setup.{Setup}
 use Rattle.dfs.proofs.ChainLaws.{chained_none}
 
 abbrev line : Graph
@@ -54,10 +55,20 @@ line-edges = record { ordered = omega arith; few = omega arith; sized = refl; st
     inside (suc zero) q l n = absurd n
     inside (suc (suc p)) q l n = absurd (omega arith)
 
+-- every reference is to the same place
+abbrev setup : Setup
+setup =
+    record {
+      graph = record { ref_ptr = (0, 0); now = record { first = starts; succ = nexts } };
+      chain = record { ref_ptr = (0, 0); now = replicate 32 0 };
+      shape = record { width = 1; code = 2; points = 3 };
+      rule = EveryEnd;
+    }
+
 abbrev setting : Setting
 setting = record { ends = every_end; graph = line; regions = 1; width = 1 }
 
-pub line-given : Given setting (record { width = 1; code = 2; points = 3 }) EveryEnd starts nexts (replicate 32 0) (0 ∷ []) (replicate 128 0)
+pub line-given : Given setting setup (0 ∷ []) (replicate 128 0)
 line-given =
     record {
       edges = line-edges;
