@@ -1,5 +1,5 @@
 -- The tables of a job of the record, block by block. Assumes nothing.
-use mathlib.Core.Path.{◌≡◌, refl, sym, ap, ◌∙◌}
+use mathlib.Core.Path.{◌≡◌, refl, sym, ap, subst, ◌∙◌}
 use mathlib.Core.List.{List, [], ◌∷◌, map}
 use Prim.Native.Nat.{ℕ, zero, suc, ◌+◌, ◌≤◌, ◌<◌}
 use native.Mathlib.Omega.{arith}
@@ -15,6 +15,7 @@ use Rattle.nll_spec.specs.Graph.{graph_of, next_of, first_point, statements_of, 
 use Rattle.nll_spec.proofs.Tests.{any-there, contains-here}
 use Rattle.nll_spec.proofs.GraphLaws.{block_at, no_block, first_of, actions_in, in_code, next-within, next-at-end, code-count, length-statements, successor_named, next_in_code}
 use Rattle.record.specs.declared.Head.{Head}
+use Rattle.record.specs.declared.Record.{Record}
 use Rattle.record.proofs.AccessLaws.{block-at, first-at}
 use Rattle.record.specs.Access.{entry_in}
 use Rattle.graph.proofs.ShapeLaws.{few-blocks}
@@ -92,30 +93,33 @@ module _ {s t : List ℕ} {h : Head} {j : Job} (w : Given s t h j) (b : BlockInd
 
 -- ---- What is returned
 
-module _ (s t : List ℕ) (b : BlockIndex) (at : Place) {first succ : List ℕ} (sized : Sized first succ) (within : Within at) where
-  module _ {d : Shape} (says : ShapeSays s (entry_in t 96 64 b) d) where
-    pub no_point_lem : 1024 ≤ at.point + d.actions → BlockRows s t b at at first succ first succ
+module _ (input : Record) (b : BlockIndex) (at : Place) {first succ : List ℕ} (sized : Sized first succ) (within : Within at) where
+  module _ {d : Shape} (says : ShapeSays input.bytes.now (entry_in input.layout.now 96 64 b) d) where
+    pub no_point_lem : 1024 ≤ at.point + d.actions → BlockRows input.bytes.now input.layout.now b at at first succ first succ
     no_point_lem h = record { sized = sized; within = within; rows = λ _ j w l rows. absurd (omega (arith, point-room w b l says rows)) }
 
-    pub no_entry : 1536 < at.entry + d.actions + d.count → BlockRows s t b at at first succ first succ
+    pub no_entry : 1536 < at.entry + d.actions + d.count → BlockRows input.bytes.now input.layout.now b at at first succ first succ
     no_entry h = record { sized = sized; within = within; rows = λ _ j w l rows. absurd (omega (arith, entry-room w b l says rows)) }
 
-    pub block-rows : {first₁ succ₁ first₂ succ₂ : List ℕ} → at.point + d.actions < 1024 → at.entry + d.actions + d.count ≤ 1536
-        → Chained at.point d.actions at.entry first succ first₁ succ₁ → Ended s t d (at.point + d.actions) (at.entry + d.actions) first₁ succ₁ first₂ succ₂
-        → BlockRows s t b at (record { point = at.point + d.actions + 1; entry = at.entry + d.actions + d.count }) first succ first₂ succ₂
-    block-rows p e c z = record { sized = z.sized; within = record { point = omega arith; entry = e }; rows = λ _ j w l rows. rows_more w b l says rows c z }
+    pub block-rows : {between : Record} {first₁ succ₁ first₂ succ₂ : List ℕ} → at.point + d.actions < 1024 → at.entry + d.actions + d.count ≤ 1536 → between ≡ input
+        → Chained at.point d.actions at.entry first succ first₁ succ₁ → Ended between.bytes.now between.layout.now d (at.point + d.actions) (at.entry + d.actions) first₁ succ₁ first₂ succ₂
+        → BlockRows input.bytes.now input.layout.now b at (record { point = at.point + d.actions + 1; entry = at.entry + d.actions + d.count }) first succ first₂ succ₂
+    block-rows {first₁ = first₁} {succ₁} {first₂} {succ₂} p e same c ended = record { sized = z.sized; within = record { point = omega arith; entry = e }; rows = λ _ j w l rows. rows_more w b l says rows c z }
+      where
+        z : Ended input.bytes.now input.layout.now d (at.point + d.actions) (at.entry + d.actions) first₁ succ₁ first₂ succ₂
+        z = subst (λ (x : Record). Ended x.bytes.now x.layout.now d (at.point + d.actions) (at.entry + d.actions) first₁ succ₁ first₂ succ₂) same ended
 
 -- ---- The whole
 
 -- The rows of the first b blocks of every job of the record.
-pub record Rowed (s t : List ℕ) (h : Head) (b : BlockIndex) (at : Place) (first succ : List ℕ) : Type 0 where
-  pub turns : b ≤ h.blocks
+pub record Rowed (input : Record) (b : BlockIndex) (at : Place) (first succ : List ℕ) : Type 0 where
+  pub turns : b ≤ input.head.blocks
   pub sized : Sized first succ
   pub within : Within at
-  pub rows : (j : Job) → Given s t h j → Rows j b at first succ
+  pub rows : (j : Job) → Given input.bytes.now input.layout.now input.head j → Rows j b at first succ
 
-module _ (s t : List ℕ) (h : Head) where
-  pub rowed_none : {first succ : List ℕ} → Sized first succ → Rowed s t h 0 (record { point = 0; entry = 0 }) (set first 0 0) succ
+module _ (input : Record) where
+  pub rowed_none : {first succ : List ℕ} → Sized first succ → Rowed input 0 (record { point = 0; entry = 0 }) (set first 0 0) succ
   rowed_none {first} {succ} z =
       record {
         turns = omega arith;
@@ -133,10 +137,15 @@ module _ (s t : List ℕ) (h : Head) where
         };
       }
 
-  pub rowed_more : {b : BlockIndex} {at next : Place} {first₀ succ₀ first succ : List ℕ} → Rowed s t h b at first₀ succ₀ → b < h.blocks → BlockRows s t b at next first₀ succ₀ first succ → Rowed s t h (b + 1) next first succ
-  rowed_more {b} r l w = record { turns = omega arith; sized = w.sized; within = w.within; rows = λ j g. w.rows h j g (omega (arith, g.layout.block_count)) (r.rows j g) }
+  pub rowed_more : {x : Record} {b : BlockIndex} {at next : Place} {first₀ succ₀ first succ : List ℕ} → Rowed input b at first₀ succ₀ → b < input.head.blocks → x ≡ input
+      → BlockRows x.bytes.now x.layout.now b at next first₀ succ₀ first succ → Rowed input (b + 1) next first succ
+  rowed_more {x} {b} {at} {next} {first₀} {succ₀} {first} {succ} r l same rows =
+      record { turns = omega arith; sized = w.sized; within = w.within; rows = λ j g. w.rows input.head j g (omega (arith, g.layout.block_count)) (r.rows j g) }
+    where
+      w : BlockRows input.bytes.now input.layout.now b at next first₀ succ₀ first succ
+      w = subst (λ (y : Record). BlockRows y.bytes.now y.layout.now b at next first₀ succ₀ first succ) same rows
 
-  pub rowed_all : {b : BlockIndex} {at : Place} {first succ : List ℕ} → Rowed s t h b at first succ → h.blocks ≤ b → (j : Job) → Given s t h j → Edges (graph_of j) first succ
+  pub rowed_all : {b : BlockIndex} {at : Place} {first succ : List ℕ} → Rowed input b at first succ → input.head.blocks ≤ b → (j : Job) → Given input.bytes.now input.layout.now input.head j → Edges (graph_of j) first succ
   unfolding graph_of point_count statements_of
   rowed_all {b} {at} {first} {succ} r l j g =
       record {

@@ -13,7 +13,7 @@ use lib.Dec.{T, eqb, eqb→eq}
 use borrow.Author.Tests.{eq-eqb, ne_eqb, lt-ltb, le-ltb}
 use Rattle.nll_spec.specs.Lists.{contains}
 use Rattle.nll_spec.proofs.Tests.{any-there, contains-here, or_cases}
-use Rattle.graph.specs.Search.{zeros, State, state, Marked, Roomy, visited, visits}
+use Rattle.graph.specs.Search.{zeros, State, state, Marked, Roomy, pushed, visited, visits}
 
 -- ---- Marks
 
@@ -52,10 +52,6 @@ work st = 2 * zeros st.seen + st.depth
 
 -- ---- One visit
 
--- the state after a block without a mark is visited
-abbrev pushed_to : State → ℕ → State
-pushed_to st b = state (set st.seen b 1) (set st.stack st.depth b) (st.depth + 1)
-
 module _ (b : ℕ) (st : State) where
   pub visited_out : 64 ≤ b → st ≡ visited b st
   visited_out h = rw (le-ltb b 64 h)
@@ -63,7 +59,7 @@ module _ (b : ℕ) (st : State) where
   pub visited-seen : b < 64 → Marked st.seen b → st ≡ visited b st
   visited-seen h m = rw (lt-ltb b 64 h, ne_eqb (get_or st.seen b 0) 0 m)
 
-  pub visited-new : b < 64 → get_or st.seen b 0 ≡ 0 → pushed_to st b ≡ visited b st
+  pub visited-new : b < 64 → get_or st.seen b 0 ≡ 0 → pushed b st ≡ visited b st
   visited-new h e = rw (lt-ltb b 64 h, eq-eqb (get_or st.seen b 0) 0 e)
 
 module _ {b : ℕ} {st : State} (w : Roomy st) (l : b < 64) (e : get_or st.seen b 0 ≡ 0) where
@@ -73,7 +69,7 @@ module _ {b : ℕ} {st : State} (w : Roomy st) (l : b < 64) (e : get_or st.seen 
   pub push_room : st.depth < 64
   push_room = let z = push_zeros in omega (arith, w.room)
 
-  push_roomy : Roomy (pushed_to st b)
+  push_roomy : Roomy (pushed b st)
   push_roomy =
       let z = push_zeros in
       record {
@@ -175,7 +171,7 @@ module _ (E : ℕ → ℕ → Type 0) (A : ℕ → Type 0) where
   pub walk_none : Walk (λ x. ⊥) (state (replicate 64 0) (replicate 64 0) 0)
   walk_none = record { sound = λ x m. absurd (m (no_mark 64 x)); pushed = λ i l. absurd (not-suc-le-zero l); pending = λ x m. absurd (m (no_mark 64 x)) }
 
-  walk_push : {X : ℕ → Type 0} {b : ℕ} {st : State} → Roomy st → Walk X st → A b → b < 64 → get_or st.seen b 0 ≡ 0 → Walk X (pushed_to st b)
+  walk_push : {X : ℕ → Type 0} {b : ℕ} {st : State} → Roomy st → Walk X st → A b → b < 64 → get_or st.seen b 0 ≡ 0 → Walk X (pushed b st)
   walk_push {X} {b} {st} room w a l e =
       record {
         sound = λ x m. elim (ℕ_discrete x b) [ yes q ↦ rw q a | no n ↦ w.sound x (mark-old st.seen b 1 x n m) ];
@@ -196,7 +192,7 @@ module _ (E : ℕ → ℕ → Type 0) (A : ℕ → Type 0) where
       pushed' i h (yes q) = rw (q, top) (mark-new st.seen b hl)
       pushed' i h (no n) = let k : i < st.depth = omega arith in rw (under i k) (mark-kept st.seen b (get_or st.stack i 0) hl (w.pushed i k))
 
-      old : (x : ℕ) → X x ⊎ (OnStack st x ⊎ Closed st x) → X x ⊎ (OnStack (pushed_to st b) x ⊎ Closed (pushed_to st b) x)
+      old : (x : ℕ) → X x ⊎ (OnStack st x ⊎ Closed st x) → X x ⊎ (OnStack (pushed b st) x ⊎ Closed (pushed b st) x)
       old x (inl a) = inl a
       old x (inr (inl a)) = inr (inl (a.0, omega (arith, a.1), under a.0 a.1 ∙ a.2))
       old x (inr (inr a)) = inr (inr (λ y k. mark-kept st.seen b y hl (a y k)))

@@ -5,7 +5,7 @@ use Rattle.nll_spec.specs.Fixpoint.{holds}
 use Rattle.nll_spec.specs.Graph.{graph_of, is_walked, walked_table, first_point}
 use Rattle.record.specs.declared.Head.{Head}
 use Rattle.bit_set.specs.Bits.{has, with_bit}
-use Rattle.graph.specs.declared.walked.Search.{Search}
+use Rattle.graph.specs.declared.search.Search.{Search}
 use Rattle.graph.specs.Filling.{Given}
 
 -- how many marks are 0
@@ -23,8 +23,8 @@ pub record State : Type 0 where
 abbrev pub state : List ℕ → List ℕ → ℕ → State
 state a b d = record { seen = a; stack = b; depth = d }
 
--- those of a search for blocks
-abbrev pub state_of : Search → State
+-- those of a search
+abbrev pub state_of : {n : ℕ} → Search n → State
 state_of s = state s.seen s.stack s.depth
 
 -- the last number is taken off the stack, if there is one
@@ -39,9 +39,13 @@ pub record Roomy (st : State) : Type 0 where
   pub room : st.depth + zeros st.seen ≤ 64
   pub small : (i : ℕ) → i < st.depth → get_or st.stack i 0 < 64
 
+-- s with a mark and on the stack
+abbrev pub pushed : ℕ → State → State
+pushed s st = state (set st.seen s 1) (set st.stack st.depth s) (st.depth + 1)
+
 -- block b is marked and pushed, where it has no mark
 abbrev pub visited : BlockIndex → State → State
-visited b st = cond (ltb b 64 && eqb (get_or st.seen b 0) 0) (state (set st.seen b 1) (set st.stack st.depth b) (st.depth + 1)) st
+visited b st = cond (ltb b 64 && eqb (get_or st.seen b 0) 0) (pushed b st) st
 
 -- the same for some blocks, one after the other
 unfoldable pub visits : List BlockIndex → State → State

@@ -1,6 +1,7 @@
 #![tactic(auto)]
 // The control-flow graph of an accepted job: what follows each point, and the walked blocks.
 pub mod edges;
+pub mod search;
 mod shapes;
 pub mod tables;
 pub mod walked;

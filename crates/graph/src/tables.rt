@@ -1,21 +1,42 @@
 // The control-flow graph as two tables.
-ghost use Rattle.std.specs.Prelude.{◌≡◌, ◌≤◌, ◌-◌, length};
-ghost use Rattle.graph.specs.Tables.{up_to, row_start, row_end, successors};
+ghost use Rattle.std.specs.Prelude.{◌≡◌, ◌≤◌, ◌-◌, length, T, ltb};
+ghost use Rattle.nll_spec.specs.Syntax.{Job};
+ghost use Rattle.nll_spec.specs.Decode.{point_count};
+ghost use Rattle.nll_spec.specs.WellFormed.{successors_named};
+ghost use Rattle.nll_spec.specs.Graph.{graph_of};
+ghost use Rattle.record.specs.Layout.{Holds};
+ghost use Rattle.graph.specs.Tables.{up_to, row_start, row_end, successors, Edges};
+ghost use Rattle.graph.specs.Search.{WalkedIn};
 
-// The points that follow each point: those of p are succ[first[p]..first[p + 1]].
+use super::walked::walked;
+use record::Record;
+use repr::BasicBlockIndex;
+
+// The graph of a record's job: the points that follow p are succ[first[p]..first[p + 1]], and `walked` has the points of the walked blocks.
 #[derive(Clone, Copy)]
-pub struct FuncGraph {
+pub struct FuncGraph<'a> {
+    pub input: Record<'a>,
     pub first: [u16; 1025],
     pub succ: [u16; 1536],
+    pub walked: [u32; 32],
 }
 
-impl FuncGraph {
-    // A graph in which nothing follows any point.
-    pub fn empty() -> FuncGraph {
-        FuncGraph {
+impl<'a> FuncGraph<'a> {
+    // The graph of the record's job, which starts at block 0.
+    pub fn new(input: Record<'a>) -> FuncGraph<'a>
+        ensures { (result.input ≡ input.entry)
+            × ((j : Job) → Holds input.entry j → T (successors_named j) → point_count j ≤ 1024 → Edges (graph_of j) result.first result.succ
+            × (T (ltb j.start (length j.blocks)) → WalkedIn j result.walked)) }
+    {
+        let mut graph = FuncGraph {
+            input,
             first: [0; 1025],
             succ: [0; 1536],
-        }
+            walked: [0; 32],
+        };
+        graph.edges();
+        walked(&input, BasicBlockIndex(0), &mut graph.walked);
+        graph
     }
 
     // The points that follow p. A row is cut where the table ends; a point past the table has none.

@@ -5,59 +5,36 @@ ghost use Rattle.nll_spec.specs.Decode.{point_count};
 ghost use Rattle.nll_spec.specs.WellFormed.{successors_named};
 ghost use Rattle.record.specs.Layout.{Holds};
 ghost use Rattle.graph.specs.Shape.{InRecord, row_of};
-ghost use Rattle.graph.specs.Search.{state_of, Popped, Roomy, visited, visits, WalkedBlocks, with_run, BlockPoints, WalkedIn};
+ghost use Rattle.graph.specs.Search.{state_of, Roomy, visited, visits, WalkedBlocks, with_run, BlockPoints, WalkedIn};
 
 use super::Shape;
+use super::search::Search;
 use super::shapes::shape;
 use record::Record;
 use repr::BasicBlockIndex;
 
-// The marks of the blocks that were seen, and a stack of those whose successors are still to be visited.
-#[derive(Drop)]
-struct Search {
-    seen: [u8; 64],
-    stack: [u8; 64],
-    depth: usize,
+// Marks and pushes block b, where it has no mark.
+fn visit(search: &mut Search<64>, b: u8)
+    requires { Roomy (state_of search.old) }
+    ensures { state_of search.new ≡ visited b (state_of search.old) }
+{
+    let at = usize::from(b);
+    if 64 <= at {
+        return;
+    }
+    if search.seen[at] != 0 {
+        return;
+    }
+    search.push(u16::from(b));
 }
 
-impl Search {
-    // Marks and pushes block b, where it has no mark.
-    fn visit(&mut self, b: u8)
-        requires { Roomy (state_of self.old) }
-        ensures { state_of self.new ≡ visited b (state_of self.old) }
-    {
-        let at = usize::from(b);
-        if 64 <= at {
-            return;
-        }
-        if self.seen[at] != 0 {
-            return;
-        }
-        self.seen[at] = 1;
-        self.stack[self.depth] = b;
-        self.depth += 1;
-    }
-
-    // Visits the successors of a block.
-    fn visit_next(&mut self, s: &[u8], d: Shape)
-        requires { InRecord s.now d × Roomy (state_of self.old) }
-        ensures { state_of self.new ≡ visits (row_of s.now d) (state_of self.old) }
-    {
-        for &b in &s[d.from..d.from + d.count] {
-            self.visit(b);
-        }
-    }
-
-    // Takes the last block off the stack.
-    fn pop(&mut self) -> Option<u8>
-        requires { self.old.depth ≤ 64 }
-        ensures { Popped (state_of self.old) result (state_of self.new) }
-    {
-        if self.depth == 0 {
-            return None;
-        }
-        self.depth -= 1;
-        Some(self.stack[self.depth])
+// Visits the successors of a block.
+fn visit_next(search: &mut Search<64>, s: &[u8], d: Shape)
+    requires { InRecord s.now d × Roomy (state_of search.old) }
+    ensures { state_of search.new ≡ visits (row_of s.now d) (state_of search.old) }
+{
+    for &b in &s[d.from..d.from + d.count] {
+        visit(search, b);
     }
 }
 
@@ -65,15 +42,11 @@ impl Search {
 pub fn blocks(input: &Record<'_>, start: BasicBlockIndex) -> [u8; 64]
     ensures { WalkedBlocks input.now.bytes.now input.now.layout.now start.0 result }
 {
-    let mut search = Search {
-        seen: [0; 64],
-        stack: [0; 64],
-        depth: 0,
-    };
-    search.visit(start.0);
+    let mut search = Search::<64>::new();
+    visit(&mut search, start.0);
     while let Some(b) = search.pop() {
-        let d = shape(input, BasicBlockIndex(b));
-        search.visit_next(input.bytes, d);
+        let d = shape(input, BasicBlockIndex(b as u8));
+        visit_next(&mut search, input.bytes, d);
     }
     search.seen
 }

@@ -1,9 +1,9 @@
--- `graph::walked::Search::visit_next` meets its contract. Assumes nothing.
+-- `graph::walked::visit_next` meets its contract. Assumes nothing.
 use Rattle.graph.proofs.SearchLaws.{visiting_none, visiting_more, visiting_all}
 use mathlib.Core.Path.{◌≡◌}
 use Prim.Native.Nat.{◌+◌, ◌-◌}
 use native.Mathlib.Omega.{arith}
-use Rattle.graph.proofs.walked.Search.visit_next.Goals as goal
+use Rattle.graph.proofs.walked.visit_next.Goals as goal
 
 pub loop-b-init : goal.loop-b-init
 loop-b-init c = visiting_none _ c.requires.1

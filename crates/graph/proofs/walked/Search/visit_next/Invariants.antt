@@ -1,7 +1,0 @@
--- `graph::walked::Search::visit_next` meets its contract. Assumes nothing.
-use Rattle.graph.proofs.SearchLaws.{Visiting}
-use Rattle.graph.specs.Search.{state_of}
-use Rattle.graph.proofs.walked.Search.visit_next.Given as goal
-
-abbrev pub invariant-loop-b : goal.invariant-loop-b
-invariant-loop-b l = Visiting l.b-items l.b-index (state_of l.initial.self) (state_of l.self)
