@@ -28,11 +28,12 @@ use Rattle.record.specs.Rows.{Standing, none, more}
 use Rattle.record.specs.Blocks.{block_end, firsts, Coded}
 use Rattle.record.specs.Blocks as blocks
 use Rattle.record.specs.Layout.{Layout}
-use Rattle.record.specs.Access.{entry_in, point_of, Declared, Acts, tag_of}
+use Rattle.record.specs.Access.{entry_in, point_of, Declared, Acts, kind_of_tag, kind_of}
+use Rattle.record.specs.declared.ActionKind.{ActionKind}
+use Rattle.record.specs.declared.ActionKind.TheVariants as kinds
 use Rattle.record.specs.declared.Head.{Head}
-use Rattle.record.proofs.TagLaws.{byte_tag, byte-refused}
+use Rattle.record.proofs.KindLaws.{byte_kind, byte-refused}
 use Rattle.repr.specs.declared.refusal.Refusal.{Refusal}
-use Rattle.repr.specs.Refusals.{number_of}
 use Rattle.std.specs.Prelude.{Result, Ok, Err, Option, Some, None}
 
 -- ---- The entry that the code reads
@@ -225,11 +226,11 @@ module _ {s t : List ℕ} {h : Head} {j : Job} (w : Layout s t h j) where
         go (inl k) = record { over = rest s c; reads = ap (λ (a : Action). read a (rest s c)) (sym k.1) }
         go (inr k) = absurd (omega (arith, action-below s (entry_in t 256 1024 p) w.short k, last))
 
-    pub tag_end : d ≡ None → 0 ≡ tag_of (action_at (graph_of j) p)
-    tag_end e = go (point-is p l)
+    pub kind_end : d ≡ None → kinds.Noop ≡ kind_of (action_at (graph_of j) p)
+    kind_end e = go (point-is p l)
       where
-        go : AtPoint s (entry_in t 256 1024 p) (action_at (graph_of j) p) → 0 ≡ tag_of (action_at (graph_of j) p)
-        go (inl k) = ap tag_of (sym k.1)
+        go : AtPoint s (entry_in t 256 1024 p) (action_at (graph_of j) p) → kinds.Noop ≡ kind_of (action_at (graph_of j) p)
+        go (inl k) = ap kind_of (sym k.1)
         go (inr k) = absurd (omega (arith, action-below s (entry_in t 256 1024 p) w.short k, end_is (entry_in t 256 1024 p) (sym same ∙ e)))
 
     module _ {c : Cursor} (e : d ≡ Some c) where
@@ -246,11 +247,11 @@ module _ {s t : List ℕ} {h : Head} {j : Job} (w : Layout s t h j) where
       pub acts_there : {r : Result (declared_action.Action × Cursor) Refusal} → action_says s r ≡ action (drop c.at s) → Acts s (action_at (graph_of j) p) r
       acts_there i = record { over = action-there.over; reads = i ∙ action-there.reads }
 
-      pub tag_there : {r : Result (ℕ × Cursor) Refusal} → says itself s r ≡ byte (drop c.at s) → {n : ℕ} {next : Cursor} → r ≡ Ok (n, next) → n ≡ tag_of (action_at (graph_of j) p)
-      tag_there i = byte_tag s action-there i
+      pub kind_there : {r : Result (ℕ × Cursor) Refusal} → says itself s r ≡ byte (drop c.at s) → {n : ℕ} {next : Cursor} → r ≡ Ok (n, next) → kind_of_tag n ≡ kind_of (action_at (graph_of j) p)
+      kind_there i = byte_kind s action-there i
 
-      pub tag_refused : {r : Result (ℕ × Cursor) Refusal} → says itself s r ≡ byte (drop c.at s) → {n : ℕ} {k : Refusal} → r ≡ Err k → n ≡ tag_of (action_at (graph_of j) p)
-      tag_refused i o = absurd (byte-refused s action-there i o)
+      pub kind_refused : {r : Result (ℕ × Cursor) Refusal} → says itself s r ≡ byte (drop c.at s) → {o : ActionKind} {k : Refusal} → r ≡ Err k → o ≡ kind_of (action_at (graph_of j) p)
+      kind_refused i e = absurd (byte-refused s action-there i e)
 
   -- the struct of a name
   module _ {name x : ℕ} (there : x ≡ entry_in t 0 16 name) where

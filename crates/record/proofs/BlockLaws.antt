@@ -27,7 +27,6 @@ use Rattle.record.specs.Blocks.{Coded, none, more, Placed, BlocksSay}
 use Rattle.record.proofs.RowLaws.{Going, going_start, going_more, going_stop, going_end, offset_drop, standing_more, window_more}
 use Rattle.repr.specs.declared.refusal.Refusal.{Refusal}
 use Rattle.repr.specs.Refusals.{number_of}
-use Rattle.record.specs.declared.Code.{Code}
 use Rattle.std.specs.Prelude.{Result, Ok, Err}
 
 -- ---- An action

@@ -1,5 +1,5 @@
 pub mod RowLaws
 pub mod BlockLaws
 pub mod LayoutLaws
-pub mod TagLaws
+pub mod KindLaws
 pub mod AccessLaws

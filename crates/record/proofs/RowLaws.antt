@@ -17,7 +17,6 @@ use Rattle.record.specs.Rows.{Standing, none, more, Row, reader}
 use Rattle.record.specs.declared.Part.{Part}
 use Rattle.repr.specs.declared.Cursor.{Cursor}
 use Rattle.repr.specs.declared.refusal.Refusal.{Refusal}
-use Rattle.repr.specs.Refusals.{number_of}
 use Rattle.std.specs.Prelude.{Result, Ok, Err}
 
 -- ---- Items that were read, before a reading of more

@@ -1,5 +1,5 @@
 -- What the table gives by number: where a part lies, what a struct declares, what a point does.
-use Rattle.std.specs.Prelude.{◌≡◌, cond, List, ℕ, ◌+◌, get_or, ltb, eqb, Option, Some, None, Result}
+use Rattle.std.specs.Prelude.{◌≡◌, cond, List, [], ◌∷◌, ℕ, ◌+◌, get_or, ltb, eqb, Option, Some, None, Result}
 use Rattle.nll_spec.specs.Syntax as syntax
 use Rattle.nll_spec.specs.Decode.{read, items, param, field}
 use Rattle.repr.specs.Reading.{rest}
@@ -9,6 +9,8 @@ use Rattle.repr.specs.Stands.{Stands}
 use Rattle.record.specs.Blocks.{block_end}
 use Rattle.repr.specs.declared.Cursor.{Cursor}
 use Rattle.repr.specs.declared.Action.{Action}
+use Rattle.record.specs.declared.ActionKind.{ActionKind}
+use Rattle.record.specs.declared.ActionKind.TheVariants as kinds
 use Rattle.repr.specs.declared.refusal.Refusal.{Refusal}
 
 -- entry i of the row of so many entries from `base` on; 0 where the row has none
@@ -29,13 +31,17 @@ pub record Acts (s : List ℕ) (a : syntax.Action) (r : Result (Action × Cursor
   pub over : List ℕ
   pub reads : action_says s r ≡ read a over
 
--- the byte that an action begins with
-abbrev pub tag_of : syntax.Action → ℕ
-tag_of syntax.Noop = 0
-tag_of (syntax.Init d qs) = 1
-tag_of (syntax.Borrow d r k q) = 2
-tag_of (syntax.Assign d q) = 3
-tag_of (syntax.Constraint sup sub) = 4
-tag_of (syntax.Use q) = 5
-tag_of (syntax.Drop q) = 6
-tag_of (syntax.StorageDead v) = 7
+-- what an action does, without its parts
+abbrev pub kind_of : syntax.Action → ActionKind
+kind_of syntax.Noop = kinds.Noop
+kind_of (syntax.Init d qs) = kinds.Init
+kind_of (syntax.Borrow d r k q) = kinds.Borrow
+kind_of (syntax.Assign d q) = kinds.Assign
+kind_of (syntax.Constraint sup sub) = kinds.Constraint
+kind_of (syntax.Use q) = kinds.Use
+kind_of (syntax.Drop q) = kinds.Drop
+kind_of (syntax.StorageDead v) = kinds.StorageDead
+
+-- what the action that begins with this byte does; Noop where none does
+abbrev pub kind_of_tag : ℕ → ActionKind
+kind_of_tag tag = get_or (kinds.Noop ∷ kinds.Init ∷ kinds.Borrow ∷ kinds.Assign ∷ kinds.Constraint ∷ kinds.Use ∷ kinds.Drop ∷ kinds.StorageDead ∷ []) tag kinds.Noop

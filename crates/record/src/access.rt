@@ -5,12 +5,28 @@ ghost use Rattle.nll_spec.specs.Decode.{code_count};
 ghost use Rattle.nll_spec.specs.Types.{struct_of};
 ghost use Rattle.nll_spec.specs.Graph.{graph_of, action_at};
 ghost use Rattle.record.specs.Layout.{Holds};
-ghost use Rattle.record.specs.Access.{entry_in, point_of, Declared, Acts, tag_of};
+ghost use Rattle.record.specs.Access.{entry_in, point_of, Declared, Acts, kind_of_tag, kind_of};
 
-use super::{BLOCKS, END, FIRST, OUTLIVES, POINTS, Record, STRUCTS, VARIABLES};
+use super::{ActionKind, BLOCKS, END, FIRST, OUTLIVES, POINTS, Record, STRUCTS, VARIABLES};
 use repr::{
     Action, BasicBlockIndex, Cursor, Reading, RegionName, StructDecl, StructName, Variable,
 };
+
+// What an action does, by the byte that it begins with. A byte that begins none counts as Noop; a record that was read has none there.
+fn kind(tag: u8) -> ActionKind
+    ensures { result ≡ kind_of_tag tag }
+{
+    match tag {
+        1 => ActionKind::Init,
+        2 => ActionKind::Borrow,
+        3 => ActionKind::Assign,
+        4 => ActionKind::Constraint,
+        5 => ActionKind::Use,
+        6 => ActionKind::Drop,
+        7 => ActionKind::StorageDead,
+        _ => ActionKind::Noop,
+    }
+}
 
 impl<'a> Record<'a> {
     // Entry i of the row of so many entries from base on.
@@ -102,16 +118,16 @@ impl<'a> Record<'a> {
         }
     }
 
-    // The tag of the action of a point of the blocks; a block's end has that of Noop.
-    pub fn tag_at(&self, p: usize) -> u8
-        ensures { (j : Job) → Holds self.now j → p < code_count j.blocks → result ≡ tag_of (action_at (graph_of j) p) }
+    // What the action of a point of the blocks does, by its first byte alone; a block's end does nothing, as Noop does.
+    pub fn kind_at(&self, p: usize) -> ActionKind
+        ensures { (j : Job) → Holds self.now j → p < code_count j.blocks → result ≡ kind_of (action_at (graph_of j) p) }
     {
         let Some(c) = self.point_at(p) else {
-            return 0;
+            return ActionKind::Noop;
         };
         match c.byte(self.bytes) {
-            Ok((tag, _)) => tag,
-            Err(_) => 0,
+            Ok((tag, _)) => kind(tag),
+            Err(_) => ActionKind::Noop,
         }
     }
 }

@@ -28,9 +28,6 @@ pub const POINTS: usize = 256;
 
 pub const END: u16 = 65535;
 
-// The tag of a Borrow.
-pub const BORROW: u8 = 2;
-
 // How many parts there are of each kind; `code` counts the points of all blocks.
 #[derive(Clone, Copy)]
 pub struct Head {
@@ -48,6 +45,19 @@ pub struct Record<'a> {
     pub bytes: &'a [u8],
     pub layout: &'a [u16; 1280],
     pub head: Head,
+}
+
+// What an action does, without its parts.
+#[derive(Clone, Copy, PartialEq, Eq)]
+pub enum ActionKind {
+    Noop,
+    Init,
+    Borrow,
+    Assign,
+    Constraint,
+    Use,
+    Drop,
+    StorageDead,
 }
 
 // The parts that stand in a row of their own.

@@ -1,5 +1,5 @@
 -- `record::blocks::actions` meets its contract. Assumes nothing.
-use Rattle.record.proofs.BlockLaws.{coding_start, coding_more, coding_stop, coding_end, lends_one}
+use Rattle.record.proofs.BlockLaws.{coding_start, coding_more, coding_stop, coding_end}
 use Rattle.repr.proofs.ReadLaws.{passed_on}
 use Rattle.std.proofs.Common.{rules}
 use native.Mathlib.Omega.{arith}
