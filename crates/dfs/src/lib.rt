@@ -12,7 +12,7 @@ use graph::tables::FuncGraph;
 // next one alone.
 #[derive(Clone, Copy)]
 pub struct Walk<'a> {
-    pub graph: &'a FuncGraph,
+    pub graph: &'a FuncGraph<'a>,
     pub chain: &'a [u32; 32],
     pub words: &'a [u32],
     pub from: usize,
@@ -27,7 +27,7 @@ pub struct Reached {
 }
 
 // Whether the one point that follows q is q + 1.
-fn follows(graph: &FuncGraph, q: usize) -> bool
+fn follows(graph: &FuncGraph<'_>, q: usize) -> bool
     requires { q < 1024 }
     ensures { result ≡ true → Follows graph.now.first graph.now.succ q }
 {
@@ -35,7 +35,7 @@ fn follows(graph: &FuncGraph, q: usize) -> bool
 }
 
 // Points below code, each followed by the next one alone. Not all of them need be there: a smaller chain is as right, and slower.
-pub fn chains(graph: &FuncGraph, code: usize) -> [u32; 32]
+pub fn chains(graph: &FuncGraph<'_>, code: usize) -> [u32; 32]
     ensures { Chained result graph.now.first graph.now.succ }
 {
     let mut chain = [0; 32];
@@ -111,7 +111,7 @@ impl Walk<'_> {
     // Puts the next points of the walk along the chain into the points, as far as they are in one word, and returns the last of them. Returns q where q is not of the
     // chain, the set lacks q + 1, or q + 1 is among the points.
     fn advance(&self, points: &mut [u32; 32], q: usize) -> usize
-        requires { (self.now.code ≤ 1024) × (q < 1024) × (length points.old ≡ 32) }
+        requires { (self.now.code ≤ 1024) × (q < 1024) }
         ensures { Along self.now.chain.now (in_code self.now.words.now self.now.from self.now.code) points.old points.new q result
             × (result ≡ q → Stopped self.now.chain.now (in_code self.now.words.now self.now.from self.now.code) points.new q) }
     {
@@ -138,7 +138,7 @@ impl Walk<'_> {
 
     // Puts q and the points that the walk takes after it along the chain into the points, and returns the last of them.
     fn follow(&self, points: &mut [u32; 32], q: usize) -> usize
-        requires { (self.now.code ≤ 1024) × (q < 1024) × (length points.old ≡ 32) }
+        requires { (self.now.code ≤ 1024) × (q < 1024) }
         ensures { Along self.now.chain.now (in_code self.now.words.now self.now.from self.now.code) (with_bit points.old q) points.new q result
             × Stopped self.now.chain.now (in_code self.now.words.now self.now.from self.now.code) points.new result }
     {

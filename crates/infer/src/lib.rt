@@ -37,7 +37,7 @@ pub struct Shape {
 // What constraints are run in. Each point of the chain is followed by the next one alone.
 #[derive(Clone, Copy)]
 pub struct Setup<'a> {
-    pub graph: &'a FuncGraph,
+    pub graph: &'a FuncGraph<'a>,
     pub chain: &'a [u32; 32],
     pub shape: Shape,
     pub rule: EndRule,

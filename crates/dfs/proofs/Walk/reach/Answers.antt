@@ -1,5 +1,4 @@
 -- `dfs::Walk::reach`. Assumes nothing.
-use mathlib.Core.Path.{refl}
 use Rattle.dfs.specs.Walk.{in_code}
 use Rattle.dfs.proofs.SearchLaws.{straight, code-small, walk-starts, walk_none}
 use Rattle.dfs.proofs.Walk.reach.Goals as goal
@@ -11,7 +10,7 @@ returns-then-self-p c = let a = c.args in
 pub follow-end-requires : goal.follow-end-requires
 follow-end-requires c = let a = c.args in
     let w = walk-starts a.self.now.words.now a.self.now.from a.self.now.code a.p c.test.result c.test.ensures c.if-self-p.false in
-    (w.0, code-small a.self.now.words.now a.self.now.from a.self.now.code w.0 a.p w.1, refl)
+    (w.0, code-small a.self.now.words.now a.self.now.from a.self.now.code w.0 a.p w.1)
 
 pub returns-then-is_linked : goal.returns-then-is_linked
 returns-then-is_linked c = let a = c.args in

@@ -16,7 +16,7 @@ pop-requires c = omega (arith, c.loop-q.invariant.search.roomy.room)
 
 pub follow-end-requires : goal.follow-end-requires
 follow-end-requires c = let w = c.args.self.now in
-    (c.requires.0, popped_small w.chain.now w.graph.now.first w.graph.now.succ (in_code w.words.now w.from w.code) c.args.p (code-small w.words.now w.from w.code c.requires.0) c.loop-q.invariant c.in-Some.ensures, c.loop-q.invariant.sized)
+    (c.requires.0, popped_small w.chain.now w.graph.now.first w.graph.now.succ (in_code w.words.now w.from w.code) c.args.p (code-small w.words.now w.from w.code c.requires.0) c.loop-q.invariant c.in-Some.ensures)
 
 pub is_leaf-exit-requires : goal.is_leaf-exit-requires
 is_leaf-exit-requires c = c.follow-end.ensures.0.below
