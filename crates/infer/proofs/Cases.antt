@@ -10,9 +10,11 @@ use Rattle.nll_spec.specs.Graph.{Graph, next_of}
 use Rattle.nll_spec.specs.Regions.{every_end}
 use Rattle.nll_spec.specs.Meaning.{Next}
 use Rattle.nll_spec.proofs.Tests.{contains_one}
+use Rattle.record.specs.declared.Record.{Record}
 use Rattle.graph.specs.Tables.{row_start, row_end, Edges}
 use Rattle.infer.specs.Ran.{Setting, Given, Names, constraint}
 use Rattle.infer.specs.declared.EndRule.TheVariants.{EveryEnd}
+use Rattle.infer.specs.declared.Setup.{Setup}
 use Rattle.dfs.proofs.ChainLaws.{chained_none}
 
 abbrev line : Graph
@@ -54,11 +56,21 @@ line-edges = record { ordered = omega arith; few = omega arith; sized = refl; st
     inside (suc zero) q l n = absurd n
     inside (suc (suc p)) q l n = absurd (omega arith)
 
+-- of any record; every reference is to the same place
+abbrev setup : Record → Setup
+setup input =
+    record {
+      graph = record { ref_ptr = (0, 0); now = record { input = input; first = starts; succ = nexts; walked = replicate 32 0 } };
+      chain = record { ref_ptr = (0, 0); now = replicate 32 0 };
+      shape = record { width = 1; code = 2; points = 3 };
+      rule = EveryEnd;
+    }
+
 abbrev setting : Setting
 setting = record { ends = every_end; graph = line; regions = 1; width = 1 }
 
-pub line-given : Given setting (record { width = 1; code = 2; points = 3 }) EveryEnd starts nexts (replicate 32 0) (0 ∷ []) (replicate 128 0)
-line-given =
+pub line-given : (input : Record) → Given setting (setup input) (0 ∷ []) (replicate 128 0)
+line-given input =
     record {
       edges = line-edges;
       code = refl;

@@ -11,15 +11,15 @@ use lib.ListN.{length, get_or}
 use lib.Bits.{bit_or}
 use lib.Dec.{eqb, ltb}
 use borrow.Author.Tests.{eqb-true, eq-eqb}
-use Rattle.nll_spec.specs.Regions.{EndRule}
 use Rattle.nll_spec.specs.Output.{word_bits}
 use Rattle.bit_set.specs.Bits.{has, both_fit, or_word}
 use Rattle.bit_set.proofs.BitLaws.{digit, digit_lt, digit_or, place}
 use Rattle.bit_set.proofs.RunLaws.{and_true_left, and_true_right, both_into, both_from}
 use Rattle.graph.specs.Tables.{Edge, row_end}
 use Rattle.dfs.proofs.ChainLaws.{up_to_le}
-use Rattle.dfs.specs.Walk.{in_code, Chained, Reach, here, step}
-use Rattle.infer.specs.Search.{Gets, is_covered, Covered}
+use Rattle.dfs.specs.Walk.{in_code, Reach, here, step}
+use Rattle.infer.specs.Search.{Linked, Gets, is_covered, Covered}
+use Rattle.infer.specs.declared.Setup.{Setup}
 use Rattle.dfs.proofs.SearchLaws.{reach_held}
 
 -- ---- Words
@@ -103,12 +103,15 @@ module _ (chain ws : List ℕ) (from to width start : ℕ) where
 
 -- ---- What a constraint puts
 
-module _ (chain first succ ws : List ℕ) (from to code p : ℕ) (chained : Chained chain first succ) (c : Covered chain ws from to (p / word_bits)) where
-  in_set_lem : {q : ℕ} → Reach (Edge first succ) (in_code ws from code) p q → has ws (word_bits * from + q) ≡ true
-  in_set_lem {q} r = and_true_right (ltb q code) (has ws (word_bits * from + q)) (reach_held r)
+module _ (g : Setup) (ws : List ℕ) (from to p : ℕ) (chained : Linked g) (c : Covered g.chain.now ws from to (p / word_bits)) where
+  abbrev Reached : ℕ → Type 0
+  Reached = Reach (Edge g.graph.now.first g.graph.now.succ) (in_code ws from g.shape.code) p
+
+  in_set_lem : {q : ℕ} → Reached q → has ws (word_bits * from + q) ≡ true
+  in_set_lem {q} r = and_true_right (ltb q g.shape.code) (has ws (word_bits * from + q)) (reach_held r)
 
   -- a walk stays in the words that were looked at
-  reach_near : {q : ℕ} → Reach (Edge first succ) (in_code ws from code) p q → (p / word_bits ≤ q / word_bits) × (q / word_bits ≤ c.last)
+  reach_near : {q : ℕ} → Reached q → (p / word_bits ≤ q / word_bits) × (q / word_bits ≤ c.last)
   reach_near (here h) = (omega arith, c.up)
   reach_near (step {q = q} {s = s} r e h) =
       let n = reach_near r in
@@ -121,11 +124,11 @@ module _ (chain first succ ws : List ℕ) (from to code p : ℕ) (chained : Chai
       go f n t (yes w) = absurd (true≢false (sym t ∙ ap (λ (x : ℕ). has ws (word_bits * from + x)) w ∙ c.stops))
       go f n t (no w) = (omega (arith, f, n.0), omega (arith, f, n.1, w))
 
-  pub covered_nothing : (rule : EndRule) (points q : ℕ) → Gets rule first succ ws from code points p q → has ws (word_bits * to + q) ≡ true
-  covered_nothing rule points q (inl r) = let n = reach_near r in c.held q n.0 n.1 (in_set_lem r)
-  covered_nothing rule points q (inr g) =
-      let x : ℕ = g.3.0 in
-      let r = g.3.1 in
+  pub covered_nothing : (q : ℕ) → Gets g ws from p q → has ws (word_bits * to + q) ≡ true
+  covered_nothing q (inl r) = let n = reach_near r in c.held q n.0 n.1 (in_set_lem r)
+  covered_nothing q (inr e) =
+      let x : ℕ = e.3.0 in
+      let r = e.3.1 in
       let n = reach_near r in
       let w = (chained.links x (c.linked x n.0 n.1 (in_set_lem r))).next in
-      absurd (omega (arith, w.1, w.2, g.3.2, up_to_le (row_end first x)))
+      absurd (omega (arith, w.1, w.2, e.3.2, up_to_le (row_end g.graph.now.first x)))

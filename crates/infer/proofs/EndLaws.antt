@@ -7,13 +7,13 @@ use Prim.Native.Nat.{ℕ, zero, suc, ◌+◌, ◌-◌, ◌*◌, ◌≤◌, ◌<�
 use native.Mathlib.Decide.{ℕ_discrete}
 use native.Mathlib.Omega.{arith}
 use lib.ListN.{length}
-use Rattle.nll_spec.specs.Regions.{EndRule}
 use Rattle.nll_spec.specs.Output.{word_bits}
 use Rattle.bit_set.specs.Bits.{has, with_bit}
 use Rattle.bit_set.proofs.BitLaws.{length_with, has_with, has_with_other}
 use Rattle.graph.specs.Tables.{Edge}
 use Rattle.dfs.specs.Walk.{in_code, Reach, Reaches}
-use Rattle.infer.specs.Search.{passes, with_run, Gets}
+use Rattle.infer.specs.Search.{passes, with_run, with_ends, Gets}
+use Rattle.infer.specs.declared.Setup.{Setup}
 use Rattle.dfs.proofs.ChainLaws.{with_kept}
 use Rattle.dfs.proofs.SearchLaws.{reach_held, code_below}
 
@@ -93,10 +93,9 @@ pub record Holds (A : ℕ → Type 0) (ps : List ℕ) : Type 0 where
   pub complete : (x : ℕ) → A x → has ps x ≡ true
 
 -- what p reaches, with the ends where a point of it has no point after it, is what the outer set gets
-pub ends_hold : (rule : EndRule) (first succ ws : List ℕ) (from code points p : ℕ) (ps : List ℕ) (b : Bool) → code ≤ points → points ≤ 1024
-    → Reaches (Reach (Edge first succ) (in_code ws from code) p) first ps b
-    → Holds (Gets rule first succ ws from code points p) (cond b (with_run (passes rule ws from) ps code (points - code)) ps)
-ends_hold rule first succ ws from code points p ps true lc lp m =
+pub ends_hold : (g : Setup) (ws : List ℕ) (from p : ℕ) (ps : List ℕ) (b : Bool) → g.shape.code ≤ g.shape.points → g.shape.points ≤ 1024
+    → Reaches (Reach (Edge g.graph.now.first g.graph.now.succ) (in_code ws from g.shape.code) p) g.graph.now.first ps b → Holds (Gets g ws from p) (cond b (with_ends g ws from ps) ps)
+ends_hold g ws from p ps true lc lp m =
     record {
       sized = run_length f ps code n ∙ m.sized;
       sound = λ x k. ⊎_elim (λ i. inl (m.sound x i)) (λ i. inr (i.0, omega (arith, i.0, i.1), i.2, m.leaf refl)) (run_only f ps code n x k);
@@ -104,17 +103,20 @@ ends_hold rule first succ ws from code points p ps true lc lp m =
     }
   where
     f : ℕ → Bool
-    f = passes rule ws from
+    f = passes g ws from
+
+    code : ℕ
+    code = g.shape.code
 
     n : ℕ
-    n = points - code
-ends_hold rule first succ ws from code points p ps false lc lp m =
+    n = g.shape.points - g.shape.code
+ends_hold g ws from p ps false lc lp m =
     record {
       sized = m.sized;
       sound = λ x k. inl (m.sound x k);
       complete = λ x k. ⊎_elim (m.complete x) (λ r. absurd (true≢false (sym (m.exits r.3.0 r.3.1 r.3.2)))) k;
     }
 
-pub gets_below : (rule : EndRule) (first succ ws : List ℕ) (from code points p : ℕ) → code ≤ points → (q : ℕ) → Gets rule first succ ws from code points p q → q < points
-gets_below rule first succ ws from code points p lc q (inl r) = omega (arith, code_below ws from code q (reach_held r))
-gets_below rule first succ ws from code points p lc q (inr r) = r.1
+pub gets_below : (g : Setup) (ws : List ℕ) (from p : ℕ) → g.shape.code ≤ g.shape.points → (q : ℕ) → Gets g ws from p q → q < g.shape.points
+gets_below g ws from p lc q (inl r) = omega (arith, code_below ws from g.shape.code q (reach_held r))
+gets_below g ws from p lc q (inr r) = r.1

@@ -14,6 +14,7 @@ use Rattle.nll_spec.specs.Lists.{Member, here, there}
 use Rattle.nll_spec.specs.Syntax.{Point, RegionName}
 use Rattle.nll_spec.specs.Graph.{Graph}
 use Rattle.nll_spec.specs.Constraints.{Outlives}
+use Rattle.nll_spec.specs.Regions.{EndRule, passes_end}
 use Rattle.nll_spec.specs.Output.{word_bits}
 use Rattle.nll_spec.specs.Meaning.{Sets, Walk, begin, go_on}
 use Rattle.nll_spec.proofs.Tests.{is_true}
@@ -25,7 +26,7 @@ use Rattle.graph.specs.Tables.{Edge}
 use Rattle.dfs.specs.Walk.{in_code, Reach}
 use Rattle.infer.specs.Search.{rule_of, Gets, Spread, adds_nothing, in_bounds, Covered}
 use Rattle.infer.specs.Ran.{Setting, bit_at, sets_of, Met, Within, AllReady, Ran, Given, Names}
-use Rattle.infer.specs.declared.EndRule as declared
+use Rattle.infer.specs.declared.Setup.{Setup}
 use Rattle.infer.specs.declared.Shape.{Shape}
 use Rattle.graph.proofs.SearchLaws.{mark-kept, mark-new, mark-old}
 use Rattle.infer.proofs.TableLaws.{leaf_exit, exit_leaf, reach_below, reach_walk, walk_reach}
@@ -35,30 +36,30 @@ use Rattle.infer.proofs.RanLaws.{true_T, bit-region, sets-has, sets_below, has-s
 
 -- ---- The bounds
 
-pub record Bounds (width code points s t p : ℕ) : Type 0 where
-  pub narrow : width ≤ 32
-  pub ordered : code ≤ points
-  pub few : points ≤ 1024
+pub record Bounds (shape : Shape) (s t p : ℕ) : Type 0 where
+  pub narrow : shape.width ≤ 32
+  pub ordered : shape.code ≤ shape.points
+  pub few : shape.points ≤ 1024
   pub sup : s < 128
   pub sub : t < 128
-  pub point : p < code
+  pub point : p < shape.code
 
 both : (a b : Bool) → (a && b) ≡ true → (a ≡ true) × (b ≡ true)
 both true b e = (refl, e)
 both false b e = absurd (true≢false (sym e))
 
-module _ (width code points s t p : ℕ) where
-  pub bounds_in : in_bounds width code points s t p ≡ true → Bounds width code points s t p
+module _ (shape : Shape) (s t p : ℕ) where
+  pub bounds_in : in_bounds shape s t p ≡ true → Bounds shape s t p
   bounds_in e =
-      let b₅ : Bool = leb width 32 && leb code points in
-      let b₄ : Bool = b₅ && leb points 1024 in
+      let b₅ : Bool = leb shape.width 32 && leb shape.code shape.points in
+      let b₄ : Bool = b₅ && leb shape.points 1024 in
       let b₃ : Bool = b₄ && ltb s 128 in
       let b₂ : Bool = b₃ && ltb t 128 in
-      let e₁ = both b₂ (ltb p code) e in
+      let e₁ = both b₂ (ltb p shape.code) e in
       let e₂ = both b₃ (ltb t 128) e₁.0 in
       let e₃ = both b₄ (ltb s 128) e₂.0 in
-      let e₄ = both b₅ (leb points 1024) e₃.0 in
-      let e₅ = both (leb width 32) (leb code points) e₄.0 in
+      let e₄ = both b₅ (leb shape.points 1024) e₃.0 in
+      let e₅ = both (leb shape.width 32) (leb shape.code shape.points) e₄.0 in
       record {
         narrow = leb-true _ _ e₅.0;
         ordered = leb-true _ _ e₅.1;
@@ -68,15 +69,15 @@ module _ (width code points s t p : ℕ) where
         point = ltb-true _ _ e₁.1;
       }
 
-  bounds_test : Bounds width code points s t p → in_bounds width code points s t p ≡ true
+  bounds_test : Bounds shape s t p → in_bounds shape s t p ≡ true
   bounds_test b =
-      rw (le-leb width 32 b.narrow, le-leb code points b.ordered, le-leb points 1024 b.few, lt-ltb s 128 b.sup, lt-ltb t 128 b.sub, lt-ltb p code b.point)
+      rw (le-leb shape.width 32 b.narrow, le-leb shape.code shape.points b.ordered, le-leb shape.points 1024 b.few, lt-ltb s 128 b.sup, lt-ltb t 128 b.sub, lt-ltb p shape.code b.point)
 
 -- the product of a region's number and the width
-pub start_fits : (width code points s t p : ℕ) → Bounds width code points s t p → (s * width ≤ 127 * 32) × (t * width ≤ 127 * 32)
-start_fits width code points s t p b = (
-  omega (arith, mul-le-mul_right width (small s b.sup), b.narrow),
-  omega (arith, mul-le-mul_right width (small t b.sub), b.narrow),
+pub start_fits : {shape : Shape} (s t p : ℕ) → Bounds shape s t p → (s * shape.width ≤ 127 * 32) × (t * shape.width ≤ 127 * 32)
+start_fits {shape} s t p b = (
+  omega (arith, mul-le-mul_right shape.width (small s b.sup), b.narrow),
+  omega (arith, mul-le-mul_right shape.width (small t b.sub), b.narrow),
 )
   where
     small : (x : ℕ) → x < 128 → x ≤ 127
@@ -120,65 +121,90 @@ ran_absent s last ws grew c e = ran-same s last ws grew c λ ready. inl (record 
 
 -- ---- A constraint that is run
 
-module _ (s : Setting) (shape : Shape) (rule : declared.EndRule) (first succ chain ws grew : List ℕ) (given : Given s shape rule first succ chain ws grew) (c : Outlives) (names : Names s c) where
+module _ (s : Setting) (g : Setup) (ws grew : List ℕ) (given : Given s g ws grew) (c : Outlives) (names : Names s c) where
   -- what the constraint puts into its outer set
   abbrev Got : Point → Type 0
-  Got = Gets s.ends first succ ws (c.sub * s.width) s.graph.code s.graph.points c.point
+  Got = Gets g ws (c.sub * s.width) c.point
 
-  room : word_bits * (c.sup * s.width) + s.graph.points ≤ word_bits * length ws
-  room = omega (arith, given.wide, given.room, mul-le-mul_right s.width names.sup, suc-mul c.sup s.width)
+  room : word_bits * (c.sup * s.width) + g.shape.points ≤ word_bits * length ws
+  room = omega (arith, given.points, given.wide, given.room, mul-le-mul_right s.width names.sup, suc-mul c.sup s.width)
 
   -- what sets that contain the words' and meet the constraint have
   got_in : (sets : Sets) → Within s (sets_of s ws) sets → Met s sets c → (q : Point) → Got q → T (sets c.sup q)
-  got_in sets w m q (inl r) = m.points q (walk_mono (sets_of s ws c.sub) (sets c.sub) (λ x. w c.sub x names.sub) (reach_walk s first succ given.edges ws c.sub c.point r))
+  got_in sets w m q (inl r) = m.points q (walk_mono (sets_of s ws c.sub) (sets c.sub) (λ x. w c.sub x names.sub) (reach_walk s g ws grew given c.sub c.point r))
   got_in sets w m q (inr r) =
       let x : Point = r.3.0 in
       let u = r.3.1 in
-      m.passed x q (walk_mono (sets_of s ws c.sub) (sets c.sub) (λ x. w c.sub x names.sub) (reach_walk s first succ given.edges ws c.sub c.point u))
-      (leaf_exit s.graph first succ given.edges x (reach_below s first succ given.edges ws c.sub c.point u) r.3.2)
-      r.0
-      r.1
-      (looser_same s.ends (has ws (bit_at s.width c.sub q)) (sets c.sub q) (λ h. w c.sub q names.sub (has-sets s ws c.sub q r.1 (is_true _ h))) (true_T _ r.2))
+      let lo : s.graph.code ≤ q = omega (arith, given.code, r.0) in
+      let hi : q < s.graph.points = omega (arith, given.points, r.1) in
+      let passed : passes_end s.ends (has ws (bit_at s.width c.sub q)) ≡ true = subst (λ (rule : EndRule). passes_end rule (has ws (bit_at s.width c.sub q)) ≡ true) given.ends r.2 in
+      m.passed x q (walk_mono (sets_of s ws c.sub) (sets c.sub) (λ x. w c.sub x names.sub) (reach_walk s g ws grew given c.sub c.point u))
+      (leaf_exit s.graph g.graph.now.first g.graph.now.succ given.edges x (reach_below s g ws grew given c.sub c.point u) r.3.2)
+      lo
+      hi
+      (looser_same s.ends (has ws (bit_at s.width c.sub q)) (sets c.sub q) (λ h. w c.sub q names.sub (has-sets s ws c.sub q hi (is_true _ h))) (true_T _ passed))
 
   -- a walk through the inner set of words that have grown, where that set did not
   module _ (ws' : List ℕ) (down : (q : Point) → T (sets_of s ws' c.sub q) → T (sets_of s ws c.sub q)) where
-    back : {q : Point} → Walk s.graph (sets_of s ws' c.sub) c.point q → Reach (Edge first succ) (in_code ws (c.sub * s.width) s.graph.code) c.point q
-    back w = walk_reach s first succ given.edges ws c.sub c.point names.point (walk_mono (sets_of s ws' c.sub) (sets_of s ws c.sub) down w)
+    back : {q : Point} → Walk s.graph (sets_of s ws' c.sub) c.point q → Reach (Edge g.graph.now.first g.graph.now.succ) (in_code ws (c.sub * s.width) g.shape.code) c.point q
+    back w = walk_reach s g ws grew given c.sub c.point names.point (walk_mono (sets_of s ws' c.sub) (sets_of s ws c.sub) down w)
 
     met_in : ((q : Point) → Got q → has ws' (bit_at s.width c.sup q) ≡ true) → Met s (sets_of s ws') c
     met_in added =
         record {
           points = λ q w.
               let r = back w in
-              has-sets s ws' c.sup q (omega (arith, reach_below s first succ given.edges ws c.sub c.point r, given.edges.ordered)) (added q (inl r));
+              has-sets s ws' c.sup q (omega (arith, reach_below s g ws grew given c.sub c.point r, given.edges.ordered)) (added q (inl r));
           passed = λ q e w x lo hi pe.
+              let passed = is_true _ (looser_same s.ends (sets_of s ws' c.sub e) (has ws (bit_at s.width c.sub e)) (λ h. true_T _ (sets-has s ws c.sub e (down e h))) pe) in
               has-sets s ws' c.sup e hi
               (added e
               (inr (
-                lo,
-                hi,
-                is_true _ (looser_same s.ends (sets_of s ws' c.sub e) (has ws (bit_at s.width c.sub e)) (λ h. true_T _ (sets-has s ws c.sub e (down e h))) pe),
-                (q, back w, exit_leaf s.graph first succ given.edges q x),
+                omega (arith, given.code, lo),
+                omega (arith, given.points, hi),
+                subst (λ (rule : EndRule). passes_end rule (has ws (bit_at s.width c.sub e)) ≡ true) (sym given.ends) passed,
+                (q, back w, exit_leaf s.graph g.graph.now.first g.graph.now.succ given.edges q x),
               )));
         }
 
+  -- where its sets start, in the setting's terms
+  starts : (P : ℕ → ℕ → Type 0) {a b : ℕ} → a ≡ c.sup → b ≡ c.sub → P (a * g.shape.width) (b * g.shape.width) → P (c.sup * s.width) (c.sub * s.width)
+  starts P ea eb x = rw (ea, eb, given.width) at x
+
   -- what it puts into its outer set is there
-  pub ran_nothing : (last : List ℕ) (a b : ℕ) → a ≡ c.sup → b ≡ c.sub
-      → adds_nothing (rule_of rule) ws shape.width shape.code shape.points (a * shape.width) (b * shape.width) ≡ true → Ran s last (c ∷ []) ws grew ws grew
+  pub ran_nothing : (last : List ℕ) (a b : ℕ) → a ≡ c.sup → b ≡ c.sub → adds_nothing g ws (a * g.shape.width) (b * g.shape.width) ≡ true → Ran s last (c ∷ []) ws grew ws grew
   ran_nothing last a b ea eb e =
-      let n : adds_nothing s.ends ws s.width s.graph.code s.graph.points (c.sup * s.width) (c.sub * s.width) ≡ true = rw (ea, eb, given.ends, given.width, given.code, given.points) at e in
+      let n : adds_nothing g ws (c.sup * s.width) (c.sub * s.width) ≡ true = starts (λ (to from : ℕ). adds_nothing g ws to from ≡ true) ea eb e in
       ran-same s last ws grew c λ ready.
       inl (met_in ws (λ q h. h)
-      (nothing_new s.ends first succ ws s.width s.graph.code s.graph.points (c.sup * s.width) (c.sub * s.width) c.point n given.edges.ordered given.wide))
+      (nothing_new g ws (c.sup * s.width) (c.sub * s.width) c.point n (omega (arith, given.code, given.points, given.edges.ordered)) (omega (arith, given.points, given.width, given.wide))))
 
   -- the words show that a walk stays within its outer set
-  pub ran_covered : (last : List ℕ) (a b : ℕ) → a ≡ c.sup → b ≡ c.sub → Covered chain ws (b * shape.width) (a * shape.width) (c.point / word_bits) → Ran s last (c ∷ []) ws grew ws grew
+  pub ran_covered : (last : List ℕ) (a b : ℕ) → a ≡ c.sup → b ≡ c.sub → Covered g.chain.now ws (b * g.shape.width) (a * g.shape.width) (c.point / word_bits) → Ran s last (c ∷ []) ws grew ws grew
   ran_covered last a b ea eb v =
-      let w : Covered chain ws (c.sub * s.width) (c.sup * s.width) (c.point / word_bits) = rw (ea, eb, given.width) at v in
+      let w : Covered g.chain.now ws (c.sub * s.width) (c.sup * s.width) (c.point / word_bits) = starts (λ (to from : ℕ). Covered g.chain.now ws from to (c.point / word_bits)) ea eb v in
       ran-same s last ws grew c λ ready.
-      inl (met_in ws (λ q h. h) (covered_nothing chain first succ ws (c.sub * s.width) (c.sup * s.width) s.graph.code c.point given.linked w s.ends s.graph.points))
+      inl (met_in ws (λ q h. h) (covered_nothing g ws (c.sub * s.width) (c.sup * s.width) c.point given.linked w))
 
-  module _ (last ws' : List ℕ) (r : Bool) (x : Spread Got s.graph.points ws ws' (c.sup * s.width) r) where
+  -- the bounds hold
+  pub given_bounds : (a b : ℕ) → a ≡ c.sup → b ≡ c.sub → in_bounds g.shape a b c.point ≡ true
+  given_bounds a b ea eb =
+      bounds_test g.shape a b c.point
+      record {
+        narrow = omega (arith, given.width, given.narrow);
+        ordered = omega (arith, given.code, given.points, given.edges.ordered);
+        few = omega (arith, given.points, given.edges.few);
+        sup = omega (arith, names.sup, given.few);
+        sub = omega (arith, names.sub, given.few);
+        point = omega (arith, names.point, given.code);
+      }
+
+  -- what was put into the outer set, in the setting's terms
+  pub spread_got : (a b : ℕ) → a ≡ c.sup → b ≡ c.sub → (ws' : List ℕ) (r : Bool) → Spread (Gets g ws (b * g.shape.width) c.point) g.shape.points ws ws' (a * g.shape.width) r
+      → Spread (Gets g ws (c.sub * s.width) c.point) g.shape.points ws ws' (c.sup * s.width) r
+  spread_got a b ea eb ws' r x = starts (λ (to from : ℕ). Spread (Gets g ws from c.point) g.shape.points ws ws' to r) ea eb x
+
+  module _ (last ws' : List ℕ) (r : Bool) (x : Spread Got g.shape.points ws ws' (c.sup * s.width) r) where
     -- a new point of a set is one that the constraint put into its outer set
     new : (k : RegionName) (q : Point) → T (sets_of s ws' k q) → T (sets_of s ws k q) ⊎ ((k ≡ c.sup) × Got q)
     new k q h = go (x.only (bit_at s.width k q) (sets-has s ws' k q h))
@@ -186,11 +212,11 @@ module _ (s : Setting) (shape : Shape) (rule : declared.EndRule) (first succ cha
         lq : q < s.graph.points
         lq = sets_below s ws' k q h
 
-        go : (has ws (bit_at s.width k q) ≡ true) ⊎ ((y : ℕ) × (bit_at s.width k q ≡ word_bits * (c.sup * s.width) + y) × (y < s.graph.points) × Got y)
+        go : (has ws (bit_at s.width k q) ≡ true) ⊎ ((y : ℕ) × (bit_at s.width k q ≡ word_bits * (c.sup * s.width) + y) × (y < g.shape.points) × Got y)
             → T (sets_of s ws k q) ⊎ ((k ≡ c.sup) × Got q)
         go (inl e) = inl (has-sets s ws k q lq e)
         go (inr w) =
-            let e : k ≡ c.sup = bit-region s.width k c.sup q w.0 (omega (arith, lq, given.wide)) (omega (arith, w.2, given.wide)) w.1 in
+            let e : k ≡ c.sup = bit-region s.width k c.sup q w.0 (omega (arith, lq, given.wide)) (omega (arith, w.2, given.points, given.wide)) w.1 in
             let f : bit_at s.width c.sup q ≡ bit_at s.width c.sup w.0 = ap (λ (i : ℕ). bit_at s.width i q) (sym e) ∙ w.1 in
             inr (e, subst Got (omega arith) w.3)
 
@@ -201,7 +227,7 @@ module _ (s : Setting) (shape : Shape) (rule : declared.EndRule) (first succ cha
         go true true ea eb = refl
         go false false ea eb = refl
         go false true ea eb = sym ea ∙ x.kept j eb
-        go true false ea eb = ⊎_elim (λ k. sym k ∙ eb) (λ k. absurd (h c.sup k.0 names.sup k.2 k.1)) (x.only j ea)
+        go true false ea eb = ⊎_elim (λ k. sym k ∙ eb) (λ k. absurd (h c.sup k.0 names.sup (omega (arith, k.2, given.points)) k.1)) (x.only j ea)
 
     ran_with : (grew' : List ℕ) → length grew' ≡ length grew → ((k : RegionName) → Marked grew k → Marked grew' k)
         → ((k : RegionName) (q : Point) → T (sets_of s ws' k q) → T (sets_of s ws k q) ⊎ Marked grew' k)
@@ -245,29 +271,9 @@ module _ (s : Setting) (shape : Shape) (rule : declared.EndRule) (first succ cha
         earned k (no n) m = inl (mark-old grew c.sup 1 k n m)
         earned k (yes z) m =
             let w = x.grew e in
-            inr (subst (λ (i : RegionName). (q : Point) × (q < s.graph.points) × (has ws (bit_at s.width i q) ≡ false) × (has ws' (bit_at s.width i q) ≡ true)) (sym z) (w.0, w.1, w.3, w.4))
+            inr (subst (λ (i : RegionName). (q : Point) × (q < s.graph.points) × (has ws (bit_at s.width i q) ≡ false) × (has ws' (bit_at s.width i q) ≡ true)) (sym z) (w.0, omega (arith, w.1, given.points), w.3, w.4))
 
 -- ---- As the code goes
-
-module _ (s : Setting) (shape : Shape) (rule : declared.EndRule) (first succ chain ws grew : List ℕ) (given : Given s shape rule first succ chain ws grew) (c : Outlives) (names : Names s c) where
-  -- the bounds hold
-  pub given_bounds : (a b : ℕ) → a ≡ c.sup → b ≡ c.sub → in_bounds shape.width shape.code shape.points a b c.point ≡ true
-  given_bounds a b ea eb =
-      bounds_test shape.width shape.code shape.points a b c.point
-      record {
-        narrow = omega (arith, given.width, given.narrow);
-        ordered = omega (arith, given.code, given.points, given.edges.ordered);
-        few = omega (arith, given.points, given.edges.few);
-        sup = omega (arith, names.sup, given.few);
-        sub = omega (arith, names.sub, given.few);
-        point = omega (arith, names.point, given.code);
-      }
-
-  -- what was put into the outer set, in the setting's terms
-  pub spread_got : (a b : ℕ) → a ≡ c.sup → b ≡ c.sub → (ws' : List ℕ) (r : Bool)
-      → Spread (Gets (rule_of rule) first succ ws (b * shape.width) shape.code shape.points c.point) shape.points ws ws' (a * shape.width) r
-      → Spread (Gets s.ends first succ ws (c.sub * s.width) s.graph.code s.graph.points c.point) s.graph.points ws ws' (c.sup * s.width) r
-  spread_got a b ea eb ws' r x = rw (ea, eb, given.ends, given.width, given.code, given.points) at x
 
 -- both tests of the marks of the inner set are true
 pub quiet_tests : (last grew : List ℕ) (t sub : ℕ) → t ≡ sub → (eqb (get_or last t 0) 0 && eqb (get_or grew t 0) 0) ≡ true → (get_or last sub 0 ≡ 0) × (get_or grew sub 0 ≡ 0)

@@ -26,8 +26,7 @@ use Rattle.bit_set.proofs.BitLaws.{words_ext}
 use Rattle.graph.specs.Search.{Marked, is_marked}
 use Rattle.bit_set.specs.Missing.{missing}
 use Rattle.infer.specs.Ran.{Setting, bit_at, sets_at, sets_of, Words, Met, Ready, AllReady, Ran, Rounds, Quiet, Given, AllNamed, any_marked}
-use Rattle.infer.specs.declared.EndRule as declared
-use Rattle.infer.specs.declared.Shape.{Shape}
+use Rattle.infer.specs.declared.Setup.{Setup}
 use Rattle.bit_set.proofs.MissingLaws.{missing_le, missing_lt}
 
 is-marked : (seen : List ℕ) (x : ℕ) → Marked seen x → is_marked seen x ≡ true
@@ -181,8 +180,7 @@ ran_again {s} x y blank among j =
     }
 
 -- what is handed in to the next run
-pub given-kept : {s : Setting} {shape : Shape} {rule : declared.EndRule} {first succ chain last ws grew ws' grew' : List ℕ} {cs : List Outlives}
-    → Given s shape rule first succ chain ws grew → Ran s last cs ws grew ws' grew' → Given s shape rule first succ chain ws' grew'
+pub given-kept : {s : Setting} {g : Setup} {last ws grew ws' grew' : List ℕ} {cs : List Outlives} → Given s g ws grew → Ran s last cs ws grew ws' grew' → Given s g ws' grew'
 given-kept g ran =
     record {
       edges = g.edges;

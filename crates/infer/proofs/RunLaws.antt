@@ -10,19 +10,18 @@ use Rattle.constraint_list.specs.Listed.{outlives_of, outlives_from, count_in, f
 use Rattle.constraint_list.specs.declared.Constraint.{Constraint}
 use Rattle.constraint_list.proofs.ListLaws.{first-none, first_more, draws_append}
 use Rattle.infer.specs.Ran.{Setting, Given, Names, Ran, Runs, constraint}
-use Rattle.infer.specs.declared.EndRule.{EndRule}
-use Rattle.infer.specs.declared.Shape.{Shape}
+use Rattle.infer.specs.declared.Setup.{Setup}
 use Rattle.infer.proofs.RanLaws.{ran-none, ran_append, given-kept}
 
 next-first : (t : List ℕ) (i : ℕ) {c : Outlives} → c ≡ outlives_from (get_or t (i + 1) 0) → first_in t i ++ (c ∷ []) ≡ first_in t (i + 1)
 next-first t i e = ap (λ (d : Outlives). first_in t i ++ (d ∷ [])) e ∙ sym (first_more t i)
 
-module _ {shape : Shape} {rule : EndRule} {first succ chain last : List ℕ} where
-  pub runs_none : {cs : List Outlives} {ws grew : List ℕ} → cs ≡ [] → Runs shape rule first succ chain last cs ws grew ws grew
+module _ {g : Setup} {last : List ℕ} where
+  pub runs_none : {cs : List Outlives} {ws grew : List ℕ} → cs ≡ [] → Runs g last cs ws grew ws grew
   runs_none {ws = ws} {grew = grew} e = record { ran = λ s given named. rw e (ran-none s last ws grew) }
 
-  pub runs_append : {cs ds : List Outlives} {ws grew ws₁ grew₁ ws₂ grew₂ : List ℕ} → Runs shape rule first succ chain last cs ws grew ws₁ grew₁ → Runs shape rule first succ chain last ds ws₁ grew₁ ws₂ grew₂
-      → Runs shape rule first succ chain last (cs ++ ds) ws grew ws₂ grew₂
+  pub runs_append : {cs ds : List Outlives} {ws grew ws₁ grew₁ ws₂ grew₂ : List ℕ} → Runs g last cs ws grew ws₁ grew₁ → Runs g last ds ws₁ grew₁ ws₂ grew₂
+      → Runs g last (cs ++ ds) ws grew ws₂ grew₂
   runs_append {cs} {ds} x y = record {
     ran = λ s given named.
         let r = x.ran s given (λ c m. named c (member_left cs ds m)) in
@@ -31,22 +30,22 @@ module _ {shape : Shape} {rule : EndRule} {first succ chain last : List ℕ} whe
 
   -- one constraint
   pub runs_one : {c : Constraint} {p : ℕ} {ws grew ws' grew' : List ℕ} → p ≡ c.point
-      → ((s : Setting) → Given s shape rule first succ chain ws grew → Names s (constraint c.sup c.sub p) → Ran s last (constraint c.sup c.sub p ∷ []) ws grew ws' grew')
-      → Runs shape rule first succ chain last (outlives_of c ∷ []) ws grew ws' grew'
+      → ((s : Setting) → Given s g ws grew → Names s (constraint c.sup c.sub p) → Ran s last (constraint c.sup c.sub p ∷ []) ws grew ws' grew')
+      → Runs g last (outlives_of c ∷ []) ws grew ws' grew'
   runs_one {c} e one = record { ran = λ s given named. rw (sym e) (one s given (rw e (named (outlives_of c) here))) }
 
-  pub first_runs : (t : List ℕ) {ws grew : List ℕ} → Runs shape rule first succ chain last (first_in t 0) ws grew ws grew
+  pub first_runs : (t : List ℕ) {ws grew : List ℕ} → Runs g last (first_in t 0) ws grew ws grew
   first_runs t = runs_none (first-none t)
 
   -- one more constraint, which was read from the table
-  pub next_runs : (t : List ℕ) (i : ℕ) {c : Constraint} {ws grew ws₁ grew₁ ws₂ grew₂ : List ℕ} → Runs shape rule first succ chain last (first_in t i) ws grew ws₁ grew₁
-      → outlives_of c ≡ outlives_from (get_or t (i + 1) 0) → Runs shape rule first succ chain last (outlives_of c ∷ []) ws₁ grew₁ ws₂ grew₂
-      → Runs shape rule first succ chain last (first_in t (i + 1)) ws grew ws₂ grew₂
+  pub next_runs : (t : List ℕ) (i : ℕ) {c : Constraint} {ws grew ws₁ grew₁ ws₂ grew₂ : List ℕ} → Runs g last (first_in t i) ws grew ws₁ grew₁
+      → outlives_of c ≡ outlives_from (get_or t (i + 1) 0) → Runs g last (outlives_of c ∷ []) ws₁ grew₁ ws₂ grew₂
+      → Runs g last (first_in t (i + 1)) ws grew ws₂ grew₂
   next_runs t i {c} {ws} {grew} {ws₁} {grew₁} {ws₂} {grew₂} x e y =
-      subst (λ (cs : List Outlives). Runs shape rule first succ chain last cs ws grew ws₂ grew₂) (next-first t i e) (runs_append x y)
+      subst (λ (cs : List Outlives). Runs g last cs ws grew ws₂ grew₂) (next-first t i e) (runs_append x y)
 
-  pub all_run : (t : List ℕ) (i : ℕ) {ws grew ws' grew' : List ℕ} → i ≡ count_in t → Runs shape rule first succ chain last (first_in t i) ws grew ws' grew' → Runs shape rule first succ chain last (constraints_in t) ws grew ws' grew'
-  all_run t i {ws} {grew} {ws'} {grew'} e x = subst (λ (n : ℕ). Runs shape rule first succ chain last (first_in t n) ws grew ws' grew') e x
+  pub all_run : (t : List ℕ) (i : ℕ) {ws grew ws' grew' : List ℕ} → i ≡ count_in t → Runs g last (first_in t i) ws grew ws' grew' → Runs g last (constraints_in t) ws grew ws' grew'
+  all_run t i {ws} {grew} {ws'} {grew'} e x = subst (λ (n : ℕ). Runs g last (first_in t n) ws grew ws' grew') e x
 
 -- the same of what is drawn
 pub next_drawn : (t : List ℕ) (i : ℕ) {c : Constraint} {ls ls₁ ls₂ : List ℕ} → Draws (first_in t i) ls ls₁ → outlives_of c ≡ outlives_from (get_or t (i + 1) 0) → Draws (outlives_of c ∷ []) ls₁ ls₂ → Draws (first_in t (i + 1)) ls ls₂

@@ -14,7 +14,8 @@ use Rattle.nll_spec.specs.Output.{word_bits}
 use Rattle.bit_set.specs.Bits.{has, or_word, or_grows, both_fit}
 use Rattle.bit_set.proofs.RunLaws.{and_true_left, and_true_right, fits_sub, both_into, both_from, both_fit_lem, joined_yes}
 use Rattle.bit_set.proofs.SetLaws.{new-grows}
-use Rattle.infer.specs.Search.{Gets, is_subset, has_run, has_ends, adds_nothing}
+use Rattle.infer.specs.Search.{rule_of, Gets, is_subset, has_run, has_ends, adds_nothing}
+use Rattle.infer.specs.declared.Setup.{Setup}
 use Rattle.dfs.proofs.SearchLaws.{reach_held, code_below}
 
 -- ---- Words
@@ -92,31 +93,33 @@ module _ (ws : List ℕ) (to a : ℕ) where
       go (no q) r = r (omega (arith, q))
 
 -- the ends are tested only where the end rule asks for it
-module _ (rule : EndRule) (ws : List ℕ) (to code points : ℕ) where
-  pub ends_free : (b : Bool) → b ≡ passes_end rule false → not b ≡ true → true ≡ has_ends rule ws to code points
-  ends_free b e n = sym (ap (λ (x : Bool). x || has_run ws to code (points - code)) (ap not (sym e) ∙ n))
+module _ (g : Setup) (ws : List ℕ) (to : ℕ) where
+  pub ends_free : (b : Bool) → b ≡ passes_end (rule_of g.rule) false → not b ≡ true → true ≡ has_ends g ws to
+  ends_free b e n = sym (ap (λ (x : Bool). x || has_run ws to g.shape.code (g.shape.points - g.shape.code)) (ap not (sym e) ∙ n))
 
-  pub ends_asked : (b r : Bool) → b ≡ passes_end rule false → not b ≡ false → r ≡ has_run ws to code (points - code) → r ≡ has_ends rule ws to code points
-  ends_asked b r e n h = h ∙ sym (ap (λ (x : Bool). x || has_run ws to code (points - code)) (ap not (sym e) ∙ n))
+  pub ends_asked : (b r : Bool) → b ≡ passes_end (rule_of g.rule) false → not b ≡ false → r ≡ has_run ws to g.shape.code (g.shape.points - g.shape.code) → r ≡ has_ends g ws to
+  ends_asked b r e n h = h ∙ sym (ap (λ (x : Bool). x || has_run ws to g.shape.code (g.shape.points - g.shape.code)) (ap not (sym e) ∙ n))
 
 -- an end that is passed on is in the outer set
-ends-has : (rule : EndRule) (ws : List ℕ) (to code points : ℕ) (held : Bool) → has_ends rule ws to code points ≡ true → (e : ℕ) → code ≤ e → e < points
+ends-has : (rule : EndRule) (ws : List ℕ) (to code points : ℕ) (held : Bool) → (not (passes_end rule false) || has_run ws to code (points - code)) ≡ true → (e : ℕ) → code ≤ e → e < points
     → passes_end rule held ≡ true → (held ≡ true → has ws (word_bits * to + e) ≡ true) → has ws (word_bits * to + e) ≡ true
 ends-has every_end ws to code points held h e lo hi p inner = run_has ws to code (points - code) h e lo (omega arith)
 ends-has held_ends ws to code points held h e lo hi p inner = inner p
 
 -- ---- What a constraint puts
 
-pub nothing_new : (rule : EndRule) (first succ ws : List ℕ) (width code points to from p : ℕ) → adds_nothing rule ws width code points to from ≡ true
-    → code ≤ points → points ≤ word_bits * width → (q : ℕ) → Gets rule first succ ws from code points p q → has ws (word_bits * to + q) ≡ true
-nothing_new rule first succ ws width code points to from p e lc lw q got = go got
+pub nothing_new : (g : Setup) (ws : List ℕ) (to from p : ℕ) → adds_nothing g ws to from ≡ true → g.shape.code ≤ g.shape.points → g.shape.points ≤ word_bits * g.shape.width
+    → (q : ℕ) → Gets g ws from p q → has ws (word_bits * to + q) ≡ true
+nothing_new g ws to from p e lc lw q got = go got
   where
-    inner : (q : ℕ) → q < points → has ws (word_bits * from + q) ≡ true → has ws (word_bits * to + q) ≡ true
-    inner q l h = subset_has ws from to width (and_true_left (is_subset ws from to width) (has_ends rule ws to code points) e) q (omega arith) h
+    ends : has_ends g ws to ≡ true
+    ends = and_true_right (is_subset ws from to g.shape.width) (has_ends g ws to) e
 
-    go : Gets rule first succ ws from code points p q → has ws (word_bits * to + q) ≡ true
+    inner : (q : ℕ) → q < g.shape.points → has ws (word_bits * from + q) ≡ true → has ws (word_bits * to + q) ≡ true
+    inner q l h = subset_has ws from to g.shape.width (and_true_left (is_subset ws from to g.shape.width) (has_ends g ws to) e) q (omega arith) h
+
+    go : Gets g ws from p q → has ws (word_bits * to + q) ≡ true
     go (inl r) =
-        let l : q < code = code_below ws from code q (reach_held r) in
-        inner q (omega arith) (and_true_right (ltb q code) (has ws (word_bits * from + q)) (reach_held r))
-    go (inr r) =
-        ends-has rule ws to code points (has ws (word_bits * from + q)) (and_true_right (is_subset ws from to width) (has_ends rule ws to code points) e) q r.0 r.1 r.2 (inner q r.1)
+        let l : q < g.shape.code = code_below ws from g.shape.code q (reach_held r) in
+        inner q (omega arith) (and_true_right (ltb q g.shape.code) (has ws (word_bits * from + q)) (reach_held r))
+    go (inr r) = ends-has (rule_of g.rule) ws to g.shape.code g.shape.points (has ws (word_bits * from + q)) ends q r.0 r.1 r.2 (inner q r.1)

@@ -16,7 +16,8 @@ use Rattle.bit_set.specs.Bits.{has}
 use Rattle.graph.specs.Tables.{Edges, Edge}
 use Rattle.graph.proofs.EntryLaws.{length-after, edge_next, next_edge}
 use Rattle.dfs.specs.Walk.{in_code, Reach, here, step, Leaf}
-use Rattle.infer.specs.Ran.{Setting, sets_of, bit_at}
+use Rattle.infer.specs.Ran.{Setting, sets_of, bit_at, Given}
+use Rattle.infer.specs.declared.Setup.{Setup}
 use Rattle.dfs.proofs.SearchLaws.{reach_held, code_below}
 use Rattle.infer.proofs.RanLaws.{true_T, has-sets, sets-has}
 
@@ -42,27 +43,31 @@ module _ (g : Graph) (first succ : List ℕ) (t : Edges g first succ) where
 
 -- ---- Walks
 
-module _ (s : Setting) (first succ : List ℕ) (t : Edges s.graph first succ) (ws : List ℕ) (r p : ℕ) where
+module _ (s : Setting) (g : Setup) (ws grew : List ℕ) (given : Given s g ws grew) (r p : ℕ) where
   abbrev h : ℕ → Bool
-  h = in_code ws (r * s.width) s.graph.code
+  h = in_code ws (r * s.width) g.shape.code
+
+  abbrev Reached : ℕ → Type 0
+  Reached = Reach (Edge g.graph.now.first g.graph.now.succ) h p
 
   held_in : (x : Point) → h x ≡ true → T (sets_of s ws r x)
   held_in x e =
-      let l : x < s.graph.code = code_below ws (r * s.width) s.graph.code x e in
-      has-sets s ws r x (omega (arith, t.ordered)) (is_true _ (and_right (ltb x s.graph.code) (has ws (bit_at s.width r x)) (true_T _ e)))
+      let l : x < g.shape.code = code_below ws (r * s.width) g.shape.code x e in
+      has-sets s ws r x (omega (arith, given.code, given.edges.ordered)) (is_true _ (and_right (ltb x g.shape.code) (has ws (bit_at s.width r x)) (true_T _ e)))
 
   in_held : (x : Point) → x < s.graph.code → T (sets_of s ws r x) → h x ≡ true
-  in_held x l i = rw (lt-ltb x s.graph.code l) (sets-has s ws r x i)
+  in_held x l i = rw (lt-ltb x g.shape.code (omega (arith, l, given.code))) (sets-has s ws r x i)
 
-  pub reach_below : {x : Point} → Reach (Edge first succ) h p x → x < s.graph.code
-  reach_below {x} r = code_below ws _ s.graph.code x (reach_held r)
+  pub reach_below : {x : Point} → Reached x → x < s.graph.code
+  reach_below {x} w = omega (arith, given.code, code_below ws _ g.shape.code x (reach_held w))
 
-  pub reach_walk : {x : Point} → Reach (Edge first succ) h p x → Walk s.graph (sets_of s ws r) p x
+  pub reach_walk : {x : Point} → Reached x → Walk s.graph (sets_of s ws r) p x
   reach_walk (here e) = begin (held_in p e)
-  reach_walk (step {q = q} {s = y} w e k) = go_on (reach_walk w) (edge_next s.graph first succ t q y (reach_below w) e) (held_in y k)
+  reach_walk (step {q = q} {s = y} w e k) =
+      go_on (reach_walk w) (edge_next s.graph g.graph.now.first g.graph.now.succ given.edges q y (reach_below w) e) (held_in y k)
 
-  pub walk_reach : {x : Point} → p < s.graph.code → Walk s.graph (sets_of s ws r) p x → Reach (Edge first succ) h p x
+  pub walk_reach : {x : Point} → p < s.graph.code → Walk s.graph (sets_of s ws r) p x → Reached x
   walk_reach l (begin i) = here (in_held p l i)
   walk_reach l (go_on {p = q} {q = y} w n i) =
       let u = walk_reach l w in
-      step u (next_edge s.graph first succ t q y (reach_below u) n) (in_held y (t.inside q y (reach_below u) n) i)
+      step u (next_edge s.graph g.graph.now.first g.graph.now.succ given.edges q y (reach_below u) n) (in_held y (given.edges.inside q y (reach_below u) n) i)

@@ -10,10 +10,8 @@ use Rattle.nll_spec.specs.Meaning.{Sets, Meets}
 use Rattle.bit_set.specs.Bits.{has}
 use Rattle.graph.specs.Tables.{Edges}
 use Rattle.graph.specs.Search.{Marked, is_marked}
-use Rattle.dfs.specs.Walk.{Chained}
-use Rattle.infer.specs.Search.{rule_of}
-use Rattle.infer.specs.declared.EndRule as declared
-use Rattle.infer.specs.declared.Shape.{Shape}
+use Rattle.infer.specs.Search.{rule_of, Linked}
+use Rattle.infer.specs.declared.Setup.{Setup}
 
 -- What constraints are run in: the end rule, the graph, how many regions there are, and how many words a region's set takes.
 pub record Setting : Type 0 where
@@ -89,14 +87,14 @@ pub record Rounds (s : Setting) (cs : List Outlives) (ws ws' : List ℕ) : Type 
   pub others : (j : ℕ) → ((r : RegionName) (q : Point) → r < s.regions → q < s.graph.points → j ≡ bit_at s.width r q → ⊥) → has ws' j ≡ has ws j
   pub within : (sets : Sets) → Within s (sets_of s ws) sets → ((c : Outlives) → Member c cs → Met s sets c) → Within s (sets_of s ws') sets
 
--- What is handed in is a setting's, and the words and the marks have room for its regions.
-pub record Given (s : Setting) (shape : Shape) (rule : declared.EndRule) (first succ chain ws grew : List ℕ) : Type 0 where
-  pub edges : Edges s.graph first succ
-  pub code : shape.code ≡ s.graph.code
-  pub points : shape.points ≡ s.graph.points
-  pub width : shape.width ≡ s.width
-  pub linked : Chained chain first succ
-  pub ends : rule_of rule ≡ s.ends
+-- The setup is a setting's, and the words and the marks have room for its regions.
+pub record Given (s : Setting) (g : Setup) (ws grew : List ℕ) : Type 0 where
+  pub edges : Edges s.graph g.graph.now.first g.graph.now.succ
+  pub code : g.shape.code ≡ s.graph.code
+  pub points : g.shape.points ≡ s.graph.points
+  pub width : g.shape.width ≡ s.width
+  pub linked : Linked g
+  pub ends : rule_of g.rule ≡ s.ends
   pub wide : s.graph.points ≤ word_bits * s.width
   pub narrow : s.width ≤ 32
   pub few : s.regions ≤ 128
@@ -118,5 +116,5 @@ abbrev pub constraint : RegionName → RegionName → Point → Outlives
 constraint a b p = record { sup = a; sub = b; point = p }
 
 -- The constraints cs are run, in every setting that is given and has their names.
-pub record Runs (shape : Shape) (rule : declared.EndRule) (first succ chain last : List ℕ) (cs : List Outlives) (ws grew ws' grew' : List ℕ) : Type 0 where
-  pub ran : (s : Setting) → Given s shape rule first succ chain ws grew → AllNamed s cs → Ran s last cs ws grew ws' grew'
+pub record Runs (g : Setup) (last : List ℕ) (cs : List Outlives) (ws grew ws' grew' : List ℕ) : Type 0 where
+  pub ran : (s : Setting) → Given s g ws grew → AllNamed s cs → Ran s last cs ws grew ws' grew'

@@ -1,38 +1,49 @@
--- What running one constraint computes, from the tables and the words that it is handed.
+-- What running one constraint computes, from what it is run in and the words that it is handed.
 use Rattle.std.specs.Prelude.{◌≡◌, ◌⊎◌, Bool, true, false, not, ◌&&◌, ◌||◌, cond, List, ℕ, zero, suc, ◌+◌, ◌-◌, ◌*◌, ◌/◌, ◌^◌, ◌≤◌, ◌<◌, length, get_or, eqb, leb, ltb}
 use Rattle.std.specs.Int.Bits.{bit_or}
 use Rattle.nll_spec.specs.Regions.{EndRule, every_end, held_ends, passes_end}
 use Rattle.nll_spec.specs.Output.{word_bits}
 use Rattle.bit_set.specs.Bits.{has, with_bit, or_word, or_grows, both_fit}
 use Rattle.graph.specs.Tables.{Edge}
-use Rattle.dfs.specs.Walk.{in_code, Reach, Leaf}
+use Rattle.dfs.specs.Walk.{in_code, Reach, Leaf, Chained}
 use Rattle.infer.specs.declared.EndRule as declared
 use Rattle.infer.specs.declared.EndRule.TheVariants.{EveryEnd, HeldEnds}
+use Rattle.infer.specs.declared.Shape.{Shape}
+use Rattle.infer.specs.declared.Setup.{Setup}
 
 -- the end rule that is handed in, as `nll_spec` has it
 abbrev pub rule_of : declared.EndRule → EndRule
 rule_of EveryEnd = every_end
 rule_of HeldEnds = held_ends
 
+-- each number of the chain is a point of the graph that is followed by the next one alone
+abbrev pub Linked : Setup → Type 0
+Linked g = Chained g.chain.now g.graph.now.first g.graph.now.succ
+
 -- ---- The ends
 
 -- whether the end rule passes on the end e, where the inner set starts at word `from`
-abbrev pub passes : EndRule → List ℕ → ℕ → ℕ → Bool
-passes rule ws from e = passes_end rule (has ws (word_bits * from + e))
+abbrev pub passes : Setup → List ℕ → ℕ → ℕ → Bool
+passes g ws from e = passes_end (rule_of g.rule) (has ws (word_bits * from + e))
 
 -- the set with each of the n numbers from a on that f holds
 unfoldable pub with_run : (ℕ → Bool) → List ℕ → ℕ → ℕ → List ℕ
 with_run f ps a zero = ps
 with_run f ps a (suc n) = cond (f (a + n)) (with_bit (with_run f ps a n) (a + n)) (with_run f ps a n)
 
+-- the set with the ends that the end rule passes on
+abbrev pub with_ends : Setup → List ℕ → ℕ → List ℕ → List ℕ
+with_ends g ws from ps = with_run (passes g ws from) ps g.shape.code (g.shape.points - g.shape.code)
+
 -- ---- What is put into the outer set
 
 -- What a constraint at p puts into its outer set, where the inner one starts at word `from`: each point that p reaches, and, where one of these has
 -- no point after it, the ends that the end rule passes on.
-abbrev pub Gets : EndRule → List ℕ → List ℕ → List ℕ → ℕ → ℕ → ℕ → ℕ → ℕ → Type 0
-Gets rule first succ ws from code points p q =
-    Reach (Edge first succ) (in_code ws from code) p q
-    ⊎ ((code ≤ q) × (q < points) × (passes rule ws from q ≡ true) × ((x : ℕ) × Reach (Edge first succ) (in_code ws from code) p x × Leaf first x))
+abbrev pub Gets : Setup → List ℕ → ℕ → ℕ → ℕ → Type 0
+Gets g ws from p q =
+    Reach (Edge g.graph.now.first g.graph.now.succ) (in_code ws from g.shape.code) p q
+    ⊎ ((g.shape.code ≤ q) × (q < g.shape.points) × (passes g ws from q ≡ true)
+    × ((x : ℕ) × Reach (Edge g.graph.now.first g.graph.now.succ) (in_code ws from g.shape.code) p x × Leaf g.graph.now.first x))
 
 -- the numbers of a set
 abbrev pub In : List ℕ → ℕ → Type 0
@@ -65,12 +76,12 @@ has_run ws to a zero = true
 has_run ws to a (suc n) = has_run ws to a n && has ws (word_bits * to + (a + n))
 
 -- it has each end that the end rule passes on whether or not the inner set has it
-abbrev pub has_ends : EndRule → List ℕ → ℕ → ℕ → ℕ → Bool
-has_ends rule ws to code points = not (passes_end rule false) || has_run ws to code (points - code)
+abbrev pub has_ends : Setup → List ℕ → ℕ → Bool
+has_ends g ws to = not (passes_end (rule_of g.rule) false) || has_run ws to g.shape.code (g.shape.points - g.shape.code)
 
 -- the words show that what a constraint puts into the set from word `to` is there, where the inner set starts at word `from`
-abbrev pub adds_nothing : EndRule → List ℕ → ℕ → ℕ → ℕ → ℕ → ℕ → Bool
-adds_nothing rule ws width code points to from = is_subset ws from to width && has_ends rule ws to code points
+abbrev pub adds_nothing : Setup → List ℕ → ℕ → ℕ → Bool
+adds_nothing g ws to from = is_subset ws from to g.shape.width && has_ends g ws to
 
 -- the word k of the inner set has only numbers of the chain, all of them in the outer set
 abbrev pub is_covered : List ℕ → List ℕ → ℕ → ℕ → ℕ → Bool
@@ -86,5 +97,5 @@ pub record Covered (chain ws : List ℕ) (from to k : ℕ) : Type 0 where
 
 -- ---- The bounds that are tested
 
-abbrev pub in_bounds : ℕ → ℕ → ℕ → ℕ → ℕ → ℕ → Bool
-in_bounds width code points s t p = ((((leb width 32 && leb code points) && leb points 1024) && ltb s 128) && ltb t 128) && ltb p code
+abbrev pub in_bounds : Shape → ℕ → ℕ → ℕ → Bool
+in_bounds shape s t p = ((((leb shape.width 32 && leb shape.code shape.points) && leb shape.points 1024) && ltb s 128) && ltb t 128) && ltb p shape.code

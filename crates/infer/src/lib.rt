@@ -6,8 +6,8 @@ ghost use Rattle.std.specs.Prelude.{◌≡◌, true, cond, [], ◌∷◌, ◌+�
 ghost use Rattle.nll_spec.specs.Regions.{passes_end};
 ghost use Rattle.nll_spec.specs.Output.{word_bits};
 ghost use Rattle.bit_set.specs.Bits.{both_fit};
-ghost use Rattle.dfs.specs.Walk.{in_code, Chained};
-ghost use Rattle.infer.specs.Search.{rule_of, passes, with_run, Gets, In, Below, Spread, is_subset, has_ends, adds_nothing, in_bounds, is_covered, Covered};
+ghost use Rattle.dfs.specs.Walk.{in_code};
+ghost use Rattle.infer.specs.Search.{rule_of, Linked, with_ends, Gets, In, Below, Spread, is_subset, has_ends, adds_nothing, in_bounds, is_covered, Covered};
 ghost use Rattle.constraint_list.specs.Listed.{outlives_of, constraints_in, Draws};
 ghost use Rattle.infer.specs.Ran.{Setting, Given, Names, Ran, Runs, constraint, any_marked};
 
@@ -37,7 +37,7 @@ pub struct Shape {
 // What constraints are run in. Each point of the chain is followed by the next one alone.
 #[derive(Clone, Copy)]
 pub struct Setup<'a> {
-    pub graph: &'a FuncGraph,
+    pub graph: &'a FuncGraph<'a>,
     pub chain: &'a [u32; 32],
     pub shape: Shape,
     pub rule: EndRule,
@@ -50,26 +50,6 @@ fn passes_end(rule: EndRule, held: bool) -> bool
     match rule {
         EndRule::EveryEnd => true,
         EndRule::HeldEnds => held,
-    }
-}
-
-// Puts the ends that the end rule passes on into the points, where the inner set starts at word from.
-fn put_ends(
-    words: &[u32],
-    from: usize,
-    code: usize,
-    end: usize,
-    rule: EndRule,
-    points: &mut [u32; 32],
-)
-    requires { code ≤ end }
-    ensures { points.new ≡ with_run (passes (rule_of rule) words.now from) points.old code (end - code) }
-{
-    for i in code..end {
-        let held = bit_set::test(words, from, i);
-        if passes_end(rule, held) {
-            bit_set::add(points, 0, i);
-        }
     }
 }
 
@@ -107,80 +87,6 @@ fn is_subset(words: &[u32], from: usize, to: usize, n: usize) -> bool
     !lacks
 }
 
-// Whether word k has only points of the chain, all of them in the set from word to, where the inner set starts at word from.
-fn is_covered(chain: &[u32; 32], words: &[u32], from: usize, to: usize, k: usize) -> bool
-    requires { (k < 32) × (from + k < length words.now) × (to + k < length words.now) }
-    ensures { result ≡ is_covered chain.now words.now from to k }
-{
-    let inner = words[from + k];
-    let outer = words[to + k];
-    let links = chain[k];
-    (outer == (outer | inner)) & (links == (links | inner))
-}
-
-// Whether the words show that a walk from p stays within the set from word to: from p's word on, the inner set has only points of the chain that the outer
-// one has too, up to a word whose last point the inner set lacks.
-fn stays_within(
-    chain: &[u32; 32],
-    words: &[u32],
-    from: usize,
-    to: usize,
-    width: usize,
-    p: usize,
-) -> bool
-    requires { width ≤ 32 }
-    ensures { result ≡ true → Covered chain.now words.now from to (p / word_bits) }
-{
-    if !both_fit(words, from, to, width) {
-        return false;
-    }
-    for k in p / 32..width {
-        if !is_covered(chain, words, from, to, k) {
-            return false;
-        }
-        if words[from + k] < 1 << 31 {
-            return true;
-        }
-    }
-    false
-}
-
-// Whether the set from word to has each end that the end rule passes on whether or not the inner region holds it.
-fn has_ends(words: &[u32], to: usize, code: usize, points: usize, rule: EndRule) -> bool
-    ensures { result ≡ has_ends (rule_of rule) words.now to code points }
-{
-    if !passes_end(rule, false) {
-        return true;
-    }
-    let mut held = true;
-    for end in code..points {
-        held = held & bit_set::test(words, to, end);
-    }
-    held
-}
-
-// Whether the words show that no constraint with these sets puts a point into the set from word to, where the inner set starts at word from.
-fn adds_nothing(words: &[u32], shape: Shape, rule: EndRule, to: usize, from: usize) -> bool
-    ensures { result ≡ adds_nothing (rule_of rule) words.now shape.width shape.code shape.points to from }
-{
-    if !is_subset(words, from, to, shape.width) {
-        return false;
-    }
-    has_ends(words, to, shape.code, shape.points, rule)
-}
-
-// Whether the numbers are in bounds, so that no sum, product or index below goes wrong.
-fn in_bounds(shape: Shape, s: usize, t: usize, p: usize) -> bool
-    ensures { result ≡ in_bounds shape.width shape.code shape.points s t p }
-{
-    (shape.width <= 32)
-        & (shape.code <= shape.points)
-        & (shape.points <= 1024)
-        & (s < 128)
-        & (t < 128)
-        & (p < shape.code)
-}
-
 // The mark of a region, or 0 if it has no place among the marks.
 fn mark(grew: &[u8; 128], region: u8) -> u8
     ensures { result ≡ cond (ltb region 128) (get_or grew.now region 0) 0 }
@@ -190,28 +96,106 @@ fn mark(grew: &[u8; 128], region: u8) -> u8
 }
 
 impl Setup<'_> {
+    // Puts the ends that the end rule passes on into the points, where the inner set starts at word from.
+    fn put_ends(&self, words: &[u32], from: usize, points: &mut [u32; 32])
+        requires { self.now.shape.code ≤ self.now.shape.points }
+        ensures { points.new ≡ with_ends self.now words.now from points.old }
+    {
+        for i in self.shape.code..self.shape.points {
+            let held = bit_set::test(words, from, i);
+            if passes_end(self.rule, held) {
+                bit_set::add(points, 0, i);
+            }
+        }
+    }
+
+    // Whether word k has only points of the chain, all of them in the set from word to, where the inner set starts at word from.
+    fn is_covered(&self, words: &[u32], from: usize, to: usize, k: usize) -> bool
+        requires { (k < 32) × (from + k < length words.now) × (to + k < length words.now) }
+        ensures { result ≡ is_covered self.now.chain.now words.now from to k }
+    {
+        let inner = words[from + k];
+        let outer = words[to + k];
+        let links = self.chain[k];
+        (outer == (outer | inner)) & (links == (links | inner))
+    }
+
+    // Whether the words show that a walk from p stays within the set from word to: from p's word on, the inner set has only points of the chain that the
+    // outer one has too, up to a word whose last point the inner set lacks.
+    fn stays_within(&self, words: &[u32], from: usize, to: usize, p: usize) -> bool
+        requires { self.now.shape.width ≤ 32 }
+        ensures { result ≡ true → Covered self.now.chain.now words.now from to (p / word_bits) }
+    {
+        let width = self.shape.width;
+        if !both_fit(words, from, to, width) {
+            return false;
+        }
+        for k in p / 32..width {
+            if !self.is_covered(words, from, to, k) {
+                return false;
+            }
+            if words[from + k] < 1 << 31 {
+                return true;
+            }
+        }
+        false
+    }
+
+    // Whether the set from word to has each end that the end rule passes on whether or not the inner region holds it.
+    fn has_ends(&self, words: &[u32], to: usize) -> bool
+        ensures { result ≡ has_ends self.now words.now to }
+    {
+        if !passes_end(self.rule, false) {
+            return true;
+        }
+        let mut held = true;
+        for end in self.shape.code..self.shape.points {
+            held = held & bit_set::test(words, to, end);
+        }
+        held
+    }
+
+    // Whether the words show that no constraint with these sets puts a point into the set from word to, where the inner set starts at word from.
+    fn adds_nothing(&self, words: &[u32], to: usize, from: usize) -> bool
+        ensures { result ≡ adds_nothing self.now words.now to from }
+    {
+        if !is_subset(words, from, to, self.shape.width) {
+            return false;
+        }
+        self.has_ends(words, to)
+    }
+
+    // Whether the numbers are in bounds, so that no sum, product or index below goes wrong.
+    fn in_bounds(&self, s: usize, t: usize, p: usize) -> bool
+        ensures { result ≡ in_bounds self.now.shape s t p }
+    {
+        (self.shape.width <= 32)
+            & (self.shape.code <= self.shape.points)
+            & (self.shape.points <= 1024)
+            & (s < 128)
+            & (t < 128)
+            & (p < self.shape.code)
+    }
+
     // Puts into the set from word to what a constraint at p puts there, where the inner set starts at word from, and says whether one point was not there.
     fn spread(&self, words: &mut [u32], to: usize, from: usize, p: usize) -> bool
         requires { (self.now.shape.code ≤ self.now.shape.points) × (self.now.shape.points ≤ 1024) × (in_code words.old from self.now.shape.code p ≡ true) }
-        ensures { Chained self.now.chain.now self.now.graph.now.first self.now.graph.now.succ
-            → Spread (Gets (rule_of self.now.rule) self.now.graph.now.first self.now.graph.now.succ words.old from self.now.shape.code self.now.shape.points p)
-            self.now.shape.points words.old words.new to result }
+        ensures { Linked self.now
+            → Spread (Gets self.now words.old from p) self.now.shape.points words.old words.new to result }
     {
-        let code = self.shape.code;
-        let end = self.shape.points;
         let walk = Walk {
             graph: self.graph,
             chain: self.chain,
             words,
             from,
-            code,
+            code: self.shape.code,
         };
         let reached = walk.reach(p);
         let mut points = reached.points;
         if reached.exit {
-            put_ends(words, from, code, end, self.rule, &mut points);
+            self.put_ends(words, from, &mut points);
         }
-        put(words, to, end, &points)
+        put(words, to, self.shape.points, &points)
     }
 
     // Runs the constraint "sup outlives sub at point". It is passed by where neither the last round nor this one marks sub, so that nothing is new in it,
@@ -225,28 +209,26 @@ impl Setup<'_> {
         sub: RegionVariable,
         point: usize,
     )
-        ensures { (s : Setting) → Given s self.now.shape self.now.rule self.now.graph.now.first self.now.graph.now.succ self.now.chain.now words.old grew.old
-            → Names s (constraint sup.0 sub.0 point)
+        ensures { (s : Setting) → Given s self.now words.old grew.old → Names s (constraint sup.0 sub.0 point)
             → Ran s last.now (constraint sup.0 sub.0 point ∷ []) words.old grew.old words.new grew.new }
     {
-        let shape = self.shape;
         let s = usize::from(sup.0);
         let t = usize::from(sub.0);
-        if !in_bounds(shape, s, t, point) {
+        if !self.in_bounds(s, t, point) {
             return;
         }
         if (last[t] == 0) & (grew[t] == 0) {
             return;
         }
-        let from = t * shape.width;
+        let from = t * self.shape.width;
         if !bit_set::test(words, from, point) {
             return;
         }
-        let to = s * shape.width;
-        if stays_within(self.chain, words, from, to, shape.width, point) {
+        let to = s * self.shape.width;
+        if self.stays_within(words, from, to, point) {
             return;
         }
-        if adds_nothing(words, shape, self.rule, to, from) {
+        if self.adds_nothing(words, to, from) {
             return;
         }
         if self.spread(words, to, from, point) {
@@ -263,8 +245,7 @@ impl Setup<'_> {
         recent: &mut [u32],
         c: Constraint,
     )
-        ensures { Runs self.now.shape self.now.rule self.now.graph.now.first self.now.graph.now.succ self.now.chain.now last.now (outlives_of c ∷ [])
-            words.old grew.old words.new grew.new
+        ensures { Runs self.now last.now (outlives_of c ∷ []) words.old grew.old words.new grew.new
             × Draws (outlives_of c ∷ []) recent.old recent.new }
     {
         let before = mark(grew, c.sup);
@@ -287,8 +268,7 @@ impl Setup<'_> {
         recent: &mut [u32],
         list: &[u32],
     )
-        ensures { Runs self.now.shape self.now.rule self.now.graph.now.first self.now.graph.now.succ self.now.chain.now last.now (constraints_in list.now)
-            words.old grew.old words.new grew.new
+        ensures { Runs self.now last.now (constraints_in list.now) words.old grew.old words.new grew.new
             × Draws (constraints_in list.now) recent.old recent.new }
     {
         for i in 0..constraint_list::count(list) {

@@ -30,14 +30,11 @@ use Rattle.bit_set.specs.Missing.{falses, missing}
 use Rattle.bit_set.proofs.BitLaws.{words_ext, has_out}
 use Rattle.bit_set.proofs.RowLaws.{run_has}
 use Rattle.bit_set.proofs.MissingLaws.{missing_lt}
-use Rattle.record.specs.declared.Record.{Record}
 use Rattle.constraint_list.specs.Listed.{count_in, first_in}
 use Rattle.constraint_list.proofs.ListLaws.{first-none}
-use Rattle.infer.specs.Search.{rule_of}
+use Rattle.infer.specs.Search.{rule_of, Linked}
 use Rattle.infer.specs.Ran.{Setting, bit_at, sets_of as sets_in, Words, AllReady, Ran, Rounds, Quiet, Given, AllNamed, any_marked}
-use Rattle.infer.specs.declared.EndRule as declared
-use Rattle.infer.specs.declared.Shape.{Shape}
-use Rattle.dfs.specs.Walk.{Chained}
+use Rattle.infer.specs.declared.Setup.{Setup}
 use Rattle.infer.proofs.RanLaws.{true_T, no_member, sets-has, sets_below, has-sets, first_ready, next_ready, quiet_none, quiet_same, found-mark, rounds_none, rounds_more, rounds_unused, solved}
 use Rattle.rerun.specs.Rerun.{setting_of, no_marks, Known, Own, OwnKept, Noted}
 use Rattle.rerun.proofs.NamedLaws.{all_named}
@@ -157,14 +154,14 @@ pub record Going (ends : EndRule) (j : Job) (ws₀ ws last marks : List ℕ) (le
   pub told : Told (setting_of ends j) ws₀ ws marks
   pub less : missing (take (j.regions * word_count (point_count j)) ws) < left
 
-module _ (input : Record) (first succ chain walked : List ℕ) (shape : Shape) (rule : declared.EndRule) (ws₀ : List ℕ) where
+module _ (g : Setup) (ws₀ : List ℕ) where
   -- so for every job that is handed in
   pub record GoingOn (ws last marks : List ℕ) (left : ℕ) : Type 0 where
-    pub going : (j : Job) → Seeded input first succ walked shape ws₀ j → Chained chain first succ → Going (rule_of rule) j ws₀ ws last marks left
+    pub going : (j : Job) → Seeded g.graph.now g.shape ws₀ j → Linked g → Going (rule_of g.rule) j ws₀ ws last marks left
 
-  module _ (j : Job) (x : Seeded input first succ walked shape ws₀ j) (chained : Chained chain first succ) where
+  module _ (j : Job) (x : Seeded g.graph.now g.shape ws₀ j) (chained : Linked g) where
     abbrev ends : EndRule
-    ends = rule_of rule
+    ends = rule_of g.rule
 
     abbrev e : Setting
     e = setting_of ends j
@@ -172,7 +169,7 @@ module _ (input : Record) (first succ chain walked : List ℕ) (shape : Shape) (
     abbrev cs : List Outlives
     cs = constraints_of j (graph_of j)
 
-    known : Known input walked shape.code j
+    known : Known g.graph.now g.shape.code j
     known = record { layout = x.layout; accepted = x.accepted; reached = x.reached; points = x.code }
 
     points : (graph_of j).points ≡ point_count j
@@ -191,7 +188,7 @@ module _ (input : Record) (first succ chain walked : List ℕ) (shape : Shape) (
     narrow : word_count (point_count j) ≤ 32
     narrow = omega (arith, points, x.edges.few)
 
-    given : (ws : List ℕ) → length ws ≡ length ws₀ → Given e shape rule first succ chain ws no_marks
+    given : (ws : List ℕ) → length ws ≡ length ws₀ → Given e g ws no_marks
     given ws el =
         record {
           edges = x.edges;
@@ -229,37 +226,37 @@ module _ (input : Record) (first succ chain walked : List ℕ) (shape : Shape) (
         size : length (take (j.regions * word_count (point_count j)) ws₀) ≤ j.regions * word_count (point_count j)
         size = rw length-take (omega arith)
 
-    more : {recent ws last marks ws' grew marks' : List ℕ} {left : ℕ} → Going ends j ws₀ ws last marks left → Own j recent → RoundRuns input walked shape rule first succ chain last recent ws ws' grew → any_marked grew 128 ≡ true → Noted grew marks marks' 128
+    more : {recent ws last marks ws' grew marks' : List ℕ} {left : ℕ} → Going ends j ws₀ ws last marks left → Own j recent → RoundRuns g last recent ws ws' grew → any_marked grew 128 ≡ true → Noted grew marks marks' 128
         → Going ends j ws₀ ws' grew marks' (left - 1)
-    more {recent} {ws} {last} {marks} {ws'} {grew} {marks'} {left} g own y m noted =
+    more {recent} {ws} {last} {marks} {ws'} {grew} {marks'} {left} so own y m noted =
         record {
-          rounds = rounds_more e cs g.rounds ran;
-          ready = next_ready e ran g.ready no_marks;
-          told = told_more e few-regions g.rounds g.told ran noted;
-          less = omega (arith, g.less, round_less e wide ran m);
+          rounds = rounds_more e cs so.rounds ran;
+          ready = next_ready e ran so.ready no_marks;
+          told = told_more e few-regions so.rounds so.told ran noted;
+          less = omega (arith, so.less, round_less e wide ran m);
         }
       where
         ran : Ran e last cs ws no_marks ws' grew
-        ran = y.ran j known own (given ws g.rounds.as_long)
+        ran = y.ran j known own (given ws so.rounds.as_long)
 
-    module _ {recent ws last marks ws' grew : List ℕ} {left : ℕ} (g : Going ends j ws₀ ws last marks left) (own : Own j recent) (y : RoundRuns input walked shape rule first succ chain last recent ws ws' grew) (m : any_marked grew 128 ≡ false) where
+    module _ {recent ws last marks ws' grew : List ℕ} {left : ℕ} (so : Going ends j ws₀ ws last marks left) (own : Own j recent) (y : RoundRuns g last recent ws ws' grew) (m : any_marked grew 128 ≡ false) where
       ran : Ran e last cs ws no_marks ws' grew
-      ran = y.ran j known own (given ws g.rounds.as_long)
+      ran = y.ran j known own (given ws so.rounds.as_long)
 
       quiet : Quiet e grew
       quiet = quiet_none e grew few-regions m
 
       same : ws' ≡ ws
-      same = quiet_same e ran (g.rounds.fits x.fits) quiet
+      same = quiet_same e ran (so.rounds.fits x.fits) quiet
 
       all : Rounds e cs ws₀ ws'
-      all = rounds_more e cs g.rounds ran
+      all = rounds_more e cs so.rounds ran
 
       least : LeastSolution ends (graph_of j) j.regions (λ r q. T (holds (seed_table j (graph_of j)) r q)) (λ c. Member c cs) (sets_in e ws')
       least =
           solved e cs (λ r q. T (holds (seed_table j (graph_of j)) r q))
           (λ r q l k. has-sets e ws₀ r q (seed_points j r q k) (seed_has r q l (seed_points j r q k) ∙ is_true _ k))
-          (λ r q l k. true_T _ (sym (seed_has r q l (sets_below e ws₀ r q k)) ∙ sets-has e ws₀ r q k)) named g.rounds g.ready ran quiet
+          (λ r q l k. true_T _ (sym (seed_has r q l (sets_below e ws₀ r q k)) ∙ sets-has e ws₀ r q k)) named so.rounds so.ready ran quiet
 
       -- the words' sets are the table's
       sets-has_table : (r : RegionName) (q : Point) → r < j.regions → q < (graph_of j).points → has ws' (bit_at e.width r q) ≡ holds (least_sets ends j) r q
@@ -311,7 +308,7 @@ module _ (input : Record) (first succ chain walked : List ℕ) (shape : Shape) (
               ∙ sym (run_has ws₀ i 1 k lk)
 
       told_last : Told e ws₀ ws' marks
-      told_last = subst (λ (z : List ℕ). Told e ws₀ z marks) (sym same) g.told
+      told_last = subst (λ (z : List ℕ). Told e ws₀ z marks) (sym same) so.told
 
       grown : (r : RegionName) → r < length j.outlives → get_or marks r 0 ≡ bit (is_grown (graph_of j) (seed_table j (graph_of j)) (least_sets ends j) r)
       unfolding is_grown
@@ -352,31 +349,31 @@ module _ (input : Record) (first succ chain walked : List ℕ) (shape : Shape) (
 
   -- The constraints of the list are the job's.
   pub record Kept (recent : List ℕ) : Type 0 where
-    pub own : (j : Job) → Seeded input first succ walked shape ws₀ j → Own j recent
+    pub own : (j : Job) → Seeded g.graph.now g.shape ws₀ j → Own j recent
 
 -- ---- The loop
 
-module _ {input : Record} {first succ chain walked : List ℕ} {shape : Shape} {rule : declared.EndRule} {ws₀ : List ℕ} where
-  pub kept-none : {recent : List ℕ} → count_in recent ≡ 0 → Kept input first succ chain walked shape rule ws₀ recent
+module _ {g : Setup} {ws₀ : List ℕ} where
+  pub kept-none : {recent : List ℕ} → count_in recent ≡ 0 → Kept g ws₀ recent
   kept-none {recent} e = record { own = λ j x c m. absurd (no_member (subst (λ (cs : List Outlives). Member c cs) (ap (first_in recent) e ∙ first-none recent) m)) }
 
-  pub kept_more : {recent recent' : List ℕ} → Kept input first succ chain walked shape rule ws₀ recent → OwnKept input walked shape.code recent recent' → Kept input first succ chain walked shape rule ws₀ recent'
+  pub kept_more : {recent recent' : List ℕ} → Kept g ws₀ recent → OwnKept g recent recent' → Kept g ws₀ recent'
   kept_more k y =
       record { own = λ j x. y.kept j (record { layout = x.layout; accepted = x.accepted; reached = x.reached; points = x.code }) (k.own j x) }
 
-  pub going_start : {marks : List ℕ} {left : ℕ} → left ≡ 131073 → Cleared marks 128 → GoingOn input first succ chain walked shape rule ws₀ ws₀ (replicate 128 1) marks left
-  going_start e z = rw e record { going = λ j x ch. start input first succ chain walked shape rule ws₀ j x ch z }
+  pub going_start : {marks : List ℕ} {left : ℕ} → left ≡ 131073 → Cleared marks 128 → GoingOn g ws₀ ws₀ (replicate 128 1) marks left
+  going_start e z = rw e record { going = λ j x ch. start g ws₀ j x ch z }
 
-  pub going_more : {recent ws last marks ws' grew marks' : List ℕ} {left next : ℕ} → next ≡ left - 1 → GoingOn input first succ chain walked shape rule ws₀ ws last marks left → Kept input first succ chain walked shape rule ws₀ recent
-      → RoundRuns input walked shape rule first succ chain last recent ws ws' grew → any_marked grew 128 ≡ true → Noted grew marks marks' 128 → GoingOn input first succ chain walked shape rule ws₀ ws' grew marks' next
-  going_more e g k y m noted = rw e record { going = λ j x ch. more input first succ chain walked shape rule ws₀ j x ch (g.going j x ch) (k.own j x) y m noted }
+  pub going_more : {recent ws last marks ws' grew marks' : List ℕ} {left next : ℕ} → next ≡ left - 1 → GoingOn g ws₀ ws last marks left → Kept g ws₀ recent
+      → RoundRuns g last recent ws ws' grew → any_marked grew 128 ≡ true → Noted grew marks marks' 128 → GoingOn g ws₀ ws' grew marks' next
+  going_more e so k y m noted = rw e record { going = λ j x ch. more g ws₀ j x ch (so.going j x ch) (k.own j x) y m noted }
 
-  pub going_done : {recent ws last marks ws' grew : List ℕ} {left : ℕ} → GoingOn input first succ chain walked shape rule ws₀ ws last marks left → Kept input first succ chain walked shape rule ws₀ recent
-      → RoundRuns input walked shape rule first succ chain last recent ws ws' grew → any_marked grew 128 ≡ false
-      → (j : Job) → Seeded input first succ walked shape ws₀ j → Chained chain first succ → Solved (rule_of rule) j ws₀ ws' marks
-  going_done g k y m j x ch = done input first succ chain walked shape rule ws₀ j x ch (g.going j x ch) (k.own j x) y m
+  pub going_done : {recent ws last marks ws' grew : List ℕ} {left : ℕ} → GoingOn g ws₀ ws last marks left → Kept g ws₀ recent
+      → RoundRuns g last recent ws ws' grew → any_marked grew 128 ≡ false
+      → (j : Job) → Seeded g.graph.now g.shape ws₀ j → Linked g → Solved (rule_of g.rule) j ws₀ ws' marks
+  going_done so k y m j x ch = done g ws₀ j x ch (so.going j x ch) (k.own j x) y m
 
   -- the rounds do not run out
-  pub going_out : {ws last marks : List ℕ} {left : ℕ} → left ≡ 0 → GoingOn input first succ chain walked shape rule ws₀ ws last marks left
-      → (j : Job) → Seeded input first succ walked shape ws₀ j → Chained chain first succ → Solved (rule_of rule) j ws₀ ws marks
-  going_out e g j x ch = absurd (omega (arith, e, (g.going j x ch).less))
+  pub going_out : {ws last marks : List ℕ} {left : ℕ} → left ≡ 0 → GoingOn g ws₀ ws last marks left
+      → (j : Job) → Seeded g.graph.now g.shape ws₀ j → Linked g → Solved (rule_of g.rule) j ws₀ ws marks
+  going_out e so j x ch = absurd (omega (arith, e, (so.going j x ch).less))

@@ -12,41 +12,41 @@ use Rattle.nll_spec.specs.Output.{word_count, words_needed, bit}
 use Rattle.bit_set.specs.Bits.{has}
 use Rattle.bit_set.specs.Rows.{Says}
 use Rattle.record.specs.Layout.{Holds}
-use Rattle.record.specs.declared.Record.{Record}
 use Rattle.graph.specs.Tables.{Edges}
 use Rattle.graph.specs.Search.{WalkedIn}
+use Rattle.graph.specs.declared.tables.FuncGraph.{FuncGraph}
 use Rattle.infer.specs.Search.{rule_of}
 use Rattle.infer.specs.Ran.{Words, Given, Ran}
-use Rattle.infer.specs.declared.EndRule as declared
 use Rattle.infer.specs.declared.Shape.{Shape}
+use Rattle.infer.specs.declared.Setup.{Setup}
 use Rattle.absent_regions.specs.Absent.{row_bit}
 use Rattle.rerun.specs.Rerun.{setting_of, no_marks, walked_at, constraints_below, Known, Own}
 
 -- No region of a point's row is the inner one of a constraint of the point.
-pub record Sound (input : Record) (walked : List ℕ) (code : ℕ) (absent : List ℕ) : Type 0 where
-  pub none : (j : Job) → Known input walked code j → (p : Point) (c : Outlives) → p < code → Member c (walked_at j p) → has absent (row_bit p c.sub) ≡ true → ⊥
+pub record Sound (g : Setup) (absent : List ℕ) : Type 0 where
+  pub none : (j : Job) → Known g.graph.now g.shape.code j → (p : Point) (c : Outlives) → p < g.shape.code → Member c (walked_at j p) → has absent (row_bit p c.sub) ≡ true → ⊥
 
 -- The constraints of the first n points are run, from no marks on.
-pub record RunsBelow (input : Record) (walked : List ℕ) (shape : Shape) (rule : declared.EndRule) (first succ chain last ws ws' grew : List ℕ) (n : ℕ) : Type 0 where
-  pub ran : (j : Job) → Known input walked shape.code j → Given (setting_of (rule_of rule) j) shape rule first succ chain ws no_marks
-      → Ran (setting_of (rule_of rule) j) last (constraints_below j n) ws no_marks ws' grew
+pub record RunsBelow (g : Setup) (last ws ws' grew : List ℕ) (n : ℕ) : Type 0 where
+  pub ran : (j : Job) → Known g.graph.now g.shape.code j → Given (setting_of (rule_of g.rule) j) g ws no_marks
+      → Ran (setting_of (rule_of g.rule) j) last (constraints_below j n) ws no_marks ws' grew
 
 -- All constraints of a job are run, from no marks on, if those of `recent` are its own.
-pub record RoundRuns (input : Record) (walked : List ℕ) (shape : Shape) (rule : declared.EndRule) (first succ chain last recent ws ws' grew : List ℕ) : Type 0 where
-  pub ran : (j : Job) → Known input walked shape.code j → Own j recent → Given (setting_of (rule_of rule) j) shape rule first succ chain ws no_marks
-      → Ran (setting_of (rule_of rule) j) last (constraints_of j (graph_of j)) ws no_marks ws' grew
+pub record RoundRuns (g : Setup) (last recent ws ws' grew : List ℕ) : Type 0 where
+  pub ran : (j : Job) → Known g.graph.now g.shape.code j → Own j recent → Given (setting_of (rule_of g.rule) j) g ws no_marks
+      → Ran (setting_of (rule_of g.rule) j) last (constraints_of j (graph_of j)) ws no_marks ws' grew
 
 -- The first n regions have no mark.
 pub record Cleared (marks : List ℕ) (n : ℕ) : Type 0 where
   pub sized : length marks ≡ 128
   pub none : (r : RegionName) → r < n → get_or marks r 0 ≡ 0
 
--- What is handed in is that of an accepted job, and the words say the seeds.
-pub record Seeded (input : Record) (first succ walked : List ℕ) (shape : Shape) (ws : List ℕ) (j : Job) : Type 0 where
-  pub layout : Holds input j
+-- The graph is that of an accepted job, with its shape, and the words say the seeds.
+pub record Seeded (graph : FuncGraph) (shape : Shape) (ws : List ℕ) (j : Job) : Type 0 where
+  pub layout : Holds graph.input j
   pub accepted : refusal j ≡ 0
-  pub edges : Edges (graph_of j) first succ
-  pub reached : WalkedIn j walked
+  pub edges : Edges (graph_of j) graph.first graph.succ
+  pub reached : WalkedIn j graph.walked
   pub width : shape.width ≡ word_count (point_count j)
   pub code : shape.code ≡ (graph_of j).code
   pub points : shape.points ≡ point_count j

@@ -5,13 +5,11 @@ mod round;
 ghost use Rattle.std.specs.Prelude.{◌≡◌, false, ℕ, ◌≤◌, length};
 ghost use Rattle.nll_spec.specs.Syntax.{Job};
 ghost use Rattle.bit_set.specs.Bits.{has};
-ghost use Rattle.infer.specs.Search.{rule_of};
-ghost use Rattle.dfs.specs.Walk.{Chained};
+ghost use Rattle.infer.specs.Search.{rule_of, Linked};
 ghost use Rattle.regionck.specs.Rounds.{Cleared, Seeded, Solved};
 
 use graph::tables::FuncGraph;
 use infer::{EndRule, Setup, Shape};
-use record::Record;
 use rerun::keep;
 use rerun::marks::note;
 use round::{collect, round};
@@ -21,7 +19,6 @@ const ROUNDS: u32 = 131073;
 
 // Takes every mark away.
 fn clear(grown: &mut [u8; 128])
-    requires { length grown.old ≡ 128 }
     ensures { Cleared grown.new 128 }
 {
     for r in 0..128 {
@@ -33,9 +30,7 @@ fn clear(grown: &mut [u8; 128])
 // by which regions were marked; the rows of `absent` get regions that no constraint of a point has as its inner one; `before` is for the words before a round, and may be
 // shorter.
 fn solve(
-    input: &Record<'_>,
-    walked: &[u32; 32],
-    setup: &Setup,
+    setup: &Setup<'_>,
     words: &mut [u32],
     grown: &mut [u8; 128],
     list: &mut [u32],
@@ -43,19 +38,17 @@ fn solve(
     absent: &mut [u32],
     before: &mut [u32],
 )
-    requires { (length grown.old ≡ 128) × ((i : ℕ) → has absent.old i ≡ false) }
-    ensures { (length grown.new ≡ 128) × ((j : Job) → Seeded input.now setup.now.graph.now.first setup.now.graph.now.succ walked.now setup.now.shape words.old j
-        → Chained setup.now.chain.now setup.now.graph.now.first setup.now.graph.now.succ → Solved (rule_of setup.now.rule) j words.old words.new grown.new) }
+    requires { (i : ℕ) → has absent.old i ≡ false }
+    ensures { (j : Job) → Seeded setup.now.graph.now setup.now.shape words.old j → Linked setup.now
+        → Solved (rule_of setup.now.rule) j words.old words.new grown.new }
 {
     clear(grown);
     constraint_list::clear(recent);
-    let to = collect(input, walked, setup.shape.code, list);
+    let to = collect(setup, list);
     let mut last = [1; 128];
     for _ in 0..ROUNDS {
         keep(words, before);
-        last = round(
-            input, walked, setup, words, &last, recent, absent, before, list, to,
-        );
+        last = round(setup, words, &last, recent, absent, before, list, to);
         if !infer::any_marked(&last) {
             return;
         }
@@ -66,22 +59,19 @@ fn solve(
 // The same by tables of so many words each.
 #[inline(never)]
 fn with_tables<const LIST: usize, const RECENT: usize, const ABSENT: usize, const BEFORE: usize>(
-    input: &Record<'_>,
-    walked: &[u32; 32],
-    setup: &Setup,
+    setup: &Setup<'_>,
     words: &mut [u32],
     grown: &mut [u8; 128],
 )
-    requires { (length grown.old ≡ 128) × (LIST ≤ 4097) × (RECENT ≤ 4097) × (ABSENT ≤ 4096) × (BEFORE ≤ 4096) }
-    ensures { (length grown.new ≡ 128) × ((j : Job) → Seeded input.now setup.now.graph.now.first setup.now.graph.now.succ walked.now setup.now.shape words.old j → Chained setup.now.chain.now setup.now.graph.now.first setup.now.graph.now.succ → Solved (rule_of setup.now.rule) j words.old words.new grown.new) }
+    requires { (LIST ≤ 4097) × (RECENT ≤ 4097) × (ABSENT ≤ 4096) × (BEFORE ≤ 4096) }
+    ensures { (j : Job) → Seeded setup.now.graph.now setup.now.shape words.old j → Linked setup.now
+        → Solved (rule_of setup.now.rule) j words.old words.new grown.new }
 {
     let mut list = [0; LIST];
     let mut recent = [0; RECENT];
     let mut absent = [0; ABSENT];
     let mut before = [0; BEFORE];
     solve(
-        input,
-        walked,
         setup,
         words,
         grown,
@@ -94,17 +84,13 @@ fn with_tables<const LIST: usize, const RECENT: usize, const ABSENT: usize, cons
 
 // The words hold the regions' seeds before, and their least sets after. `grown` marks, by 1, the declared regions whose sets exceed their seeds.
 pub fn regionck(
-    input: &Record<'_>,
-    graph: &FuncGraph,
-    walked: &[u32; 32],
+    graph: &FuncGraph<'_>,
     shape: Shape,
     rule: EndRule,
     words: &mut [u32],
     grown: &mut [u8; 128],
 )
-    requires { (length grown.old ≡ 128) }
-    ensures { (length grown.new ≡ 128) × ((j : Job) → Seeded input.now graph.now.first graph.now.succ walked.now shape words.old j
-        → Solved (rule_of rule) j words.old words.new grown.new) }
+    ensures { (length grown.new ≡ 128) × ((j : Job) → Seeded graph.now shape words.old j → Solved (rule_of rule) j words.old words.new grown.new) }
 {
     let chain = dfs::chains(graph, shape.code);
     let setup = Setup {
@@ -114,10 +100,10 @@ pub fn regionck(
         rule,
     };
     if shape.code <= 32 {
-        with_tables::<393, 193, 128, 1>(input, walked, &setup, words, grown);
+        with_tables::<393, 193, 128, 1>(&setup, words, grown);
     } else if shape.code <= 128 {
-        with_tables::<1025, 513, 512, 1>(input, walked, &setup, words, grown);
+        with_tables::<1025, 513, 512, 1>(&setup, words, grown);
     } else {
-        with_tables::<4097, 4097, 4096, 4096>(input, walked, &setup, words, grown);
+        with_tables::<4097, 4097, 4096, 4096>(&setup, words, grown);
     }
 }

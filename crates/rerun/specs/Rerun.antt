@@ -9,22 +9,16 @@ use Rattle.nll_spec.specs.Constraints.{Outlives, constraints_at, constraints_of}
 use Rattle.nll_spec.specs.Regions.{EndRule}
 use Rattle.nll_spec.specs.Output.{word_count}
 use Rattle.record.specs.Layout.{Holds}
-use Rattle.record.specs.declared.Record.{Record}
 use Rattle.graph.specs.Search.{Marked, WalkedIn}
+use Rattle.graph.specs.declared.tables.FuncGraph.{FuncGraph}
 use Rattle.infer.specs.Search.{rule_of}
 use Rattle.infer.specs.Ran.{Setting, Given, AllNamed, Ran}
-use Rattle.infer.specs.declared.EndRule as declared
-use Rattle.infer.specs.declared.Shape.{Shape}
 use Rattle.infer.specs.declared.Setup.{Setup}
 use Rattle.constraint_list.specs.Listed.{constraints_in, Adds}
 
 -- what the constraints of a job are run in
 abbrev pub setting_of : EndRule → Job → Setting
 setting_of ends j = record { ends = ends; graph = graph_of j; regions = j.regions; width = word_count (point_count j) }
-
--- what is said of the tables of a setup
-abbrev pub under : {A : Type 1} → Setup → (Shape → declared.EndRule → List ℕ → List ℕ → List ℕ → A) → A
-under setup says = says setup.shape setup.rule setup.graph.now.first setup.graph.now.succ setup.chain.now
 
 -- the marks before a round
 abbrev pub no_marks : List ℕ
@@ -38,40 +32,40 @@ walked_at j p = cond (is_walked (graph_of j) p) (constraints_at j p (action_at (
 abbrev pub constraints_below : Job → ℕ → List Outlives
 constraints_below j n = gather (λ p. constraints_at j p (action_at (graph_of j) p)) (select (is_walked (graph_of j)) (below n))
 
--- What is handed in is that of an accepted job.
-pub record Known (input : Record) (walked : List ℕ) (code : ℕ) (j : Job) : Type 0 where
-  pub layout : Holds input j
+-- The graph is that of an accepted job, and `code` points are of its blocks.
+pub record Known (graph : FuncGraph) (code : ℕ) (j : Job) : Type 0 where
+  pub layout : Holds graph.input j
   pub accepted : refusal j ≡ 0
-  pub reached : WalkedIn j walked
+  pub reached : WalkedIn j graph.walked
   pub points : code ≡ (graph_of j).code
 
 -- The constraints of a point are added, if its block is walked.
-pub record PointAdds (input : Record) (walked : List ℕ) (p : Point) (ls ls' : List ℕ) : Type 0 where
-  pub adds : (j : Job) (code : ℕ) → Known input walked code j → p < code → Adds (walked_at j p) ls ls'
+pub record PointAdds (graph : FuncGraph) (p : Point) (ls ls' : List ℕ) : Type 0 where
+  pub adds : (j : Job) (code : ℕ) → Known graph code j → p < code → Adds (walked_at j p) ls ls'
 
 -- The list has the constraints of the points from `from` on and below `to`.
-pub record Holding (input : Record) (walked : List ℕ) (code : ℕ) (ls : List ℕ) (from to : Point) : Type 0 where
-  pub within : to ≤ code
-  pub holds : (j : Job) → Known input walked code j → constraints_below j from ++ constraints_in ls ≡ constraints_below j to
+pub record Holding (g : Setup) (ls : List ℕ) (from to : Point) : Type 0 where
+  pub within : to ≤ g.shape.code
+  pub holds : (j : Job) → Known g.graph.now g.shape.code j → constraints_below j from ++ constraints_in ls ≡ constraints_below j to
 
 -- Each constraint of the list is one of the job's.
 abbrev pub Own : Job → List ℕ → Type 0
 Own j ls = (c : Outlives) → Member c (constraints_in ls) → Member c (constraints_of j (graph_of j))
 
 -- The constraints of ls' are the job's if those of ls are.
-pub record OwnKept (input : Record) (walked : List ℕ) (code : ℕ) (ls ls' : List ℕ) : Type 0 where
-  pub kept : (j : Job) → Known input walked code j → Own j ls → Own j ls'
+pub record OwnKept (g : Setup) (ls ls' : List ℕ) : Type 0 where
+  pub kept : (j : Job) → Known g.graph.now g.shape.code j → Own j ls → Own j ls'
 
 -- The constraints cs are run again, any number of times: what was a run of constraints with cs among them, from no marks on, stays one.
-pub record RunsAgain (shape : Shape) (rule : declared.EndRule) (first succ chain : List ℕ) (cs : List Outlives) (ws grew ws' grew' : List ℕ) : Type 0 where
-  pub ran : (s : Setting) (last : List ℕ) (ds : List Outlives) (ws₀ : List ℕ) → Given s shape rule first succ chain ws₀ no_marks → AllNamed s ds
+pub record RunsAgain (g : Setup) (cs : List Outlives) (ws grew ws' grew' : List ℕ) : Type 0 where
+  pub ran : (s : Setting) (last : List ℕ) (ds : List Outlives) (ws₀ : List ℕ) → Given s g ws₀ no_marks → AllNamed s ds
       → ((c : Outlives) → Member c cs → Member c ds) → Ran s last ds ws₀ no_marks ws grew → Ran s last ds ws₀ no_marks ws' grew'
 
 -- More of the job's constraints are run, if those of `recent` are its own: what was a run of all of them, from no marks on, stays one. What comes to `recent` is the job's too.
-pub record RunsMore (input : Record) (walked : List ℕ) (shape : Shape) (rule : declared.EndRule) (first succ chain recent ws grew recent' ws' grew' : List ℕ) : Type 0 where
-  pub ran : (j : Job) → Known input walked shape.code j → Own j recent → (last ws₀ : List ℕ) → Given (setting_of (rule_of rule) j) shape rule first succ chain ws₀ no_marks
-      → Ran (setting_of (rule_of rule) j) last (constraints_of j (graph_of j)) ws₀ no_marks ws grew → Ran (setting_of (rule_of rule) j) last (constraints_of j (graph_of j)) ws₀ no_marks ws' grew'
-  pub own : OwnKept input walked shape.code recent recent'
+pub record RunsMore (g : Setup) (recent ws grew recent' ws' grew' : List ℕ) : Type 0 where
+  pub ran : (j : Job) → Known g.graph.now g.shape.code j → Own j recent → (last ws₀ : List ℕ) → Given (setting_of (rule_of g.rule) j) g ws₀ no_marks
+      → Ran (setting_of (rule_of g.rule) j) last (constraints_of j (graph_of j)) ws₀ no_marks ws grew → Ran (setting_of (rule_of g.rule) j) last (constraints_of j (graph_of j)) ws₀ no_marks ws' grew'
+  pub own : OwnKept g recent recent'
 
 -- The marks `grown` with 1 at each of the first n regions that `grew` marks.
 pub record Noted (grew grown grown' : List ℕ) (n : ℕ) : Type 0 where

@@ -7,28 +7,26 @@ ghost use Rattle.std.specs.Prelude.{◌≡◌, [], ◌<◌, ◌≤◌, length};
 ghost use Rattle.nll_spec.specs.Syntax.{Point};
 ghost use Rattle.constraint_list.specs.Listed.{constraints_in, Draws};
 ghost use Rattle.infer.specs.Ran.{Runs};
-ghost use Rattle.rerun.specs.Rerun.{under, no_marks, Noted, Holding, RunsAgain, RunsMore, Keeps};
+ghost use Rattle.rerun.specs.Rerun.{no_marks, Noted, Holding, RunsAgain, RunsMore, Keeps};
 
 use infer::Setup;
 use marks::note;
 use point::point;
-use record::Record;
 
 // How often constraints are run again, and how many turns there are, at most, before a round of all is due.
 const TIMES: u32 = 65536;
 
 // Runs the constraints of the list once, those whose inner set has a mark in `last` or gets one. The answer marks, by 1, the regions whose sets grew, and so does `grew`.
 fn rerun(
-    setup: &Setup,
+    setup: &Setup<'_>,
     words: &mut [u32],
     last: &[u8; 128],
     grew: &mut [u8; 128],
     recent: &mut [u32],
     list: &[u32],
 ) -> [u8; 128]
-    ensures { under setup.now Runs last.now (constraints_in list.now)
-        words.old no_marks words.new result
-        × (length grew.old ≡ 128 → Noted result grew.old grew.new 128)
+    ensures { Runs setup.now last.now (constraints_in list.now) words.old no_marks words.new result
+        × Noted result grew.old grew.new 128
         × Draws (constraints_in list.now) recent.old recent.new }
 {
     let mut next = [0; 128];
@@ -40,14 +38,13 @@ fn rerun(
 // Runs the constraints of the list until by them no set grows, at most TIMES times; at first those whose inner set has a mark in `fresh`. Marks, by 1, the regions whose
 // sets grew, in `fresh` and in `grew`.
 fn settle(
-    setup: &Setup,
+    setup: &Setup<'_>,
     words: &mut [u32],
     fresh: &mut [u8; 128],
     grew: &mut [u8; 128],
     list: &[u32],
 )
-    ensures { under setup.now RunsAgain (constraints_in list.now)
-        words.old grew.old words.new grew.new }
+    ensures { RunsAgain setup.now (constraints_in list.now) words.old grew.old words.new grew.new }
 {
     let mut none = [0; 1];
     let mut last = [0; 128];
@@ -126,9 +123,7 @@ fn leading(words: &[u32], before: &mut [u32], width: usize, marks: &[u8; 128]) -
 // If p is among the points `near`, and a region with a mark may be the inner one of a constraint of it, by its row of `absent`, runs its constraints once, those whose inner set has
 // a mark in `last` or gets one. Marks, by 1, the regions whose sets grew, in `fresh` and in `grew`.
 fn revisit(
-    input: &Record<'_>,
-    walked: &[u32; 32],
-    setup: &Setup,
+    setup: &Setup<'_>,
     words: &mut [u32],
     last: &[u8; 128],
     fresh: &mut [u8; 128],
@@ -139,8 +134,7 @@ fn revisit(
     p: usize,
 )
     requires { p < setup.now.shape.code }
-    ensures { under setup.now (RunsMore input.now walked.now)
-        recent.old words.old grew.old recent.new words.new grew.new }
+    ensures { RunsMore setup.now recent.old words.old grew.old recent.new words.new grew.new }
 {
     if !bit_set::test(near, 0, p) {
         return;
@@ -150,16 +144,14 @@ fn revisit(
         return;
     }
     let mut list = [0; 265];
-    point(input, walked, p, &mut list);
+    point(setup.graph, p, &mut list);
     let next = rerun(setup, words, last, grew, recent, &list);
     note(&next, fresh);
 }
 
 // The same for each point.
 fn revisit_near(
-    input: &Record<'_>,
-    walked: &[u32; 32],
-    setup: &Setup,
+    setup: &Setup<'_>,
     words: &mut [u32],
     last: &[u8; 128],
     fresh: &mut [u8; 128],
@@ -168,22 +160,17 @@ fn revisit_near(
     near: &[u32; 32],
     absent: &[u32],
 )
-    ensures { under setup.now (RunsMore input.now walked.now)
-        recent.old words.old grew.old recent.new words.new grew.new }
+    ensures { RunsMore setup.now recent.old words.old grew.old recent.new words.new grew.new }
 {
     for p in 0..setup.shape.code {
-        revisit(
-            input, walked, setup, words, last, fresh, grew, recent, near, absent, p,
-        );
+        revisit(setup, words, last, fresh, grew, recent, near, absent, p);
     }
 }
 
 // Runs the constraints of the list once, then those of the points that lead to what is new since `before`, which gets the words: those whose inner set has a mark in `last` or gets one.
 // The answer marks, by 1, the regions whose sets grew, and so does `grew`. The list has the constraints of the first points.
 fn turn(
-    input: &Record<'_>,
-    walked: &[u32; 32],
-    setup: &Setup,
+    setup: &Setup<'_>,
     words: &mut [u32],
     last: &[u8; 128],
     grew: &mut [u8; 128],
@@ -192,24 +179,19 @@ fn turn(
     absent: &[u32],
     list: &[u32],
 ) -> [u8; 128]
-    ensures { (to : Point) → Holding input.now walked.now setup.now.shape.code list.now 0 to
-        → under setup.now (RunsMore input.now walked.now)
-        recent.old words.old grew.old recent.new words.new grew.new }
+    ensures { (to : Point) → Holding setup.now list.now 0 to
+        → RunsMore setup.now recent.old words.old grew.old recent.new words.new grew.new }
 {
     let near = leading(words, before, setup.shape.width, last);
     make_room(recent);
     let mut fresh = rerun(setup, words, last, grew, recent, list);
-    revisit_near(
-        input, walked, setup, words, last, &mut fresh, grew, recent, &near, absent,
-    );
+    revisit_near(setup, words, last, &mut fresh, grew, recent, &near, absent);
     fresh
 }
 
 // The same, each time with the constraints of `recent` after it, until no set grows, at most TIMES times, by the marks `marks` at first.
 fn turns(
-    input: &Record<'_>,
-    walked: &[u32; 32],
-    setup: &Setup,
+    setup: &Setup<'_>,
     words: &mut [u32],
     marks: [u8; 128],
     grew: &mut [u8; 128],
@@ -218,18 +200,15 @@ fn turns(
     absent: &[u32],
     list: &[u32],
 )
-    ensures { (to : Point) → Holding input.now walked.now setup.now.shape.code list.now 0 to
-        → under setup.now (RunsMore input.now walked.now)
-        recent.old words.old grew.old recent.new words.new grew.new }
+    ensures { (to : Point) → Holding setup.now list.now 0 to
+        → RunsMore setup.now recent.old words.old grew.old recent.new words.new grew.new }
 {
     let mut last = marks;
     for _ in 0..TIMES {
         if !infer::any_marked(&last) {
             return;
         }
-        last = turn(
-            input, walked, setup, words, &last, grew, recent, before, absent, list,
-        );
+        last = turn(setup, words, &last, grew, recent, before, absent, list);
         settle(setup, words, &mut last, grew, recent);
     }
 }
@@ -237,9 +216,7 @@ fn turns(
 // Runs the constraints of `recent` until by them no set grows. If there are points from `to` on, runs those of the list and of points that lead to what is new again too: `before` has
 // words as they were. `grew` marks, by 1, the regions whose sets grew. The list has the constraints of the points before `to`.
 pub fn repeat(
-    input: &Record<'_>,
-    walked: &[u32; 32],
-    setup: &Setup,
+    setup: &Setup<'_>,
     words: &mut [u32],
     grew: &mut [u8; 128],
     recent: &mut [u32],
@@ -248,9 +225,8 @@ pub fn repeat(
     list: &[u32],
     to: usize,
 )
-    ensures { Holding input.now walked.now setup.now.shape.code list.now 0 to
-        → under setup.now (RunsMore input.now walked.now)
-        recent.old words.old grew.old recent.new words.new grew.new }
+    ensures { Holding setup.now list.now 0 to
+        → RunsMore setup.now recent.old words.old grew.old recent.new words.new grew.new }
 {
     let mut last = [0; 128];
     note(grew, &mut last);
@@ -258,7 +234,5 @@ pub fn repeat(
     if setup.shape.code <= to {
         return;
     }
-    turns(
-        input, walked, setup, words, last, grew, recent, before, absent, list,
-    );
+    turns(setup, words, last, grew, recent, before, absent, list);
 }

@@ -1,5 +1,5 @@
 // Marks of regions that grew.
-ghost use Rattle.std.specs.Prelude.{◌≡◌, cond, length, eqb};
+ghost use Rattle.std.specs.Prelude.{◌≡◌, cond, eqb};
 ghost use Rattle.rerun.specs.Rerun.{Noted};
 
 // A region's mark in grown, with that of a round.
@@ -14,7 +14,7 @@ fn marked(grew: u8, grown: u8) -> u8
 
 // Marks in grown, by 1, each region that grew.
 pub fn note(grew: &[u8; 128], grown: &mut [u8; 128])
-    ensures { length grown.old ≡ 128 → Noted grew.now grown.old grown.new 128 }
+    ensures { Noted grew.now grown.old grown.new 128 }
 {
     for r in 0..128 {
         grown[r] = marked(grew[r], grown[r]);

@@ -8,4 +8,4 @@ use Rattle.regionck.proofs.SolvedLaws.{GoingOn, Kept}
 use Rattle.regionck.proofs.solve.Given as goal
 
 abbrev pub invariant-loop : goal.invariant-loop
-invariant-loop l = (length l.words ≡ length l.initial.words) × (length l.grown ≡ 128) × (length l.recent ≡ length l.initial.recent) × (length l.absent ≡ length l.initial.absent) × (length l.before ≡ length l.initial.before) × Sound l.input l.walked l.setup.shape.code l.absent × Kept l.input l.setup.graph.now.first l.setup.graph.now.succ l.setup.chain.now l.walked l.setup.shape l.setup.rule l.initial.words l.recent × GoingOn l.input l.setup.graph.now.first l.setup.graph.now.succ l.setup.chain.now l.walked l.setup.shape l.setup.rule l.initial.words l.words l.last l.grown (131073 - l.counter)
+invariant-loop l = (length l.words ≡ length l.initial.words) × (length l.recent ≡ length l.initial.recent) × (length l.absent ≡ length l.initial.absent) × (length l.before ≡ length l.initial.before) × Sound l.setup l.absent × Kept l.setup l.initial.words l.recent × GoingOn l.setup l.initial.words l.words l.last l.grown (131073 - l.counter)

@@ -3,4 +3,4 @@ use Rattle.bit_set.proofs.BitLaws.{has-zeros}
 use Rattle.regionck.proofs.with_tables.Goals as goal
 
 pub solve-requires : goal.solve-requires
-solve-requires g c = (c.requires.0, has-zeros g.row.ABSENT)
+solve-requires g c = has-zeros g.row.ABSENT

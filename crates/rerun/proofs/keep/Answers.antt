@@ -1,7 +1,7 @@
 -- `rerun::keep`. The loop's invariant: the first i words are kept. Assumes nothing.
 use native.Mathlib.Omega.{arith}
 use Rattle.rerun.proofs.KeepLaws.{keeps-none, keeps-more, keeps-all}
-use borrow.Author.Rules.{rules}
+use Rattle.std.proofs.Common.{rules}
 use Rattle.rerun.proofs.keep.Goals as goal
 
 pub loop-i-init : goal.loop-i-init

@@ -1,6 +1,6 @@
 -- `rerun::revisit_near`. The loop's invariant: more of the job's constraints are run. Assumes nothing.
 use Rattle.rerun.proofs.RerunLaws.{more-none, more_then}
-use borrow.Author.Rules.{rules}
+use Rattle.std.proofs.Common.{rules}
 use Rattle.rerun.proofs.revisit_near.Goals as goal
 
 pub loop-p-init : goal.loop-p-init

@@ -5,4 +5,4 @@ use Rattle.rerun.specs.Rerun.{RunsMore}
 use Rattle.rerun.proofs.revisit_near.Given as goal
 
 abbrev pub invariant-loop-p : goal.invariant-loop-p
-invariant-loop-p l = (length l.words ≡ length l.initial.words) × (length l.recent ≡ length l.initial.recent) × RunsMore l.input l.walked l.setup.shape l.setup.rule l.setup.graph.now.first l.setup.graph.now.succ l.setup.chain.now l.initial.recent l.initial.words l.initial.grew l.recent l.words l.grew
+invariant-loop-p l = (length l.words ≡ length l.initial.words) × (length l.recent ≡ length l.initial.recent) × RunsMore l.setup l.initial.recent l.initial.words l.initial.grew l.recent l.words l.grew

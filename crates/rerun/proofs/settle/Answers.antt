@@ -1,6 +1,6 @@
 -- `rerun::settle`. The loop's invariant: the constraints of the list were run more often. Assumes nothing.
 use Rattle.rerun.proofs.RerunLaws.{again_none, again_more}
-use borrow.Author.Rules.{rules}
+use Rattle.std.proofs.Common.{rules}
 use Rattle.rerun.proofs.settle.Goals as goal
 
 pub loop-init : goal.loop-init

@@ -6,4 +6,4 @@ use Rattle.rerun.specs.Rerun.{RunsAgain}
 use Rattle.rerun.proofs.settle.Given as goal
 
 abbrev pub invariant-loop : goal.invariant-loop
-invariant-loop l = (length l.words ≡ length l.initial.words) × (length l.none ≡ 1) × RunsAgain l.setup.shape l.setup.rule l.setup.graph.now.first l.setup.graph.now.succ l.setup.chain.now (constraints_in l.list) l.initial.words l.initial.grew l.words l.grew
+invariant-loop l = (length l.words ≡ length l.initial.words) × (length l.none ≡ 1) × RunsAgain l.setup (constraints_in l.list) l.initial.words l.initial.grew l.words l.grew

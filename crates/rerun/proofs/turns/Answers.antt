@@ -1,6 +1,6 @@
 -- `rerun::turns`. The loop's invariant: more of the job's constraints are run. Assumes nothing.
 use Rattle.rerun.proofs.RerunLaws.{more-none, more_recent, more_then}
-use borrow.Author.Rules.{rules}
+use Rattle.std.proofs.Common.{rules}
 use Rattle.rerun.proofs.turns.Goals as goal
 
 pub loop-init : goal.loop-init

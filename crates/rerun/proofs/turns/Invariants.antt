@@ -6,4 +6,4 @@ use Rattle.rerun.specs.Rerun.{Holding, RunsMore}
 use Rattle.rerun.proofs.turns.Given as goal
 
 abbrev pub invariant-loop : goal.invariant-loop
-invariant-loop l = (length l.words ≡ length l.initial.words) × (length l.recent ≡ length l.initial.recent) × (length l.before ≡ length l.initial.before) × ((to : Point) → Holding l.input l.walked l.setup.shape.code l.list 0 to → RunsMore l.input l.walked l.setup.shape l.setup.rule l.setup.graph.now.first l.setup.graph.now.succ l.setup.chain.now l.initial.recent l.initial.words l.initial.grew l.recent l.words l.grew)
+invariant-loop l = (length l.words ≡ length l.initial.words) × (length l.recent ≡ length l.initial.recent) × (length l.before ≡ length l.initial.before) × ((to : Point) → Holding l.setup l.list 0 to → RunsMore l.setup l.initial.recent l.initial.words l.initial.grew l.recent l.words l.grew)

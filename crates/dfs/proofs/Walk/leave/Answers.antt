@@ -1,6 +1,6 @@
 -- `dfs::Walk::leave`: a return for each case of `left`. The loop's invariant: the points so far are visited. Assumes nothing.
 use native.Mathlib.Omega.{arith}
-use borrow.Author.Rules.{rules}
+use Rattle.std.proofs.Common.{rules}
 use Rattle.graph.specs.Search.{state_of}
 use Rattle.dfs.specs.Walk.{in_code}
 use Rattle.dfs.proofs.SearchLaws.{left-linked, left-row, nexted_none, nexted_more, nexted_all, code-small}

@@ -2,7 +2,7 @@
 use native.Mathlib.Omega.{arith}
 use Rattle.constraint_list.proofs.ListLaws.{draws_none}
 use Rattle.infer.proofs.RunLaws.{first_runs, next_runs, all_run, next_drawn, all-drawn}
-use borrow.Author.Rules.{rules}
+use Rattle.std.proofs.Common.{rules}
 use Rattle.infer.proofs.Setup.run.Goals as goal
 
 pub loop-i-init : goal.loop-i-init

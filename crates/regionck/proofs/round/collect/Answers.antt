@@ -2,7 +2,7 @@
 use mathlib.Core.Path.{◌≡◌}
 use native.Mathlib.Omega.{arith}
 use Rattle.rerun.proofs.PointLaws.{held_none, held_more}
-use borrow.Author.Rules.{rules}
+use Rattle.std.proofs.Common.{rules}
 use Rattle.regionck.proofs.round.collect.Goals as goal
 
 pub loop-p-init : goal.loop-p-init
@@ -15,4 +15,4 @@ pub loop-p-preserved : goal.loop-p-preserved
 loop-p-preserved c = (search rules, held_more c.point.ensures c.loop-p.invariant.1 (omega arith) (omega arith))
 
 pub returns : goal.returns
-returns c = let e : c.loop-p.p ≡ c.args.code = omega arith in rw e at c.loop-p.invariant.1
+returns c = let e : c.loop-p.p ≡ c.args.setup.now.shape.code = omega arith in rw e at c.loop-p.invariant.1

@@ -5,4 +5,4 @@ use Rattle.rerun.specs.Rerun.{Holding}
 use Rattle.regionck.proofs.round.collect.Given as goal
 
 abbrev pub invariant-loop-p : goal.invariant-loop-p
-invariant-loop-p l = (length l.list ≡ length l.initial.list) × Holding l.input l.walked l.code l.list 0 l.p
+invariant-loop-p l = (length l.list ≡ length l.initial.list) × Holding l.setup l.list 0 l.p

@@ -2,7 +2,7 @@
 use native.Mathlib.Omega.{arith}
 use Rattle.rerun.proofs.RerunLaws.{own_same, own_then}
 use Rattle.regionck.proofs.RoundLaws.{below_code}
-use borrow.Author.Rules.{rules}
+use Rattle.std.proofs.Common.{rules}
 use Rattle.regionck.proofs.round.rest.Goals as goal
 
 pub loop-p-init : goal.loop-p-init
