@@ -2,12 +2,12 @@
 use mathlib.Core.Path.{◌≡◌, refl, sym, ap, ◌∙◌}
 use mathlib.Core.Bool.{Bool, true, false, cond}
 use mathlib.Core.List.{List, [], ◌∷◌, ◌++◌, append_assoc, append-nil}
-use Prim.Native.Nat.{ℕ, zero, suc, ◌+◌, ◌-◌, ◌≤◌, ◌<◌}
+use Prim.Native.Nat.{ℕ, zero, suc, ◌+◌, ◌-◌, ◌≤◌, ◌<◌, min}
 use native.Mathlib.Omega.{arith}
 use native.Mathlib.Nat.{add-zero}
 use native.Mathlib.Decide.{dec_lt}
-use lib.ListN.{length, set, length-append, get_or-append}
-use lib.Seq.{get_or_at, get_or-set_same, get_or-set_other}
+use lib.ListN.{length, take, set, length-append, get_or-append}
+use lib.Seq.{get_or-take, get_or_at, get_or-set_same, get_or-set_other}
 use Rattle.nll_spec.specs.Lists.{gather, select, count_from}
 use Rattle.nll_spec.specs.Syntax.{Point, Job}
 use Rattle.nll_spec.specs.Graph.{Graph, action_at, is_walked}
@@ -16,6 +16,7 @@ use Rattle.nll_spec.specs.Loans.{loan_at, loan_number}
 use Rattle.env.specs.Prefixes.{ShortestOf}
 use Rattle.loans.specs.Loans.{no_loan, nth_loan, loan_of, loans_below, Listed}
 use Rattle.loans.specs.declared.Loan.{Loan}
+use Rattle.loans.specs.declared.LoanTable.{LoanTable}
 
 -- ---- Lists one after the other
 
@@ -85,3 +86,8 @@ listed_more {s} {j} {xs} {t} {n} {y} w x l e z =
     short-of : (i : ℕ) → i < n + 1 → Dec (i < n) → ShortestOf j (loan_number (xs ++ (y ∷ [])) i).path (nth_loan (set t n x) i).shortest
     short-of i h (yes l) = rw (old i l, kept i l) (w.shortest i l)
     short-of i h (no l) = let k : i ≡ n = omega arith in rw (k, new n refl, put) z
+
+-- ---- The loans that a table gives
+
+pub lent_at : (table : LoanTable) {lent : List Loan} → (lent ≡ take table.count table.loans) × (length lent ≡ min table.count 128) → (i : ℕ) → i < length lent → nth_loan lent i ≡ nth_loan table.loans i
+lent_at table e i l = ap (λ xs. nth_loan xs i) e.0 ∙ get_or-take table.count table.loans i no_loan (omega (arith, e.1))

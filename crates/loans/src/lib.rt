@@ -1,6 +1,6 @@
 #![tactic(auto)]
 // The loans of a job, the borrows of its walked blocks in record order, in a lent table.
-ghost use Rattle.std.specs.Prelude.{◌≡◌, ◌<◌, ◌≤◌, length, take, T};
+ghost use Rattle.std.specs.Prelude.{◌≡◌, ◌<◌, ◌≤◌, min, length, take, T};
 ghost use Rattle.nll_spec.specs.Syntax.{Job};
 ghost use Rattle.nll_spec.specs.WellFormed.{named, paths_fit};
 ghost use Rattle.nll_spec.specs.Graph.{graph_of};
@@ -60,7 +60,7 @@ impl LoanTable {
 
     // The loans that there are.
     pub fn lent(&self) -> &[Loan]
-        ensures { result.now ≡ take self.now.count self.now.loans }
+        ensures { (result.now ≡ take self.now.count self.now.loans) × (length result.now ≡ min self.now.count 128) }
     {
         &self.loans[..self.count.min(128)]
     }

@@ -22,8 +22,7 @@ use Rattle.repr.specs.declared.Path.{Path}
 use Rattle.record.specs.Layout.{Holds}
 use Rattle.std.specs.Prelude.{Option, None}
 use Rattle.flow.specs.Flows.{bit_at}
-use Rattle.loans.specs.Loans.{loan_of}
-use Rattle.loans.specs.Table.{entry_of}
+use Rattle.loans.specs.Loans.{nth_loan, loan_of}
 use Rattle.loans.specs.declared.Loan.{Loan}
 use Rattle.loans_in_scope.specs.Gains.{Gains, tables, Empty, Cell, If, Below, Within, Onto}
 use Rattle.loans_in_scope.specs.Scope.{paths_of, killed, inside_of, loan_in, given_to, RegionsTo, starts, keeps, KeptOf, Begun, Kept, PointsFilled, job_bits}
@@ -37,7 +36,7 @@ module _ (v : Setup) (region : List ℕ) (ds : List syntax.Path) (p i : ℕ) {b 
   pub keep_not : b ≡ false → kept ≡ b → (j : Job) → kept ≡ keeps j v region ds p i
   keep_not n k j = k ∙ n ∙ sym (ap (λ (c : Bool). c && not (killed j ds (loan_in v i))) (sym e ∙ n))
 
-  pub keep_yes : {x : Loan} {dead : Bool} → b ≡ true → x ≡ entry_of v.loans.now.numbers i → ((j : Job) → dead ≡ killed j ds (loan_of v.input.now.bytes.now x)) → kept ≡ not dead
+  pub keep_yes : {x : Loan} {dead : Bool} → b ≡ true → x ≡ nth_loan v.loans.now.loans i → ((j : Job) → dead ≡ killed j ds (loan_of v.input.now.bytes.now x)) → kept ≡ not dead
       → (j : Job) → kept ≡ keeps j v region ds p i
   keep_yes y is kill k j =
       k ∙ ap not (kill j ∙ ap (λ (z : Loan). killed j ds (loan_of v.input.now.bytes.now z)) is)

@@ -37,8 +37,7 @@ use Rattle.std.specs.Prelude.{Option, Some, None, Result, Ok, Err}
 use Rattle.record.specs.Access.{Acts}
 use Rattle.record.specs.Layout.{Holds}
 use Rattle.repr.proofs.SpellLaws.{done_back, then}
-use Rattle.loans.specs.Loans.{loan_of}
-use Rattle.loans.specs.Table.{entry_of}
+use Rattle.loans.specs.Loans.{nth_loan, loan_of}
 use Rattle.loans.specs.declared.Loan.{Loan}
 use Rattle.loans_in_scope.specs.Gains.{Gains, Cell, If, Column, WordTo}
 use Rattle.loans_in_scope.specs.Scope.{overwritten_by, paths_of, killed, inside_of, loan_in, given_to, RegionTo, RegionsTo, starts, Begins, Begun}
@@ -208,7 +207,7 @@ module _ (v : Setup) {ws : List ℕ} where
   pub begun_none : Begun v 0 ws ws
   begun_none = record { bits = λ j o m. columns_none _ ws v.code }
 
-  pub begun_more : {a b : List ℕ} (i : ℕ) {x : Loan} → x ≡ entry_of v.loans.now.numbers i → Begun v i ws a → Begins v x i a b → Begun v (i + 1) ws b
+  pub begun_more : {a b : List ℕ} (i : ℕ) {x : Loan} → x ≡ nth_loan v.loans.now.loans i → Begun v i ws a → Begins v x i a b → Begun v (i + 1) ws b
   begun_more i {x} e a b = record {
     bits = λ j o m.
         columns_more (λ p k. starts j (overwritten (action_at (graph_of j) p)) (loan_in v k) p) ws v.code i (a.bits j o m)
@@ -218,7 +217,7 @@ module _ (v : Setup) {ws : List ℕ} where
   pub regions-none : Gains (RegionsTo v 0) ws ws
   regions-none = columns_none _ ws v.code
 
-  pub regions-more : {a b : List ℕ} (i : ℕ) {x : Loan} → x ≡ entry_of v.loans.now.numbers i → Gains (RegionsTo v i) ws a → Gains (RegionTo v x.region.0 i) a b → Gains (RegionsTo v (i + 1)) ws b
+  pub regions-more : {a b : List ℕ} (i : ℕ) {x : Loan} → x ≡ nth_loan v.loans.now.loans i → Gains (RegionsTo v i) ws a → Gains (RegionTo v x.region.0 i) a b → Gains (RegionsTo v (i + 1)) ws b
   regions-more i {x} e a b =
       columns_more (λ p k. inside_of v.words.now v.width (loan_in v k).region p) ws v.code i a
       (on_as {g = λ p k. inside_of v.words.now v.width (loan_in v k).region p} b (λ p k w. w) (λ p k w. w) (λ p k w. rw (w.1, e)))

@@ -21,6 +21,7 @@ use Rattle.bit_set.proofs.BitLaws.{has-zeros}
 use Rattle.bit_set.proofs.RunLaws.{and_true_left, and_true_right}
 use Rattle.bit_set.proofs.SetLaws.{has-cleared}
 use Rattle.record.specs.declared.Record.{Record}
+use Rattle.loans.specs.declared.Loan.{Loan}
 use Rattle.graph.specs.Tables.{Edges}
 use Rattle.flow.specs.Flows.{bit_at, FlowSays}
 use Rattle.flow.specs.declared.Direction.TheVariants.{Forward}
@@ -50,12 +51,12 @@ killed-is : (j : Job) (p : Point) (loan : loans.Loan) → kills j (action_at (gr
 unfolding kills
 killed-is j p loan = refl
 
-module _ {input : Record} {first succ words : List ℕ} {width : ℕ} {table : List ℕ} {count : ℕ} where
-  pub says_none : {scope : List ℕ} → ((j : Job) (sets : Table) → Given input words width table count j sets → ⊥) → ScopeSays input first succ words width table count scope
+module _ {input : Record} {first succ words : List ℕ} {width : ℕ} {lent : List Loan} {count : ℕ} where
+  pub says_none : {scope : List ℕ} → ((j : Job) (sets : Table) → Given input words width lent count j sets → ⊥) → ScopeSays input first succ words width lent count scope
   says_none n = record { bits = λ j sets g e p i l m. absurd (n j sets g) }
 
   -- no loan, so that nothing is said of the words
-  pub says_empty : {scope : List ℕ} → count ≡ 0 → ScopeSays input first succ words width table count scope
+  pub says_empty : {scope : List ℕ} → count ≡ 0 → ScopeSays input first succ words width lent count scope
   says_empty n = record { bits = λ j sets g e p i l m. absurd (omega arith) }
 
 module _ {v : Setup} (is_code : v.code ≡ v.input.now.head.code) {blank : Tables} {start pass region leaves none u scope : List ℕ} (blanks : Empty blank) (filled : PointsFilled v blank (tables start pass region))
