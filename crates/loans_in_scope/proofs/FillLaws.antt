@@ -5,7 +5,6 @@ use mathlib.Core.Bool.{Bool, true, false, not, ◌&&◌, true≢false}
 use mathlib.Core.List.{List}
 use Prim.Native.Nat.{ℕ, ◌+◌, ◌*◌, ◌≤◌, ◌<◌}
 use native.Mathlib.Omega.{arith}
-use native.Mathlib.Decide.{dec_lt}
 use borrow.Author.Tests.{not-true}
 use Rattle.nll_spec.specs.Fixpoint.{Table}
 use Rattle.nll_spec.specs.Syntax as syntax
@@ -20,14 +19,14 @@ use Rattle.bit_set.proofs.RunLaws.{and_true_left}
 use Rattle.bit_slice.specs.Some.{SomeSet}
 use Rattle.repr.specs.declared.Path.{Path}
 use Rattle.record.specs.Layout.{Holds}
-use Rattle.std.specs.Prelude.{Option, None}
+use Rattle.std.specs.Prelude.{Option}
 use Rattle.flow.specs.Flows.{bit_at}
 use Rattle.loans.specs.Loans.{nth_loan, loan_of}
 use Rattle.loans.specs.declared.Loan.{Loan}
-use Rattle.loans_in_scope.specs.Gains.{Gains, tables, Empty, Cell, If, Below, Within, Onto}
+use Rattle.loans_in_scope.specs.Gains.{Gains, tables, Empty, Cell, If, Below, Within}
 use Rattle.loans_in_scope.specs.Scope.{paths_of, killed, inside_of, loan_in, given_to, RegionsTo, starts, keeps, KeptOf, Begun, Kept, PointsFilled, job_bits}
 use Rattle.loans_in_scope.specs.declared.Setup.{Setup}
-use Rattle.loans_in_scope.proofs.GainsLaws.{gains_none, gains_few, on_as, cells_none, cells_more, points_none, points-more, filled-has}
+use Rattle.loans_in_scope.proofs.GainsLaws.{gains_none, on_as, cells_more, points-more, filled-has}
 use Rattle.loans_in_scope.proofs.LoanLaws.{inside_is}
 
 -- ---- One loan
@@ -45,9 +44,6 @@ module _ (v : Setup) (region : List ℕ) (ds : List syntax.Path) (p i : ℕ) {b 
 -- ---- Each loan
 
 module _ (v : Setup) (region : List ℕ) (ds : List syntax.Path) (p : ℕ) {ws : List ℕ} where
-  pub each_none : (j : Job) → Gains (KeptOf j v region ds p 0) ws ws
-  each_none j = cells_none (keeps j v region ds) ws p
-
   pub each_more : {a b : List ℕ} (i : ℕ) {kept : Bool} → ((j : Job) → Gains (KeptOf j v region ds p i) ws a) → ((j : Job) → kept ≡ keeps j v region ds p i) → Gains (If (Cell p i) kept) a b
       → (j : Job) → Gains (KeptOf j v region ds p (i + 1)) ws b
   each_more i a e b j =
@@ -65,22 +61,6 @@ module _ (v : Setup) (region : List ℕ) (p : Point) {ws : List ℕ} where
     pub kept_each : {ws' : List ℕ} → ((j : Job) → Gains (KeptOf j v region (paths_of v.input.now.bytes.now d) p v.loans.now.count) ws ws') → Kept v region p ws ws'
     kept_each {ws'} a = record { bits = λ j o m. subst (λ (ds : List syntax.Path). Gains (KeptOf j v region ds p v.loans.now.count) ws ws') (over j o m) (a j) }
 
-    -- nothing is overwritten, so that no loan is killed
-    pub kept_row : {ws' : List ℕ} → d ≡ None → Within v.loans.now.count region → Gains (Onto region (p + 1) p p) ws ws' → Kept v region p ws ws'
-    kept_row {ws'} e w a = kept_each (λ j. gains_few a (λ q i l x. ((x.1, few i l x.2 (dec_lt i v.loans.now.count)), same j q i x.1 ∙ x.2)) (λ q i l x. (omega arith, x.0.0, sym (same j q i x.0.0) ∙ x.1)))
-      where
-        and_yes : (b : Bool) → (b && not false) ≡ b
-        and_yes true = refl
-        and_yes false = refl
-
-        same : (j : Job) (q i : ℕ) → q ≡ p → keeps j v region (paths_of v.input.now.bytes.now d) q i ≡ has region (bit_at p i)
-        same j q i m =
-            ap (λ (z : Option Path). keeps j v region (paths_of v.input.now.bytes.now z) q i) e ∙ and_yes (has region (bit_at q i)) ∙ ap (λ (y : ℕ). has region (bit_at y i)) m
-
-        few : (i : ℕ) → i < 128 → has region (bit_at p i) ≡ true → Dec (i < v.loans.now.count) → i < v.loans.now.count
-        few i l h (yes m) = m
-        few i l h (no m) = absurd (true≢false (sym h ∙ w.none p i (omega (arith, m)) l))
-
 -- ---- Each point
 
 -- Those that may pass the first n points came to their sets.
@@ -89,9 +69,6 @@ pub record KeptTo (v : Setup) (region : List ℕ) (n : ℕ) (ws ws' : List ℕ) 
       → Gains (λ p i. Below n v.loans.now.count p i × (keeps j v region (overwritten (action_at (graph_of j) p)) p i ≡ true)) ws ws'
 
 module _ (v : Setup) (region : List ℕ) {ws : List ℕ} where
-  pub kept_to_none : KeptTo v region 0 ws ws
-  kept_to_none = record { bits = λ j o m. points_none _ ws v.loans.now.count }
-
   pub kept_to_more : {a b : List ℕ} (p : ℕ) → KeptTo v region p ws a → Kept v region p a b → KeptTo v region (p + 1) ws b
   kept_to_more p a b = record {
     bits = λ j o m.

@@ -6,10 +6,8 @@ use mathlib.Core.List.{List}
 use Prim.Native.Nat.{ℕ, ◌+◌, ◌-◌, ◌*◌, ◌/◌, ◌%◌, ◌^◌, ◌≤◌, ◌<◌}
 use native.Mathlib.Omega.{arith}
 use native.Mathlib.Decide.{ℕ_discrete, dec_lt}
-use lib.ListN.{length, get_or, set, length-set}
-use lib.Seq.{get_or-set_same, get_or-set_other}
+use lib.ListN.{length, get_or}
 use lib.Dec.{eqb}
-use lib.Bits.{bit_and}
 use Rattle.nll_spec.specs.Syntax.{Point}
 use Rattle.nll_spec.specs.Output.{word_bits}
 use Rattle.bit_set.specs.Bits.{has, with_bit, joined}
@@ -86,9 +84,6 @@ module _ (ws : List ℕ) (p i : ℕ) {comes : Bool} where
       only q k n h (yes e) = inr (places p q i k m n e, c)
       only q k n h (no e) = inl (sym (has_with_other ws (bit_at p i) (bit_at q k) e) ∙ h)
 
-  pub gains_not : comes ≡ false → Gains (If (Cell p i) comes) ws ws
-  gains_not c = gains_none ws (λ q k e. true≢false (sym e.1 ∙ c))
-
 -- ---- Numbers at some places
 
 -- the places of D that pass a test
@@ -158,9 +153,6 @@ module _ {f : Point → ℕ → Bool} {code count : ℕ} {none ws : List ℕ} (e
 -- ---- The bits of a word
 
 module _ (w from i : ℕ) (ws : List ℕ) where
-  pub word_none : Gains (WordTo w from from i) ws ws
-  word_none = gains_none ws (λ p k e. absurd (omega (arith, e.1, e.2)))
-
   module _ {p rest : ℕ} (l : from ≤ p) (r : rest ≡ w / 2 ^ (p - from)) where
     pub word_more : {u v : List ℕ} → Gains (WordTo w from p i) ws u → Gains (If (Cell p i) (eqb (rest % 2) 1)) u v → Gains (WordTo w from (p + 1) i) ws v
     word_more a b =
@@ -184,9 +176,6 @@ module _ (w from i : ℕ) (ws : List ℕ) where
         below : (q : ℕ) {k : ℕ} (e : WordTo w from to i q k) → Dec (q < p) → q < p
         below q e (yes n) = n
         below q e (no n) = absurd (true≢false (sym e.3 ∙ shift_done w from l r z q (omega (arith, n))))
-
-  pub word_all : {u : List ℕ} {p : ℕ} (to : ℕ) → p ≤ to → to ≤ p → Gains (WordTo w from p i) ws u → Gains (WordTo w from to i) ws u
-  word_all {u} {p} to m n a = let e : p ≡ to = omega arith in subst (λ (x : ℕ). Gains (WordTo w from x i) ws u) e a
 
 -- ---- Numbers that go to the points that follow
 
@@ -225,10 +214,6 @@ module _ (ws from : List ℕ) (code p q : ℕ) where
       only : (x i : ℕ) → i < 128 → has (joined ws (4 * q) from (4 * p) 4) (bit_at x i) ≡ true → Dec (x ≡ q) → (has ws (bit_at x i) ≡ true) ⊎ Onto from code p q x i
       only x i n h (no e) = inl (sym (other x i n e) ∙ h)
       only x i n h (yes e) = found x i e (either (has ws (bit_at q i)) (has from (bit_at p i)) (sym (here i n) ∙ rw e at h))
-
--- a number that is no point of a block
-pub gains_out : (ws from : List ℕ) (code p q : ℕ) → code ≤ q → Gains (Onto from code p q) ws ws
-gains_out ws from code p q h = gains_none ws (λ x i e. omega (arith, e.0))
 
 module _ (from : List ℕ) (code : ℕ) (first succ ws : List ℕ) where
   module _ (p : ℕ) where
@@ -273,24 +258,6 @@ module _ (from : List ℕ) (code : ℕ) (first succ ws : List ℕ) where
 -- ---- The words of a set cut down to those of another
 
 module _ (by ws : List ℕ) where
-  pub masked_none : Masked by ws 0 ws
-  masked_none = record { as_long = refl; done = λ w l. absurd (omega arith); left = λ w l. refl }
-
-  pub masked_more : {u : List ℕ} (w : ℕ) {x : ℕ} → Masked by ws w u → w < length u → x ≡ bit_and (get_or u w 0) (get_or by w 0) → Masked by ws (w + 1) (set u w x)
-  masked_more {u} w {x} a l e =
-      record {
-        as_long = length-set u w x ∙ a.as_long;
-        done = λ v m. done v m (ℕ_discrete v w);
-        left = λ v m. get_or-set_other u w v x 0 (omega arith) ∙ a.left v (omega arith);
-      }
-    where
-      done : (v : ℕ) → v < w + 1 → Dec (v ≡ w) → get_or (set u w x) v 0 ≡ bit_and (get_or ws v 0) (get_or by v 0)
-      done v m (yes k) = rw k (get_or-set_same u w x 0 l ∙ e ∙ ap (λ (y : ℕ). bit_and y (get_or by w 0)) (a.left w (omega arith)))
-      done v m (no k) = get_or-set_other u w v x 0 k ∙ a.done v (omega (arith, k))
-
-  pub masked_all : {u : List ℕ} (w n : ℕ) → w ≤ n → n ≤ w → Masked by ws w u → Masked by ws n u
-  masked_all {u} w n a c x = let e : w ≡ n = omega arith in subst (λ (m : ℕ). Masked by ws m u) e x
-
   pub masked_has : {u : List ℕ} {n : ℕ} → Masked by ws n u → (p i : ℕ) → 4 * p + 4 ≤ n → i < 128 → has u (bit_at p i) ≡ (has ws (bit_at p i) && has by (bit_at p i))
   masked_has {u} {n} a p i l m =
       let z : word_bits * (4 * p + i / word_bits) + i % word_bits ≡ bit_at p i = omega arith in
