@@ -1,11 +1,9 @@
 -- The loans that may pass a point, and the three tables together. Assumes nothing.
-use mathlib.Core.Path.{◌≡◌, refl, sym, ap, ap₂, ◌∙◌, subst}
-use mathlib.Core.Logic.{◌⊎◌, inl, inr}
-use mathlib.Core.Bool.{Bool, true, false, not, ◌&&◌, true≢false}
+use mathlib.Core.Path.{◌≡◌, sym, ap, ap₂, ◌∙◌, subst}
+use mathlib.Core.Bool.{Bool, true, false, not, ◌&&◌}
 use mathlib.Core.List.{List}
 use Prim.Native.Nat.{ℕ, ◌+◌, ◌*◌, ◌≤◌, ◌<◌}
 use native.Mathlib.Omega.{arith}
-use borrow.Author.Tests.{not-true}
 use Rattle.nll_spec.specs.Fixpoint.{Table}
 use Rattle.nll_spec.specs.Syntax as syntax
 use Rattle.nll_spec.specs.Syntax.{Job, Point}
@@ -15,18 +13,15 @@ use Rattle.nll_spec.specs.Loans.{overwritten}
 use Rattle.nll_spec.specs.Loans as loans
 use Rattle.nll_spec.specs.Output.{word_bits}
 use Rattle.bit_set.specs.Bits.{has}
-use Rattle.bit_set.proofs.RunLaws.{and_true_left}
-use Rattle.bit_slice.specs.Some.{SomeSet}
 use Rattle.repr.specs.declared.Path.{Path}
 use Rattle.record.specs.Layout.{Holds}
 use Rattle.std.specs.Prelude.{Option}
-use Rattle.flow.specs.Flows.{bit_at}
 use Rattle.loans.specs.Loans.{nth_loan, loan_of}
 use Rattle.loans.specs.declared.Loan.{Loan}
-use Rattle.loans_in_scope.specs.Gains.{Gains, tables, Empty, Cell, If, Below, Within}
+use Rattle.loans_in_scope.specs.Gains.{Gains, tables, Empty, Cell, If, Below}
 use Rattle.loans_in_scope.specs.Scope.{paths_of, killed, inside_of, loan_in, given_to, RegionsTo, starts, keeps, KeptOf, Begun, Kept, PointsFilled, job_bits}
 use Rattle.loans_in_scope.specs.declared.Setup.{Setup}
-use Rattle.loans_in_scope.proofs.GainsLaws.{gains_none, on_as, cells_more, points-more, filled-has}
+use Rattle.loans_in_scope.proofs.GainsLaws.{on_as, cells_more, points-more, filled-has}
 use Rattle.loans_in_scope.proofs.LoanLaws.{inside_is}
 
 -- ---- One loan
@@ -52,11 +47,6 @@ module _ (v : Setup) (region : List ℕ) (ds : List syntax.Path) (p : ℕ) {ws :
 -- ---- One point
 
 module _ (v : Setup) (region : List ℕ) (p : Point) {ws : List ℕ} where
-  -- no region has the point
-  pub kept-none : {b : Bool} → v.loans.now.count ≤ 128 → SomeSet region (4 * p) 4 b → not b ≡ true → Kept v region p ws ws
-  kept-none {b} l x n =
-      record { bits = λ j o m. gains_none ws (λ q i e. true≢false (sym (and_true_left _ _ e.1) ∙ ap (λ (y : ℕ). has region (bit_at y i)) e.0.0 ∙ x.none (not-true b n) i (omega (arith, e.0.1)))) }
-
   module _ (d : Option Path) (over : (j : Job) → Holds v.input.now j → p < code_count j.blocks → paths_of v.input.now.bytes.now d ≡ overwritten (action_at (graph_of j) p)) where
     pub kept_each : {ws' : List ℕ} → ((j : Job) → Gains (KeptOf j v region (paths_of v.input.now.bytes.now d) p v.loans.now.count) ws ws') → Kept v region p ws ws'
     kept_each {ws'} a = record { bits = λ j o m. subst (λ (ds : List syntax.Path). Gains (KeptOf j v region ds p v.loans.now.count) ws ws') (over j o m) (a j) }
@@ -77,18 +67,6 @@ module _ (v : Setup) (region : List ℕ) {ws : List ℕ} where
   }
 
 -- ---- The tables
-
-pub within : {F : Point → ℕ → Type 0} {none region : List ℕ} (count : ℕ) → ((p : Point) (i : ℕ) → F p i → i < count) → ((p : Point) (i : ℕ) → i < 128 → has none (bit_at p i) ≡ false) → Gains F none region
-    → Within count region
-within {F} {none} {region} count below empty a = record { none = λ p i l m. go p i l m (has region (bit_at p i)) refl }
-  where
-    from : (p i : ℕ) → count ≤ i → i < 128 → (has none (bit_at p i) ≡ true) ⊎ F p i → ⊥
-    from p i l m (inl e) = true≢false (sym e ∙ empty p i m)
-    from p i l m (inr e) = omega (arith, below p i e)
-
-    go : (p i : ℕ) → count ≤ i → i < 128 → (b : Bool) → has region (bit_at p i) ≡ b → b ≡ false
-    go p i l m true e = absurd (from p i l m (a.only p i m e))
-    go p i l m false e = refl
 
 module _ {v : Setup} {start₀ pass₀ region₀ start pass region : List ℕ} (empty : Empty (tables start₀ pass₀ region₀)) (few : v.loans.now.count ≤ 128) where
   pub all-filled : Begun v v.loans.now.count start₀ start → Gains (RegionsTo v v.loans.now.count) region₀ region → KeptTo v region v.code pass₀ pass

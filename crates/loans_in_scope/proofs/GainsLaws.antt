@@ -50,14 +50,6 @@ gains_then {F} {G} {H} {ws} {u} {x} a b f g h =
 pub gains_as : {F G : Point → ℕ → Type 0} {ws u : List ℕ} → Gains F ws u → ((p : Point) (i : ℕ) → F p i → G p i) → ((p : Point) (i : ℕ) → G p i → F p i) → Gains G ws u
 gains_as a f g = gains_then a (gains_none _ (λ p i (x : ⊥). x)) f (λ p i x. absurd x) (λ p i x. inl (g p i x))
 
--- the same where the numbers of a set are known
-pub gains_few : {F G : Point → ℕ → Type 0} {ws u : List ℕ} → Gains F ws u → ((p : Point) (i : ℕ) → i < 128 → F p i → G p i) → ((p : Point) (i : ℕ) → i < 128 → G p i → F p i) → Gains G ws u
-gains_few {F} {G} {ws} a f g = record { as_long = a.as_long; old = a.old; new = λ p i l e. a.new p i l (g p i l e); only = λ p i l e. only p i l (a.only p i l e) }
-  where
-    only : (p : Point) (i : ℕ) → i < 128 → (has ws (bit_at p i) ≡ true) ⊎ F p i → (has ws (bit_at p i) ≡ true) ⊎ G p i
-    only p i l (inl e) = inl e
-    only p i l (inr e) = inr (f p i l e)
-
 -- ---- One number
 
 places : (p q i k : ℕ) → i < 128 → k < 128 → bit_at q k ≡ bit_at p i → (q ≡ p) × (k ≡ i)
@@ -105,9 +97,6 @@ pub on_as : {D E : Point → ℕ → Type 0} {f g : Point → ℕ → Bool} {ws 
 on_as x d e s = gains_as x (λ p i k. (d p i k.0, sym (s p i k.0) ∙ k.1)) (λ p i k. (e p i k.0, s p i (e p i k.0) ∙ k.1))
 
 module _ (f : Point → ℕ → Bool) (ws : List ℕ) where
-  pub cells_none : (p : ℕ) → Gains (On (Cells p 0) f) ws ws
-  cells_none p = gains_none ws (λ q k e. absurd (omega (arith, e.0.1)))
-
   pub cells_more : {u v : List ℕ} (p i : ℕ) → Gains (On (Cells p i) f) ws u → Gains (On (Cell p i) f) u v → Gains (On (Cells p (i + 1)) f) ws v
   cells_more p i a b = on_then a b (λ q k e. (e.0, omega (arith, e.1))) (λ q k e. (e.0, omega (arith, e.1))) (λ q k e. go q k e (ℕ_discrete k i))
     where
@@ -115,18 +104,12 @@ module _ (f : Point → ℕ → Bool) (ws : List ℕ) where
       go q k e (yes n) = inr (e.0, n)
       go q k e (no n) = inl (e.0, omega (arith, n, e.1))
 
-  pub points_none : (n : ℕ) → Gains (On (Below 0 n) f) ws ws
-  points_none n = gains_none ws (λ q k e. absurd (omega (arith, e.0.0)))
-
   pub points-more : {u v : List ℕ} (n p : ℕ) → Gains (On (Below p n) f) ws u → Gains (On (Cells p n) f) u v → Gains (On (Below (p + 1) n) f) ws v
   points-more n p a b = on_then a b (λ q k e. (omega (arith, e.0), e.1)) (λ q k e. (omega (arith, e.0), e.1)) (λ q k e. go q k e (ℕ_discrete q p))
     where
       go : (q k : ℕ) → Below (p + 1) n q k → Dec (q ≡ p) → Below p n q k ⊎ Cells p n q k
       go q k e (yes m) = inr (m, e.1)
       go q k e (no m) = inl (omega (arith, m, e.0), e.1)
-
-  pub columns_none : (n : ℕ) → Gains (On (Below n 0) f) ws ws
-  columns_none n = gains_none ws (λ q k e. absurd (omega (arith, e.0.1)))
 
   pub columns_more : {u v : List ℕ} (n i : ℕ) → Gains (On (Below n i) f) ws u → Gains (On (Column n i) f) u v → Gains (On (Below n (i + 1)) f) ws v
   columns_more n i a b = on_then a b (λ q k e. (e.0, omega (arith, e.1))) (λ q k e. (e.0, omega (arith, e.1))) (λ q k e. go q k e (ℕ_discrete k i))
@@ -217,9 +200,6 @@ module _ (ws from : List ℕ) (code p q : ℕ) where
 
 module _ (from : List ℕ) (code : ℕ) (first succ ws : List ℕ) where
   module _ (p : ℕ) where
-    pub leaving_none : Gains (Leaving from code first succ p (row_start first p + 0)) ws ws
-    leaving_none = gains_none ws (λ x i k. omega (arith, k.1, k.2))
-
     -- what goes to the point that is number n of the list
     pub leaving_more : {u v ss : List ℕ} (n : ℕ) → ss ≡ successors first succ p → n < length ss → Gains (Leaving from code first succ p (row_start first p + n)) ws u
         → Gains (Onto from code p (get_or ss n 0)) u v → Gains (Leaving from code first succ p (row_start first p + (n + 1))) ws v
@@ -242,18 +222,12 @@ module _ (from : List ℕ) (code : ℕ) (first succ ws : List ℕ) where
     pub leaving_all : {u : List ℕ} (n : ℕ) → n ≡ up_to (row_end first p) - row_start first p → Gains (Leaving from code first succ p (row_start first p + n)) ws u → Gains (Row from code first succ p) ws u
     leaving_all n e a = gains_as a (λ x i k. (k.0, k.1, omega (arith, e, k.1, k.2), k.3)) (λ x i k. (k.0, k.1, omega (arith, e, k.1, k.2), k.3))
 
-  pub rows_none : Gains (Rows from code first succ 0) ws ws
-  rows_none = gains_none ws (λ x i e. absurd (omega (arith, e.1)))
-
   pub rows_more : {u v : List ℕ} (p : ℕ) → Gains (Rows from code first succ p) ws u → Gains (Row from code first succ p) u v → Gains (Rows from code first succ (p + 1)) ws v
   rows_more p a b = gains_then a b (λ x i e. (e.0, omega (arith, e.1), e.2)) (λ x i e. (p, omega arith, e)) (λ x i e. go x i e (ℕ_discrete e.0 p))
     where
       go : (x i : ℕ) (e : Rows from code first succ (p + 1) x i) → Dec (e.0 ≡ p) → Rows from code first succ p x i ⊎ Row from code first succ p x i
       go x i e (yes n) = inr (subst (λ (z : ℕ). Row from code first succ z x i) n e.2)
       go x i e (no n) = inl (e.0, omega (arith, n, e.1), e.2)
-
-  pub rows_all : {u : List ℕ} (p : ℕ) → p ≤ code → code ≤ p → Gains (Rows from code first succ p) ws u → Gains (Rows from code first succ code) ws u
-  rows_all {u} p a c x = let e : p ≡ code = omega arith in subst (λ (n : ℕ). Gains (Rows from code first succ n) ws u) e x
 
 -- ---- The words of a set cut down to those of another
 

@@ -10,7 +10,7 @@ use Rattle.nll_spec.specs.Lists.{Member, here, select, below}
 use Rattle.nll_spec.specs.Fixpoint.{Table, holds}
 use Rattle.nll_spec.specs.Syntax as syntax
 use Rattle.nll_spec.specs.Syntax.{Job, Point}
-use Rattle.nll_spec.specs.Decode.{refused, read, items, path, code_count, point_count}
+use Rattle.nll_spec.specs.Decode.{read, items, path, code_count, point_count}
 use Rattle.nll_spec.specs.WellFormed.{named, structs_named, outlived_named, variables_named, successors_named, actions_named, action_named, is_region, path_named}
 use Rattle.nll_spec.specs.Graph.{graph_of, statements_of, action_at, is_walked}
 use Rattle.nll_spec.specs.Loans.{loan_at, loans_of, loan_number, overwritten}
@@ -35,12 +35,9 @@ use Rattle.loans.specs.declared.Loan.{Loan}
 use Rattle.loans_in_scope.specs.Gains.{Gains, Column}
 use Rattle.loans_in_scope.specs.Scope.{overwritten_by, paths_of, inside_of, loan_in, given_to, RegionTo, RegionsTo, starts, Begins, Begun}
 use Rattle.loans_in_scope.specs.declared.Setup.{Setup}
-use Rattle.loans_in_scope.proofs.GainsLaws.{gains_none, on_as, columns_more}
+use Rattle.loans_in_scope.proofs.GainsLaws.{on_as, columns_more}
 
 -- ---- What an action overwrites
-
-clash : {A : Type 0} {a : A} {k : ℕ} {bs : List ℕ} → refused k ≡ read a bs → ⊥
-clash e = let z : ◌≡◌ {A = ℕ} 0 1 = cc in omega arith
 
 same_item : {A : Type 0} {a b : A} {bs cs : List ℕ} → read a bs ≡ read b cs → a ≡ b
 same_item e = cc
@@ -108,17 +105,11 @@ module _ (u : Setup) {j : Job} {sets : Table} (g : given_to u j sets) where
       let r : (loan_number (loans_of (graph_of j)) i).region < length sets = omega (arith, region-named j g.names i n, g.rows) in
       ap (λ (x : ℕ). inside_of u.words.now u.width x p) e ∙ g.says.bits (loan_number (loans_of (graph_of j)) i).region p r (omega (arith, code_below j, g.room))
 
--- ---- Whether a loan is killed
-
 -- ---- The points of a region
 
 -- number i of the first n points that the set from word start on has, of those below code
 abbrev pub RegionPart : List ℕ → ℕ → ℕ → ℕ → ℕ → Point → ℕ → Type 0
 RegionPart words start code i n p k = (Column code i p k × (p < n)) × (has words (word_bits * start + p) ≡ true)
-
-module _ (words : List ℕ) (start code i : ℕ) (ws : List ℕ) where
-  pub region-none : Gains (RegionPart words start code i (32 * 0)) ws ws
-  region-none = gains_none ws (λ p k e. absurd (omega (arith, e.0.1)))
 
 -- ---- The loans, one after the other
 
