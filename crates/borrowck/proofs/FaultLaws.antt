@@ -1,6 +1,6 @@
 -- The first access that conflicts, and its fault. Assumes nothing.
 use mathlib.Core.Path.{◌≡◌, refl, sym, ap, subst, ◌∙◌}
-use mathlib.Core.Bool.{Bool, true, false, ◌||◌}
+use mathlib.Core.Bool.{Bool, true, false, ◌||◌, or-true}
 use mathlib.Core.List.{List, [], ◌∷◌, ◌++◌, map}
 use Prim.Native.Nat.{ℕ, zero, suc, ◌+◌, ◌-◌, ◌≤◌, ◌<◌, min}
 use native.Mathlib.Omega.{arith}
@@ -26,14 +26,13 @@ use Rattle.record.specs.Layout.{Holds}
 use Rattle.record.specs.Access.{Acts}
 use Rattle.record.specs.declared.Record.{Record}
 use Rattle.env.specs.Prefixes.{ShortestOf}
-use Rattle.loans.specs.Table.{entry_of}
-use Rattle.loans.specs.Loans.{loan_of}
+use Rattle.loans.specs.Loans.{no_loan, nth_loan, loan_of}
 use Rattle.loans.specs.declared.Loan.{Loan}
 use Rattle.loans.specs.declared.LoanTable.{LoanTable}
 use Rattle.std.specs.Prelude.{Option, Some, None, Result, Ok}
 use Rattle.std.specs.Option.{unwrap_or}
 use Rattle.std.proofs.Common.{rules}
-use Rattle.borrowck.specs.Search.{meets, no_loan, nth_loan, FoundIn, nth_access, before_conflict, FirstIn}
+use Rattle.borrowck.specs.Search.{meets, FoundIn, nth_access, before_conflict, FirstIn}
 use Rattle.borrowck.specs.Accesses.{kind_number, Means, accesses_in, Mean, none, more, AccessesOf}
 use Rattle.borrowck.specs.Scope.{loans_in, is_in, held_loans, SomeIn, Gathered}
 use Rattle.borrowck.specs.Faults.{verdict_of, Scoped, hits, Known, Checked}
@@ -63,10 +62,6 @@ any_append f (x ∷ xs) ys = go (f x) (any_append f xs ys)
     go true e = refl
     go false e = e
 
-or-true : (b : Bool) → b || true ≡ true
-or-true true = refl
-or-true false = refl
-
 module _ {A : Type 0} (f : A → Bool) (d : A) where
   any_at : (xs : List A) (i : ℕ) → i < length xs → f (get_or xs i d) ≡ true → any f xs ≡ true
   any_at xs i l e = is_true (any f xs) (any_member f (place_member d xs i l) (subst T (sym e) tt))
@@ -84,7 +79,7 @@ module _ {s : List ℕ} {loans : List Loan} {x : own.Access} where
 
 -- ---- Part by part
 
-module _ {s table scope : List ℕ} {p : Point} {accs : Accesses} where
+module _ {s : List ℕ} {table : List Loan} {scope : List ℕ} {p : Point} {accs : Accesses} where
   -- how many accesses there are before the one that was found
   pub checked_most : {n : ℕ} (r : Option ℕ) → Checked s table scope p accs n r → unwrap_or r accs.count ≤ accs.count
   checked_most (Some k) w = let l = w.most k refl in omega arith
@@ -102,7 +97,7 @@ module _ {s table scope : List ℕ} {p : Point} {accs : Accesses} where
     fewer j z i h = z i (omega (arith, low))
 
     shortest : (j : Job) → Known j s table part.next → (i : ℕ) → i < length (loans_in part) → ShortestOf j (path_of s (nth_loan (loans_in part) i).path) (nth_loan (loans_in part) i).shortest
-    shortest j z = rw g.are (select-holds (λ x. ShortestOf j (path_of s x.path) x.shortest) no_loan (is_in scope p) (entry_of table) from (part.next - from) λ i h. z i (omega (arith, low)))
+    shortest j z = rw g.are (select-holds (λ x. ShortestOf j (path_of s x.path) x.shortest) no_loan (is_in scope p) (nth_loan table) from (part.next - from) λ i h. z i (omega (arith, low)))
 
     -- an access before that conflicts neither below the part nor in it
     clear : (j : Job) → Known j s table part.next → (k : ℕ) → k < unwrap_or first accs.count → k < before_conflict n r → any (hits j s (nth_access accs.list k)) (held_loans table scope p 0 part.next) ≡ false
@@ -182,7 +177,7 @@ module _ (input : Record) (lent : LoanTable) (scope : List ℕ) (p : Point) wher
       unfolding verdict_at
       verdict_idle i j t w l z = sym (fault_none input.bytes.now j (in_scope_at t (loans_of (graph_of j)) p) (mean_at input p m e o j w l) 0 (λ k n. absurd (omega (arith, i, o.all))))
 
-      module _ {r : Option ℕ} (y : Checked input.bytes.now lent.numbers scope p accs (min lent.count 128) r) where
+      module _ {r : Option ℕ} (y : Checked input.bytes.now lent.loans scope p accs (min lent.count 128) r) where
         module _ (j : Job) (t : Table) (z : Scoped input.bytes.now j lent scope p t) where
           abbrev s : List ℕ
           s = input.bytes.now
@@ -191,13 +186,13 @@ module _ (input : Record) (lent : LoanTable) (scope : List ℕ) (p : Point) wher
           given = in_scope_at t (loans_of (graph_of j)) p
 
           -- of the accesses, as the check has it
-          tested : (n : ℕ) → n < accs.count → some s j given (nth_access (accesses_in accs) n) ≡ any (hits j s (nth_access accs.list n)) (held_loans lent.numbers scope p 0 (min lent.count 128))
+          tested : (n : ℕ) → n < accs.count → some s j given (nth_access (accesses_in accs) n) ≡ any (hits j s (nth_access accs.list n)) (held_loans lent.loans scope p 0 (min lent.count 128))
           tested n u =
               let f = z.loans.few in
               let b : min lent.count 128 ≡ lent.count = omega arith in
-              rw (b, get_or-take accs.count accs.list n (nth_access [] 0) u, sym (same_at z)) (any-map (meets j (nth_access accs.list n).depth (nth_access accs.list n).mode (path_of s (nth_access accs.list n).path)) (loan_of s) (held_loans lent.numbers scope p 0 lent.count))
+              rw (b, get_or-take accs.count accs.list n (nth_access [] 0) u, sym (same_at z)) (any-map (meets j (nth_access accs.list n).depth (nth_access accs.list n).mode (path_of s (nth_access accs.list n).path)) (loan_of s) (held_loans lent.loans scope p 0 lent.count))
 
-          known : Known j s lent.numbers (min lent.count 128)
+          known : Known j s lent.loans (min lent.count 128)
           known n u = known_at z n (omega arith)
 
         pub verdict_clear : r ≡ None → Says None

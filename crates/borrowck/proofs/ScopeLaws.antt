@@ -17,8 +17,7 @@ use Rattle.nll_spec.specs.Access.{in_scope_at}
 use Rattle.nll_spec.specs.Output.{word_bits}
 use Rattle.bit_set.specs.Bits.{has}
 use Rattle.env.specs.Prefixes.{ShortestOf}
-use Rattle.loans.specs.Table.{entry_of}
-use Rattle.loans.specs.Loans.{loan_of}
+use Rattle.loans.specs.Loans.{nth_loan, loan_of}
 use Rattle.loans.specs.declared.Loan.{Loan}
 use Rattle.loans.specs.declared.LoanTable.{LoanTable}
 use Rattle.loans.proofs.ListLaws.{count-split, select-append}
@@ -50,29 +49,29 @@ module _ {A : Type 0} where
   select-split : (f : ℕ → Bool) (h : ℕ → A) (a m n : ℕ) → map h (select f (count_from a (m + n))) ≡ map h (select f (count_from a m)) ++ map h (select f (count_from (a + m) n))
   select-split f h a m n = rw (count-split a m n, select-append f (count_from a m) (count_from (a + m) n)) (map-append h (select f (count_from a m)) (select f (count_from (a + m) n)))
 
-module _ (table scope : List ℕ) (p : Point) where
+module _ (table : List Loan) (scope : List ℕ) (p : Point) where
   -- the loans below `to` are those below `from` and those from there on
   pub scope_split : (from to : ℕ) → from ≤ to → held_loans table scope p 0 to ≡ held_loans table scope p 0 from ++ held_loans table scope p from to
   scope_split from to l =
       let e : to - 0 ≡ (from - 0) + (to - from) = omega arith in
       let o : 0 + (from - 0) ≡ from = omega arith in
-      ap (λ (n : ℕ). map (entry_of table) (select (is_in scope p) (count_from 0 n))) e
-      ∙ select-split (is_in scope p) (entry_of table) 0 (from - 0) (to - from)
-      ∙ ap (λ (a : ℕ). held_loans table scope p 0 from ++ map (entry_of table) (select (is_in scope p) (count_from a (to - from)))) o
+      ap (λ (n : ℕ). map (nth_loan table) (select (is_in scope p) (count_from 0 n))) e
+      ∙ select-split (is_in scope p) (nth_loan table) 0 (from - 0) (to - from)
+      ∙ ap (λ (a : ℕ). held_loans table scope p 0 from ++ map (nth_loan table) (select (is_in scope p) (count_from a (to - from)))) o
 
   -- one number more
-  scope_more : (from i : ℕ) → from ≤ i → held_loans table scope p from (i + 1) ≡ held_loans table scope p from i ++ map (entry_of table) (cond (is_in scope p i) (i ∷ []) [])
+  scope_more : (from i : ℕ) → from ≤ i → held_loans table scope p from (i + 1) ≡ held_loans table scope p from i ++ map (nth_loan table) (cond (is_in scope p i) (i ∷ []) [])
   scope_more from i l =
       let e : i + 1 - from ≡ (i - from) + 1 = omega arith in
       let o : from + (i - from) ≡ i = omega arith in
-      ap (λ (n : ℕ). map (entry_of table) (select (is_in scope p) (count_from from n))) e
-      ∙ select-split (is_in scope p) (entry_of table) from (i - from) 1
-      ∙ ap (λ (a : ℕ). held_loans table scope p from i ++ map (entry_of table) (select (is_in scope p) (count_from a 1))) o
+      ap (λ (n : ℕ). map (nth_loan table) (select (is_in scope p) (count_from from n))) e
+      ∙ select-split (is_in scope p) (nth_loan table) from (i - from) 1
+      ∙ ap (λ (a : ℕ). held_loans table scope p from i ++ map (nth_loan table) (select (is_in scope p) (count_from a 1))) o
 
 -- ---- A part
 
 -- The first n loans are those from number `from` on and below i that are in scope.
-pub record Gathering (table : List ℕ) (many : ℕ) (scope : List ℕ) (p : Point) (from i n : ℕ) (loans : List Loan) : Type 0 where
+pub record Gathering (table : List Loan) (many : ℕ) (scope : List ℕ) (p : Point) (from i n : ℕ) (loans : List Loan) : Type 0 where
   pub size : length loans ≡ 16
   pub low : from ≤ i
   pub high : i - from ≤ many - from
@@ -84,7 +83,7 @@ pub record Gathering (table : List ℕ) (many : ℕ) (scope : List ℕ) (p : Poi
 at-bit : (scope : List ℕ) (p i : ℕ) {b : Bool} → b ≡ has scope (word_bits * (4 * p) + i) → b ≡ is_in scope p i
 at-bit scope p i e = let k : word_bits * (4 * p) + i ≡ 128 * p + i = omega arith in e ∙ ap (has scope) k
 
-module _ {table : List ℕ} {many : ℕ} {scope : List ℕ} {p : Point} {from : ℕ} where
+module _ {table : List Loan} {many : ℕ} {scope : List ℕ} {p : Point} {from : ℕ} where
   module _ {i n : ℕ} {loans : List Loan} (g : Gathering table many scope p from i n loans) where
     module _ {b : Bool} (l : i < many) (e : b ≡ has scope (word_bits * (4 * p) + i)) where
       is_in_lem : b ≡ is_in scope p i
@@ -100,7 +99,7 @@ module _ {table : List ℕ} {many : ℕ} {scope : List ℕ} {p : Point} {from : 
         are = rw (scope_more table scope p from i g.low, sym is_in_lem, h, append-nil (held_loans table scope p from i)) g.are;
       }
 
-      pub gathering_more : {x : Loan} → b ≡ true → x ≡ entry_of table i → (n ≡ 16 → ⊥) → Gathering table many scope p from (i + 1) (n + 1) (set loans n x)
+      pub gathering_more : {x : Loan} → b ≡ true → x ≡ nth_loan table i → (n ≡ 16 → ⊥) → Gathering table many scope p from (i + 1) (n + 1) (set loans n x)
       gathering_more {x} h o z = record {
         size = length-set loans n x ∙ g.size;
         low = omega (arith, g.low);
@@ -121,16 +120,16 @@ select-none f a zero h = refl
 select-none f a (suc n) h = rw (h a (omega arith)) (select-none f (suc a) n (λ i l. h i (omega arith)))
 
 module _ {s : List ℕ} {j : Job} {lent : LoanTable} {scope : List ℕ} {p : Point} {t : Table} (z : Scoped s j lent scope p t) where
-  pub same_at : map (loan_of s) (held_loans lent.numbers scope p 0 lent.count) ≡ in_scope_at t (loans_of (graph_of j)) p
+  pub same_at : map (loan_of s) (held_loans lent.loans scope p 0 lent.count) ≡ in_scope_at t (loans_of (graph_of j)) p
   unfolding in_scope_at
   same_at =
       let e : lent.count - 0 ≡ lent.count = omega arith in
-      map-map (loan_of s) (entry_of lent.numbers) (select (is_in scope p) (count_from 0 (lent.count - 0)))
-      ∙ rw e (select-same (is_in scope p) (λ i. holds t i p) (λ i. loan_of s (entry_of lent.numbers i)) (loan_number (loans_of (graph_of j))) 0 lent.count (λ i o. z.bits i (omega arith)) (λ i o. z.loans.same i (omega arith)))
+      map-map (loan_of s) (nth_loan lent.loans) (select (is_in scope p) (count_from 0 (lent.count - 0)))
+      ∙ rw e (select-same (is_in scope p) (λ i. holds t i p) (λ i. loan_of s (nth_loan lent.loans i)) (loan_number (loans_of (graph_of j))) 0 lent.count (λ i o. z.bits i (omega arith)) (λ i o. z.loans.same i (omega arith)))
       ∙ ap (λ n. map (loan_number (loans_of (graph_of j))) (select (λ i. holds t i p) (count_from 0 n))) z.loans.count
 
   pub none-at : {b : Bool} → SomeIn scope p b → b ≡ false → p < 1024 → in_scope_at t (loans_of (graph_of j)) p ≡ []
-  none-at w e l = sym same_at ∙ ap (λ (ns : List ℕ). map (loan_of s) (map (entry_of lent.numbers) ns)) (select-none (is_in scope p) 0 (lent.count - 0) λ i o. let f = z.loans.few in w.none e l i (omega arith))
+  none-at w e l = sym same_at ∙ ap (λ (ns : List ℕ). map (loan_of s) (map (nth_loan lent.loans) ns)) (select-none (is_in scope p) 0 (lent.count - 0) λ i o. let f = z.loans.few in w.none e l i (omega arith))
 
-  pub known_at : Known j s lent.numbers lent.count
-  known_at i l = subst (λ (x : spec.Loan). ShortestOf j x.path (entry_of lent.numbers i).shortest) (sym (z.loans.same i l)) (z.loans.shortest i l)
+  pub known_at : Known j s lent.loans lent.count
+  known_at i l = subst (λ (x : spec.Loan). ShortestOf j x.path (nth_loan lent.loans i).shortest) (sym (z.loans.same i l)) (z.loans.shortest i l)

@@ -12,9 +12,9 @@ use Rattle.nll_spec.specs.Syntax.{Path, Job}
 use Rattle.nll_spec.specs.Types.{is_prefix, is_supporting, is_frozen}
 use Rattle.repr.specs.Reading.{borrow_kind_of, path_of}
 use Rattle.env.specs.Prefixes.{ShortestOf}
-use Rattle.loans.specs.Loans.{loan_of}
+use Rattle.loans.specs.Loans.{nth_loan, loan_of}
 use Rattle.loans.specs.declared.Loan.{Loan}
-use Rattle.borrowck.specs.Search.{counts, near, meets, lent_at, own_at, Prefixes, nth_loan, FoundIn, nth_access}
+use Rattle.borrowck.specs.Search.{counts, near, meets, lent_at, own_at, Prefixes, FoundIn, nth_access}
 use Rattle.borrowck.specs.declared.Access.{Access}
 use Rattle.borrowck.specs.declared.Depth.{Depth}
 use Rattle.borrowck.specs.declared.Depth.TheVariants.{Shallow, Deep}

@@ -67,7 +67,7 @@ overwrite-two xs old n a b e h =
 
 pub record Writing (input : Record) (lent : LoanTable) (scope old : List ℕ) (p : Point) (new : List ℕ) : Type 0 where
   pub size : length new ≡ length old
-  pub is : (j : Job) (t : Table) → Holds input j → LoansAt input.bytes.now j lent.numbers lent.count → ((q : Point) → q < code_count j.blocks → (i : Point) → i < lent.count → has scope (128 * q + i) ≡ holds t i q) → new ≡ overwrite (bytes_to (verdict_at j (graph_of j) t (loans_of (graph_of j))) p) old
+  pub is : (j : Job) (t : Table) → Holds input j → LoansAt input.bytes.now j lent.loans lent.count → ((q : Point) → q < code_count j.blocks → (i : Point) → i < lent.count → has scope (128 * q + i) ≡ holds t i q) → new ≡ overwrite (bytes_to (verdict_at j (graph_of j) t (loans_of (graph_of j))) p) old
 
 module _ {input : Record} {lent : LoanTable} {scope old : List ℕ} where
   pub writing_more : {p : Point} {new : List ℕ} {r : Option Fault} {a b : ℕ} → Writing input lent scope old p new → Judged input lent scope p r → (a ≡ (verdict_of r).kind) × (b ≡ (verdict_of r).operand) → 2 * p + 2 ≤ length old
@@ -90,8 +90,8 @@ module _ (input : Record) where
 
   module _ (lent : LoanTable) (scope old : List ℕ) where
     -- there is no room
-    pub written_nothing : {new : List ℕ} → length old < 2 * (input.head.code + input.head.declared) → (j : Job) (t : Table) → Holds input j → LoansAt input.bytes.now j lent.numbers lent.count → ((q : Point) → q < code_count j.blocks → (i : Point) → i < lent.count → has scope (128 * q + i) ≡ holds t i q) → 2 * point_count j ≤ length old → new ≡ overwrite (bytes_to (verdict_at j (graph_of j) t (loans_of (graph_of j))) (point_count j)) old
+    pub written_nothing : {new : List ℕ} → length old < 2 * (input.head.code + input.head.declared) → (j : Job) (t : Table) → Holds input j → LoansAt input.bytes.now j lent.loans lent.count → ((q : Point) → q < code_count j.blocks → (i : Point) → i < lent.count → has scope (128 * q + i) ≡ holds t i q) → 2 * point_count j ≤ length old → new ≡ overwrite (bytes_to (verdict_at j (graph_of j) t (loans_of (graph_of j))) (point_count j)) old
     written_nothing l j t w z k m = absurd (omega (arith, count-is j w))
 
-    pub written_all : {p : Point} {new : List ℕ} → Writing input lent scope old p new → p ≡ input.head.code + input.head.declared → (j : Job) (t : Table) → Holds input j → LoansAt input.bytes.now j lent.numbers lent.count → ((q : Point) → q < code_count j.blocks → (i : Point) → i < lent.count → has scope (128 * q + i) ≡ holds t i q) → 2 * point_count j ≤ length old → new ≡ overwrite (bytes_to (verdict_at j (graph_of j) t (loans_of (graph_of j))) (point_count j)) old
+    pub written_all : {p : Point} {new : List ℕ} → Writing input lent scope old p new → p ≡ input.head.code + input.head.declared → (j : Job) (t : Table) → Holds input j → LoansAt input.bytes.now j lent.loans lent.count → ((q : Point) → q < code_count j.blocks → (i : Point) → i < lent.count → has scope (128 * q + i) ≡ holds t i q) → 2 * point_count j ≤ length old → new ≡ overwrite (bytes_to (verdict_at j (graph_of j) t (loans_of (graph_of j))) (point_count j)) old
     written_all {p} {new} g x j t w z k m = let e : p ≡ point_count j = x ∙ sym (count-is j w) in subst (λ (n : ℕ). new ≡ overwrite (bytes_to (verdict_at j (graph_of j) t (loans_of (graph_of j))) n) old) e (g.is j t w z k)

@@ -12,8 +12,7 @@ use Rattle.record.specs.Layout.{Holds}
 use Rattle.record.specs.declared.Record.{Record}
 use Rattle.bit_set.specs.Bits.{has}
 use Rattle.env.specs.Prefixes.{ShortestOf}
-use Rattle.loans.specs.Table.{entry_of}
-use Rattle.loans.specs.Loans.{loan_of, LoansAt}
+use Rattle.loans.specs.Loans.{nth_loan, loan_of, LoansAt}
 use Rattle.loans.specs.declared.Loan.{Loan}
 use Rattle.loans.specs.declared.LoanTable.{LoanTable}
 use Rattle.std.specs.Option.{unwrap_or}
@@ -31,7 +30,7 @@ verdict_of None = record { kind = 0; operand = 0 }
 
 -- The table has the job's loans, and the words say which of them t has in scope at point p.
 pub record Scoped (s : List ℕ) (j : Job) (lent : LoanTable) (scope : List ℕ) (p : Point) (t : Table) : Type 0 where
-  pub loans : LoansAt s j lent.numbers lent.count
+  pub loans : LoansAt s j lent.loans lent.count
   pub bits : (i : ℕ) → i < lent.count → has scope (128 * p + i) ≡ holds t i p
 
 -- an access conflicts with the loan
@@ -39,11 +38,11 @@ abbrev pub hits : Job → List ℕ → Access → Loan → Bool
 hits j s x loan = meets j x.depth x.mode (path_of s x.path) (loan_of s loan)
 
 -- the shortest prefixes of the first n loans of the table are known
-abbrev pub Known : Job → List ℕ → List ℕ → ℕ → Type 0
-Known j s table n = (i : ℕ) → i < n → ShortestOf j (path_of s (entry_of table i).path) (entry_of table i).shortest
+abbrev pub Known : Job → List ℕ → List Loan → ℕ → Type 0
+Known j s table n = (i : ℕ) → i < n → ShortestOf j (path_of s (nth_loan table i).path) (nth_loan table i).shortest
 
 -- The answer is the first of the accesses that conflicts with a loan in scope at p of the first n; or there is none.
-pub record Checked (s table scope : List ℕ) (p : Point) (accesses : Accesses) (n : ℕ) (r : Option ℕ) : Type 0 where
+pub record Checked (s : List ℕ) (table : List Loan) (scope : List ℕ) (p : Point) (accesses : Accesses) (n : ℕ) (r : Option ℕ) : Type 0 where
   pub before : (j : Job) → Known j s table n → (k : ℕ) → k < unwrap_or r accesses.count → any (hits j s (nth_access accesses.list k)) (held_loans table scope p 0 n) ≡ false
   pub most : (k : ℕ) → r ≡ Some k → k < accesses.count
   pub here : (k : ℕ) → r ≡ Some k → (j : Job) → Known j s table n → any (hits j s (nth_access accesses.list k)) (held_loans table scope p 0 n) ≡ true

@@ -5,10 +5,9 @@ use Rattle.nll_spec.specs.Syntax as syntax
 use Rattle.nll_spec.specs.Types.{is_prefix, is_supporting, is_frozen, same_kind}
 use Rattle.nll_spec.specs.Loans as spec
 use Rattle.repr.specs.Reading.{borrow_kind_of, path_of}
-use Rattle.repr.specs.declared.BorrowKind.TheVariants as kinds
 use Rattle.repr.specs.declared.Path as repr
 use Rattle.env.specs.Prefixes.{ShortestOf}
-use Rattle.loans.specs.Loans.{loan_of}
+use Rattle.loans.specs.Loans.{no_loan, nth_loan, loan_of}
 use Rattle.loans.specs.declared.Loan.{Loan}
 use Rattle.borrowck.specs.declared.Access.{Access}
 use Rattle.borrowck.specs.declared.Conflict.{Conflict}
@@ -60,21 +59,6 @@ pub record Prefixes (loan : Loan) (x : Access) (n : ℕ) : Type 0 where
 abbrev pub FirstIs : (ℕ → Bool) → ℕ → Option ℕ → Type 0
 FirstIs f n (Some i) = (i < n) × (f i ≡ true) × ((k : ℕ) → k < i → f k ≡ false)
 FirstIs f n None = (k : ℕ) → k < n → f k ≡ false
-
--- what is read past the end of a list of loans
-abbrev pub no_loan : Loan
-no_loan =
-    record {
-      point = 0;
-      region = record { 0 = 0 };
-      kind = kinds.Mut;
-      path = record { base = record { 0 = 0 }; steps = 0; from = record { at = 0 } };
-      shortest = record { supporting = 0; frozen = 0 };
-    }
-
--- loan number i of a list
-abbrev pub nth_loan : List Loan → ℕ → Loan
-nth_loan loans i = get_or loans i no_loan
 
 -- The answer is the first of the loans that conflicts with the access, where each loan's shortest prefixes are known.
 pub record FoundIn (s : List ℕ) (x : Access) (loans : List Loan) (r : Option ℕ) : Type 0 where

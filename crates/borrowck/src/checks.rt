@@ -7,7 +7,7 @@ use super::scope::part_of;
 use super::search::search_in;
 use loans::LoanTable;
 
-// The first access that conflicts with a loan in scope at point p, part by part. No table has more than 128 loans.
+// The first access that conflicts with a loan in scope at point p, part by part. No table gives more than 128 loans.
 pub fn check_accesses(
     s: &[u8],
     loans: &LoanTable,
@@ -16,13 +16,13 @@ pub fn check_accesses(
     accesses: Accesses,
 ) -> Option<usize>
     requires { (accesses.count ≤ 9) × (p < 1024) }
-    ensures { Checked s.now loans.now.numbers scope.now p accesses (min loans.now.count 128) result }
+    ensures { Checked s.now loans.now.loans scope.now p accesses (min loans.now.count 128) result }
 {
-    let many = loans.count.min(128);
+    let many = loans.lent().len();
     let mut first = None;
     let mut from = 0;
     while from < many {
-        let part = part_of(loans, many, scope, p, from);
+        let part = part_of(loans, scope, p, from);
         let below = first.unwrap_or(accesses.count);
         if let Some(conflict) = search_in(s, part.loans, part.count, accesses.list, below) {
             first = Some(conflict.access);

@@ -112,7 +112,7 @@ fn bytes_of(verdict: Option<Fault>) -> (u8, u8)
 // Writes the verdicts of all points, two bytes each, where there is room for them.
 pub fn borrow_check(input: &Record<'_>, loans: &LoanTable, scope: &[u32], bytes: &mut [u8])
     ensures { (length bytes.new ≡ length bytes.old)
-        × ((j : Job) (t : Table) → Holds input.now j → LoansAt input.now.bytes.now j loans.now.numbers loans.now.count
+        × ((j : Job) (t : Table) → Holds input.now j → LoansAt input.now.bytes.now j loans.now.loans loans.now.count
         → ((p : Point) → p < code_count j.blocks → (i : Point) → i < loans.now.count → has scope.now (128 * p + i) ≡ holds t i p)
         → 2 * point_count j ≤ length bytes.old
         → bytes.new ≡ overwrite (bytes_to (verdict_at j (graph_of j) t (loans_of (graph_of j))) (point_count j)) bytes.old) }

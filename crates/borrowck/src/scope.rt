@@ -1,5 +1,5 @@
 // The loans in scope at a point, in parts.
-ghost use Rattle.std.specs.Prelude.{◌≡◌, ◌≤◌, ◌<◌};
+ghost use Rattle.std.specs.Prelude.{◌≡◌, ◌≤◌, ◌<◌, min};
 ghost use Rattle.borrowck.specs.Scope.{SomeIn, Gathered};
 
 use loans::{Loan, LoanTable};
@@ -20,13 +20,14 @@ pub fn some_in_scope(scope: &[u32], p: usize) -> bool
 }
 
 // The loans from number from on that are in scope at point p, in the order of the table: as many as a part has room for.
-pub fn part_of(loans: &LoanTable, many: usize, scope: &[u32], p: usize, from: usize) -> Part
+pub fn part_of(loans: &LoanTable, scope: &[u32], p: usize, from: usize) -> Part
     requires { p < 1024 }
-    ensures { Gathered loans.now.numbers many scope.now p from result }
+    ensures { Gathered loans.now.loans (min loans.now.count 128) scope.now p from result }
 {
-    let mut held = [loans.get(0); 16];
+    let lent = loans.lent();
+    let mut held = [loans.loans[0]; 16];
     let mut n = 0;
-    for i in from..many {
+    for i in from..lent.len() {
         if n == 16 {
             return Part {
                 loans: held,
@@ -35,13 +36,13 @@ pub fn part_of(loans: &LoanTable, many: usize, scope: &[u32], p: usize, from: us
             };
         }
         if bit_slice::is_set(scope, 4 * p, i) {
-            held[n] = loans.get(i);
+            held[n] = lent[i];
             n += 1;
         }
     }
     Part {
         loans: held,
         count: n,
-        next: many,
+        next: lent.len(),
     }
 }

@@ -1,7 +1,7 @@
 -- There are no more loans than Borrow actions. Assumes nothing.
 use mathlib.Core.Path.{◌≡◌, refl, sym, ap, ◌∙◌}
 use mathlib.Core.Bool.{Bool, true, false, cond}
-use mathlib.Core.List.{List, [], ◌∷◌, ◌++◌, map}
+use mathlib.Core.List.{List, [], ◌∷◌, ◌++◌, map, map-append}
 use Prim.Native.Nat.{ℕ, suc, ◌+◌, ◌≤◌, ◌<◌}
 use native.Mathlib.Omega.{arith}
 use native.Mathlib.Nat.{add-zero}
@@ -45,10 +45,6 @@ few-loans walked at i (n ∷ ns) h = go (walked i) (few-loans walked at (suc i) 
     go true r = let e = length-append (loan_at i (at i)) later in let f = ap (λ (a : Action). length (loan_at i a)) first in let o = one_loan i n.action (map (λ (m : Statement). m.action) ns) in omega arith
     go false r = let o = one_loan i n.action (map (λ (m : Statement). m.action) ns) in omega arith
 
-map-append : (xs ys : List Statement) → map (λ (n : Statement). n.action) (xs ++ ys) ≡ map (λ (n : Statement). n.action) xs ++ map (λ (n : Statement). n.action) ys
-map-append [] ys = refl
-map-append (x ∷ xs) ys = ap (λ (l : List Action). x.action ∷ l) (map-append xs ys)
-
 block_borrows : (b : BlockIndex) (after : List Point) (p : Point) (acts : List Action) → borrows (block_statements b after p acts) ≡ length (select is_borrow acts)
 unfolding block_statements
 block_borrows b after p [] = refl
@@ -68,7 +64,7 @@ all_borrows : (all : List Block) (b : BlockIndex) (p : Point) (ds : List Block) 
 unfolding statements_from
 all_borrows all b p [] = refl
 all_borrows all b p (d ∷ ds) =
-    let x = ap (λ (l : List Action). length (select is_borrow l)) (map-append here later) ∙ both (map (λ (n : Statement). n.action) here) (map (λ (n : Statement). n.action) later) in
+    let x = ap (λ (l : List Action). length (select is_borrow l)) (map-append (λ (n : Statement). n.action) here later) ∙ both (map (λ (n : Statement). n.action) here) (map (λ (n : Statement). n.action) later) in
     let y = both d.actions (gather (λ (e : Block). e.actions) ds) in
     omega (arith, x, y, block_borrows b (map (first_point all 0) d.successors) p d.actions, all_borrows all (suc b) (p + suc (length d.actions)) ds)
   where

@@ -4,7 +4,7 @@ use mathlib.Core.Bool.{Bool, true, false}
 use mathlib.Core.List.{List, [], ◌∷◌, ◌++◌, append-nil}
 use Prim.Native.Nat.{ℕ, ◌+◌, ◌*◌, ◌≤◌, ◌<◌}
 use native.Mathlib.Omega.{arith}
-use lib.ListN.{length, length-append}
+use lib.ListN.{length, set, length-append, length-set}
 use lib.Dec.{T}
 use Rattle.nll_spec.specs.Syntax.{Path, Point, Action, Borrow, Job}
 use Rattle.nll_spec.specs.Syntax as syntax
@@ -28,19 +28,16 @@ use Rattle.record.specs.Access.{Acts}
 use Rattle.record.specs.Access as tags
 use Rattle.record.specs.declared.Record.{Record}
 use Rattle.bit_set.specs.Bits.{has}
-use Rattle.repr.proofs.SpellLaws.{clash, carry, then}
+use Rattle.repr.proofs.SpellLaws.{carry, then}
 use Rattle.env.specs.Prefixes.{ShortestOf}
 use Rattle.env.specs.declared.Shortest.{Shortest}
+use Rattle.loans.specs.declared.LoanTable.{LoanTable}
 use Rattle.graph.specs.Search.{WalkedIn}
-use Rattle.loans.specs.Table.{Put}
 use Rattle.loans.specs.Loans.{loans_below, Listed, LoansAt, Given, Lends}
 use Rattle.loans.proofs.ListLaws.{below_unwalked, below-walked, below_more, listed_more}
 use Rattle.loans.proofs.ActionLaws.{source-named, source_fits, source-short}
 use Rattle.repr.specs.declared.refusal.Refusal.{Refusal}
-use Rattle.std.specs.Prelude.{Result, Ok, Err}
-
-pub one_more : {n : ℕ} → n ≤ 128 → (n ≡ 128 → ⊥) → n < 128
-one_more l e = omega arith
+use Rattle.std.specs.Prelude.{Result, Ok}
 
 -- no other action lends
 not-borrow : (s : List ℕ) (a : acts.Action) (c : Cursor) {x : Action} {over : List ℕ} → ((d : repr.Path) (r : RegionName) (k : BorrowKind) (q : repr.Path) → a ≡ action.Borrow d r k q → ⊥) → action_read s a c ≡ read x over → (p : Point) → loan_at p x ≡ []
@@ -66,29 +63,26 @@ other_tag (syntax.Use q) h p = refl
 other_tag (syntax.Drop q) h p = refl
 other_tag (syntax.StorageDead v) h p = refl
 
-module _ {input : Record} {walked : List ℕ} {p n : ℕ} (table : List ℕ) (size : length table ≡ 1024) (few : n ≤ 128) (point : p < 1024) {b : Bool} (tests : b ≡ has walked (word_bits * 0 + p)) where
+module _ {input : Record} {walked : List ℕ} {p : ℕ} (lent : LoanTable) (size : length lent.loans ≡ 128) (few : lent.count ≤ 128) (point : p < 1024) {b : Bool} (tests : b ≡ has walked (word_bits * 0 + p)) where
   walks : (j : Job) → Given input walked j → is_walked (graph_of j) p ≡ b
   walks j g = let e : word_bits * 0 + p ≡ p = omega arith in sym (tests ∙ ap (has walked) e ∙ g.walks p point)
 
   -- the point lends nothing
-  pub lends_nothing : ((j : Job) → Given input walked j → p < code_count j.blocks → loans_below (graph_of j) (p + 1) ≡ loans_below (graph_of j) p) → Lends input walked p n table table n
-  lends_nothing f = record { size = size; few = few; more = λ j g l w. subst (λ (xs : List spec.Loan). Listed input.bytes.now j xs table n) (sym (f j g l)) w }
+  pub lends_nothing : ((j : Job) → Given input walked j → p < code_count j.blocks → loans_below (graph_of j) (p + 1) ≡ loans_below (graph_of j) p) → Lends input walked p lent lent
+  lends_nothing f = record { size = size; few = few; more = λ j g l w. subst (λ (xs : List spec.Loan). Listed input.bytes.now j xs lent.loans lent.count) (sym (f j g l)) w }
 
-  pub lends_unwalked : b ≡ false → Lends input walked p n table table n
+  pub lends_unwalked : b ≡ false → Lends input walked p lent lent
   lends_unwalked e = lends_nothing λ j g l. below_unwalked (graph_of j) p (walks j g ∙ e)
 
-  pub lends-tagged : b ≡ true → {tag : ℕ} → ((j : Job) → Holds input j → p < code_count j.blocks → tag ≡ tags.tag_of (action_at (graph_of j) p)) → (tag ≡ 2 → ⊥) → Lends input walked p n table table n
+  pub lends-tagged : b ≡ true → {tag : ℕ} → ((j : Job) → Holds input j → p < code_count j.blocks → tag ≡ tags.tag_of (action_at (graph_of j) p)) → (tag ≡ 2 → ⊥) → Lends input walked p lent lent
   lends-tagged e m o = lends_nothing λ j g l. below-walked (graph_of j) p (walks j g ∙ e) ∙ rw (other_tag (action_at (graph_of j) p) (λ i. o (m j g.layout l ∙ i)) p, append-nil (loans_below (graph_of j) p))
 
   module _ (e : b ≡ true) {r : Result (acts.Action × Cursor) Refusal} (m : (j : Job) → Holds input j → p < code_count j.blocks → Acts input.bytes.now (action_at (graph_of j) p) r) where
-    pub lends-refused : {k : Refusal} → r ≡ Err k → Lends input walked p n table table n
-    lends-refused i = lends_nothing λ j g l. absurd (clash (sym (ap (action_says input.bytes.now) i) ∙ (m j g.layout l).reads))
-
     module _ {a : acts.Action} {c : Cursor} (i : r ≡ Ok (a, c)) where
       reads : (j : Job) (g : Given input walked j) (l : p < code_count j.blocks) → action_read input.bytes.now a c ≡ read (action_at (graph_of j) p) (m j g.layout l).over
       reads j g l = sym (ap (action_says input.bytes.now) i) ∙ (m j g.layout l).reads
 
-      pub lends_other : ((d : repr.Path) (r : RegionName) (k : BorrowKind) (q : repr.Path) → a ≡ action.Borrow d r k q → ⊥) → Lends input walked p n table table n
+      pub lends_other : ((d : repr.Path) (r : RegionName) (k : BorrowKind) (q : repr.Path) → a ≡ action.Borrow d r k q → ⊥) → Lends input walked p lent lent
       lends_other o = lends_nothing λ j g l. below-walked (graph_of j) p (walks j g ∙ e) ∙ rw (not-borrow input.bytes.now a c o (reads j g l) p, append-nil (loans_below (graph_of j) p))
 
       module _ {d source : repr.Path} {region : RegionName} {kind : BorrowKind} (k : a ≡ action.Borrow d region kind source) where
@@ -107,42 +101,34 @@ module _ {input : Record} {walked : List ℕ} {p n : ℕ} (table : List ℕ) (si
             let y = ap length (below j g l) ∙ length-append (loans_below (graph_of j) p) (record { point = p; region = region.0; kind = borrow_kind_of kind; path = path_of input.bytes.now source } ∷ []) in
             omega (arith, x, y, g.few)
 
-        pub lends_full : n ≡ 128 → Lends input walked p n table table n
+        pub lends_full : lent.count ≡ 128 → Lends input walked p lent lent
         lends_full f = record { size = size; few = few; more = λ j g l w. absurd (omega (arith, room j g l, w.count)) }
 
-        pub lends-more : {x : Shortest} {table' : List ℕ} → ((j : Job) → Holds input j → source.base.0 < length j.variables → path_fits j (path_of input.bytes.now source) ≡ true → length (path_of input.bytes.now source).steps ≤ 8 → ShortestOf j (path_of input.bytes.now source) x)
-            → (n ≡ 128 → ⊥) → Put table n (record { point = p; region = region; kind = kind; path = source; shortest = x }) table' → Lends input walked p n table table' (n + 1)
-        lends-more {x} {table'} f z put =
+        pub lends-more : {x : Shortest} → ((j : Job) → Holds input j → source.base.0 < length j.variables → path_fits j (path_of input.bytes.now source) ≡ true → length (path_of input.bytes.now source).steps ≤ 8 → ShortestOf j (path_of input.bytes.now source) x)
+            → (lent.count ≡ 128 → ⊥) → Lends input walked p lent (record { loans = set lent.loans lent.count (record { point = p; region = region; kind = kind; path = source; shortest = x }); count = lent.count + 1 })
+        lends-more {x} f z =
             record {
-              size = put.size;
+              size = length-set lent.loans lent.count _ ∙ size;
               few = omega arith;
               more = λ j g l w.
                   let q = borrows j g l in
                   let v = source-short g.layout p q in
-                  subst (λ (xs : List spec.Loan). Listed input.bytes.now j xs table' (n + 1)) (sym (below j g l))
-                  (listed_more input.bytes.now g.layout.short w put refl (f j g.layout (source-named g.layout p q g.names) (source_fits g.layout p q g.paths) (omega arith)));
+                  rw (below j g l) (listed_more w _ (omega arith) refl (f j g.layout (source-named g.layout p q g.names) (source_fits g.layout p q g.paths) (omega arith)));
             }
 
 -- ---- All points
 
 -- What the loop keeps.
-pub record Lending (input : Record) (walked : List ℕ) (p : ℕ) (table : List ℕ) (n : ℕ) : Type 0 where
-  pub size : length table ≡ 1024
-  pub few : n ≤ 128
-  pub lent : (j : Job) → Given input walked j → p ≤ code_count j.blocks → Listed input.bytes.now j (loans_below (graph_of j) p) table n
+pub record Lending (input : Record) (walked : List ℕ) (p : ℕ) (lent : LoanTable) : Type 0 where
+  pub size : length lent.loans ≡ 128
+  pub few : lent.count ≤ 128
+  pub are : (j : Job) → Given input walked j → p ≤ code_count j.blocks → Listed input.bytes.now j (loans_below (graph_of j) p) lent.loans lent.count
 
-module _ {input : Record} {walked : List ℕ} where
-  pub lending-none : {table : List ℕ} → length table ≡ 1024 → Lending input walked 0 table 0
-  lending-none size = record { size = size; few = omega arith; lent = λ j g l. record { count = refl; same = λ i k. absurd (omega arith); shortest = λ i k. absurd (omega arith) } }
-
-  pub lending-more : {p n r : ℕ} {table table' : List ℕ} → Lending input walked p table n → Lends input walked p n table table' r → Lending input walked (p + 1) table' r
-  lending-more w l = record { size = l.size; few = l.few; lent = λ j g k. l.more j g (omega arith) (w.lent j g (omega arith)) }
-
-  pub lending-all : {p code n : ℕ} {table : List ℕ} → Lending input walked p table n → p ≤ code → code ≤ p → (input.head.code ≤ 1024 → code ≡ input.head.code) → (j : Job) → Holds input j → T (named j) → T (paths_fit j)
-      → WalkedIn j walked → length (loans_of (graph_of j)) ≤ 128 → LoansAt input.bytes.now j table n
-  unfolding loans_of
-  lending-all {p} {n = n} {table = table} w a b c j l named paths walks few =
-      let i = code-count j in
-      let e : p ≡ (graph_of j).code = omega (arith, c (omega (arith, l.code, l.few)), l.code) in
-      let v = subst (λ (q : ℕ). Listed input.bytes.now j (loans_below (graph_of j) q) table n) e (w.lent j (record { layout = l; names = named; paths = paths; walks = walks; few = few }) (omega (arith, i))) in
-      record { count = v.count; few = w.few; same = v.same; shortest = v.shortest }
+pub lending-all : {input : Record} {walked : List ℕ} {p code : ℕ} {lent : LoanTable} → Lending input walked p lent → p ≤ code → code ≤ p → (input.head.code ≤ 1024 → code ≡ input.head.code) → (j : Job) → Holds input j → T (named j) → T (paths_fit j)
+    → WalkedIn j walked → length (loans_of (graph_of j)) ≤ 128 → LoansAt input.bytes.now j lent.loans lent.count
+unfolding loans_of
+lending-all {input} {p = p} {lent = lent} w a b c j l named paths walks few =
+    let i = code-count j in
+    let e : p ≡ (graph_of j).code = omega (arith, c (omega (arith, l.code, l.few)), l.code) in
+    let v = subst (λ (q : ℕ). Listed input.bytes.now j (loans_below (graph_of j) q) lent.loans lent.count) e (w.are j (record { layout = l; names = named; paths = paths; walks = walks; few = few }) (omega (arith, i))) in
+    record { count = v.count; few = w.few; same = v.same; shortest = v.shortest }

@@ -1,5 +1,4 @@
 -- Laws of loans.
-pub mod TableLaws
 pub mod ListLaws
 pub mod ActionLaws
 pub mod LendLaws

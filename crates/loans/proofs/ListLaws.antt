@@ -1,22 +1,22 @@
 -- The loans of the points, point by point. Assumes nothing.
-use mathlib.Core.Path.{◌≡◌, refl, sym, ap, subst, ◌∙◌}
+use mathlib.Core.Path.{◌≡◌, refl, sym, ap, ◌∙◌}
 use mathlib.Core.Bool.{Bool, true, false, cond}
 use mathlib.Core.List.{List, [], ◌∷◌, ◌++◌, append_assoc, append-nil}
 use Prim.Native.Nat.{ℕ, zero, suc, ◌+◌, ◌-◌, ◌≤◌, ◌<◌, min}
 use native.Mathlib.Omega.{arith}
 use native.Mathlib.Nat.{add-zero}
 use native.Mathlib.Decide.{dec_lt}
-use lib.ListN.{length, drop, length-append, get_or-append, drop_of_length-le}
-use lib.Seq.{get_or_at}
+use lib.ListN.{length, take, set, length-append, get_or-append}
+use lib.Seq.{get_or-take, get_or_at, get_or-set_same, get_or-set_other}
 use Rattle.nll_spec.specs.Lists.{gather, select, count_from}
 use Rattle.nll_spec.specs.Syntax.{Point, Job}
 use Rattle.nll_spec.specs.Graph.{Graph, action_at, is_walked}
 use Rattle.nll_spec.specs.Loans as spec
 use Rattle.nll_spec.specs.Loans.{loan_at, loan_number}
 use Rattle.env.specs.Prefixes.{ShortestOf}
-use Rattle.loans.specs.Table.{entry_of, kept, Put}
-use Rattle.loans.specs.Loans.{loan_of, loans_below, Listed}
+use Rattle.loans.specs.Loans.{no_loan, nth_loan, loan_of, loans_below, Listed}
 use Rattle.loans.specs.declared.Loan.{Loan}
+use Rattle.loans.specs.declared.LoanTable.{LoanTable}
 
 -- ---- Lists one after the other
 
@@ -56,37 +56,38 @@ module _ (g : Graph) where
       let f = ap length (below_split p k) ∙ length-append (loans_below g p) (gather (λ r. loan_at r (action_at g r)) (select (is_walked g) (count_from p k))) in
       rw e (omega (arith, f))
 
--- ---- The table with one loan more
+-- ---- One loan more
 
-module _ (s : List ℕ) (short : length s ≤ 65535) where
-  drop_min : (at : ℕ) → drop (min at 65535) s ≡ drop at s
-  drop_min at = go (dec_lt at 65535)
-    where
-      go : Dec (at < 65535) → drop (min at 65535) s ≡ drop at s
-      go (yes h) = let e : min at 65535 ≡ at = omega arith in rw e
-      go (no h) = drop_of_length-le s (let k : length s ≤ min at 65535 = omega arith in k) ∙ sym (drop_of_length-le s (let k : length s ≤ at = omega arith in k))
+pub listed_more : {s : List ℕ} {j : Job} {xs : List spec.Loan} {t : List Loan} {n : ℕ} {y : spec.Loan} → Listed s j xs t n → (x : Loan) → n < length t → loan_of s x ≡ y → ShortestOf j y.path x.shortest
+    → Listed s j (xs ++ (y ∷ [])) (set t n x) (n + 1)
+listed_more {s} {j} {xs} {t} {n} {y} w x l e z =
+    record {
+      count = let c = w.count in let l = length-append xs (y ∷ []) in omega arith;
+      same = λ i h. same i h (dec_lt i n);
+      shortest = λ i h. short-of i h (dec_lt i n);
+    }
+  where
+    old : (i : ℕ) → i < n → loan_number (xs ++ (y ∷ [])) i ≡ loan_number xs i
+    old i h = get_or-append xs (y ∷ []) _ i (let c = w.count in omega arith)
 
-  pub loan-kept : (x : Loan) → loan_of s (kept x) ≡ loan_of s x
-  loan-kept x = rw (drop_min x.path.from.at)
+    new : (i : ℕ) → i ≡ n → loan_number (xs ++ (y ∷ [])) i ≡ y
+    new i h = get_or_at xs y [] _ i (let c = w.count in omega arith)
 
-  pub listed_more : {j : Job} {xs : List spec.Loan} {t t' : List ℕ} {n : ℕ} {x : Loan} {y : spec.Loan} → Listed s j xs t n → Put t n x t' → loan_of s x ≡ y → ShortestOf j y.path x.shortest → Listed s j (xs ++ (y ∷ [])) t' (n + 1)
-  listed_more {j} {xs} {t} {t'} {n} {x} {y} w put e z =
-      record {
-        count = let c = w.count in let l = length-append xs (y ∷ []) in omega arith;
-        same = λ i h. same i h (dec_lt i n);
-        shortest = λ i h. short-of i h (dec_lt i n);
-      }
-    where
-      old : (i : ℕ) → i < n → loan_number (xs ++ (y ∷ [])) i ≡ loan_number xs i
-      old i h = get_or-append xs (y ∷ []) _ i (let c = w.count in omega arith)
+    kept : (i : ℕ) → i < n → nth_loan (set t n x) i ≡ nth_loan t i
+    kept i h = get_or-set_other t n i x no_loan (λ k. omega arith)
 
-      new : (i : ℕ) → i ≡ n → loan_number (xs ++ (y ∷ [])) i ≡ y
-      new i h = get_or_at xs y [] _ i (let c = w.count in omega arith)
+    put : nth_loan (set t n x) n ≡ x
+    put = get_or-set_same t n x no_loan l
 
-      same : (i : ℕ) → i < n + 1 → Dec (i < n) → loan_of s (entry_of t' i) ≡ loan_number (xs ++ (y ∷ [])) i
-      same i h (yes l) = ap (loan_of s) (put.others i l) ∙ w.same i l ∙ sym (old i l)
-      same i h (no l) = let k : i ≡ n = omega arith in rw k (ap (loan_of s) put.there ∙ loan-kept x ∙ e ∙ sym (new n refl))
+    same : (i : ℕ) → i < n + 1 → Dec (i < n) → loan_of s (nth_loan (set t n x) i) ≡ loan_number (xs ++ (y ∷ [])) i
+    same i h (yes l) = ap (loan_of s) (kept i l) ∙ w.same i l ∙ sym (old i l)
+    same i h (no l) = let k : i ≡ n = omega arith in rw k (ap (loan_of s) put ∙ e ∙ sym (new n refl))
 
-      short-of : (i : ℕ) → i < n + 1 → Dec (i < n) → ShortestOf j (loan_number (xs ++ (y ∷ [])) i).path (entry_of t' i).shortest
-      short-of i h (yes l) = subst (λ (a : spec.Loan). ShortestOf j a.path (entry_of t' i).shortest) (sym (old i l)) (subst (λ (a : Loan). ShortestOf j (loan_number xs i).path a.shortest) (sym (put.others i l)) (w.shortest i l))
-      short-of i h (no l) = let k : i ≡ n = omega arith in rw k (subst (λ (a : spec.Loan). ShortestOf j a.path (entry_of t' n).shortest) (sym (new n refl)) (subst (λ (a : Loan). ShortestOf j y.path a.shortest) (sym put.there) z))
+    short-of : (i : ℕ) → i < n + 1 → Dec (i < n) → ShortestOf j (loan_number (xs ++ (y ∷ [])) i).path (nth_loan (set t n x) i).shortest
+    short-of i h (yes l) = rw (old i l, kept i l) (w.shortest i l)
+    short-of i h (no l) = let k : i ≡ n = omega arith in rw (k, new n refl, put) z
+
+-- ---- The loans that a table gives
+
+pub lent_at : (table : LoanTable) {lent : List Loan} → (lent ≡ take table.count table.loans) × (length lent ≡ min table.count 128) → (i : ℕ) → i < length lent → nth_loan lent i ≡ nth_loan table.loans i
+lent_at table e i l = ap (λ xs. nth_loan xs i) e.0 ∙ get_or-take table.count table.loans i no_loan (omega (arith, e.1))

@@ -1,3 +1,2 @@
--- The table of loans.
-pub mod Table
+-- The loans of a job.
 pub mod Loans

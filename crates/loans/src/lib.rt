@@ -1,13 +1,12 @@
 #![tactic(auto)]
-// The loans of a job, the borrows of its walked blocks in record order, in a lent table of numbers.
-ghost use Rattle.std.specs.Prelude.{◌≡◌, ◌<◌, ◌≤◌, ◌%◌, length, T};
+// The loans of a job, the borrows of its walked blocks in record order, in a lent table.
+ghost use Rattle.std.specs.Prelude.{◌≡◌, ◌<◌, ◌≤◌, min, length, take, T};
 ghost use Rattle.nll_spec.specs.Syntax.{Job};
 ghost use Rattle.nll_spec.specs.WellFormed.{named, paths_fit};
 ghost use Rattle.nll_spec.specs.Graph.{graph_of};
 ghost use Rattle.nll_spec.specs.Loans.{loans_of};
 ghost use Rattle.record.specs.Layout.{Holds};
 ghost use Rattle.graph.specs.Search.{WalkedIn};
-ghost use Rattle.loans.specs.Table.{place_of, number_of, kind_from, entry_of, Put};
 ghost use Rattle.loans.specs.Loans.{LoansAt, Lends};
 
 use env::Shortest;
@@ -25,10 +24,10 @@ pub struct Loan {
     pub shortest: Shortest,
 }
 
-// So many loans: loan i stands in eight numbers, from number 8 * i on.
+// So many loans, the first `count` of the array.
 #[derive(Clone, Copy)]
 pub struct LoanTable {
-    pub numbers: [u16; 1024],
+    pub loans: [Loan; 128],
     pub count: usize,
 }
 
@@ -37,103 +36,49 @@ impl LoanTable {
     pub fn none() -> LoanTable
         ensures { result.count ≡ 0 }
     {
+        let path = Path {
+            base: Variable(0),
+            steps: 0,
+            from: Cursor { at: 0 },
+        };
+        let shortest = Shortest {
+            supporting: 0,
+            frozen: 0,
+        };
+        let loan = Loan {
+            point: 0,
+            region: RegionName(0),
+            kind: BorrowKind::Mut,
+            path,
+            shortest,
+        };
         LoanTable {
-            numbers: [0; 1024],
+            loans: [loan; 128],
             count: 0,
         }
     }
 
-    // Loan i, which is loan 0 where the table has no loan i: its point, region, kind, path (base, steps, place) and shortest prefixes (supporting, frozen).
-    pub fn get(&self, i: usize) -> Loan
-        ensures { result ≡ entry_of self.now.numbers i }
+    // The loans that there are.
+    pub fn lent(&self) -> &[Loan]
+        ensures { (result.now ≡ take self.now.count self.now.loans) × (length result.now ≡ min self.now.count 128) }
     {
-        let at = place(i);
-        let from = Cursor {
-            at: usize::from(self.numbers[at + 5]),
-        };
-        let path = Path {
-            base: Variable(byte(self.numbers[at + 3])),
-            steps: byte(self.numbers[at + 4]),
-            from,
-        };
-        let shortest = Shortest {
-            supporting: byte(self.numbers[at + 6]),
-            frozen: byte(self.numbers[at + 7]),
-        };
-        Loan {
-            point: usize::from(self.numbers[at]),
-            region: RegionName(byte(self.numbers[at + 1])),
-            kind: kind_of(self.numbers[at + 2]),
-            path,
-            shortest,
-        }
+        &self.loans[..self.count.min(128)]
     }
 }
 
-fn byte(x: u16) -> u8
-    ensures { result ≡ x % 256 }
-{
-    (x % 256) as u8
-}
-
-fn kind_number(kind: BorrowKind) -> u16
-    ensures { result ≡ number_of kind }
-{
-    kind as u16
-}
-
-fn kind_of(x: u16) -> BorrowKind
-    ensures { result ≡ kind_from x }
-{
-    if x == 0 {
-        BorrowKind::Mut
-    } else {
-        BorrowKind::Shared
-    }
-}
-
-// Where loan i begins; that is loan 0 where the table has no loan i.
-fn place(i: usize) -> usize
-    ensures { (result ≡ place_of i) × (result ≤ 1016) }
-{
-    if i < 128 { 8 * i } else { 0 }
-}
-
-// Puts loan i into the table. No record is so long that the greatest place stands for another.
-fn put(numbers: &mut [u16; 1024], i: usize, loan: Loan)
-    requires { (i < 128) × (loan.point < 1024) }
-    ensures { Put numbers.old i loan numbers.new }
-{
-    let at = 8 * i;
-    numbers[at] = loan.point as u16;
-    numbers[at + 1] = u16::from(loan.region.0);
-    numbers[at + 2] = kind_number(loan.kind);
-    numbers[at + 3] = u16::from(loan.path.base.0);
-    numbers[at + 4] = u16::from(loan.path.steps);
-    numbers[at + 5] = loan.path.from.at.min(65535) as u16;
-    numbers[at + 6] = u16::from(loan.shortest.supporting);
-    numbers[at + 7] = u16::from(loan.shortest.frozen);
-}
-
-// Puts the loan of point p, if it is a borrow that is walked, after the n that are there. Returns how many there are then.
-fn lend(
-    input: &Record<'_>,
-    walked: &[u32; 32],
-    p: usize,
-    n: usize,
-    numbers: &mut [u16; 1024],
-) -> usize
-    requires { (p < 1024) × (n ≤ 128) }
-    ensures { Lends input.now walked.now p n numbers.old numbers.new result }
+// Puts the loan of point p into the table, if it is a borrow that is walked, after those that are there.
+fn lend(input: &Record<'_>, walked: &[u32; 32], p: usize, lent: &mut LoanTable)
+    requires { (p < 1024) × (lent.old.count ≤ 128) }
+    ensures { Lends input.now walked.now p lent.old lent.new }
 {
     if !bit_set::test(walked, 0, p) {
-        return n;
+        return;
     }
     if input.tag_at(p) != BORROW {
-        return n;
+        return;
     }
     let Ok((a, _)) = input.action_at(p) else {
-        return n;
+        return;
     };
     let Action::Borrow {
         dest: _,
@@ -142,30 +87,29 @@ fn lend(
         source,
     } = a
     else {
-        return n;
+        return;
     };
+    let n = lent.count;
     if n == 128 {
-        return n;
+        return;
     }
-    let loan = Loan {
+    lent.loans[n] = Loan {
         point: p,
         region,
         kind,
         path: source,
         shortest: shortest_of(input, source),
     };
-    put(numbers, n, loan);
-    n + 1
+    lent.count = n + 1;
 }
 
 // Puts the loans of a job into the table.
 pub fn loans(input: &Record<'_>, walked: &[u32; 32], lent: &mut LoanTable)
-    ensures { (j : Job) → Holds input.now j → T (named j) → T (paths_fit j) → WalkedIn j walked.now → length (loans_of (graph_of j)) ≤ 128 → LoansAt input.now.bytes.now j lent.new.numbers lent.new.count }
+    ensures { (j : Job) → Holds input.now j → T (named j) → T (paths_fit j) → WalkedIn j walked.now → length (loans_of (graph_of j)) ≤ 128 → LoansAt input.now.bytes.now j lent.new.loans lent.new.count }
 {
+    lent.count = 0;
     let code = usize::from(input.head.code).min(1024);
-    let mut n = 0;
     for p in 0..code {
-        n = lend(input, walked, p, n, &mut lent.numbers);
+        lend(input, walked, p, lent);
     }
-    lent.count = n;
 }

@@ -1,12 +1,9 @@
 -- The loans that may pass a point, and the three tables together. Assumes nothing.
-use mathlib.Core.Path.{◌≡◌, refl, sym, ap, ap₂, ◌∙◌, subst}
-use mathlib.Core.Logic.{◌⊎◌, inl, inr}
-use mathlib.Core.Bool.{Bool, true, false, not, ◌&&◌, true≢false}
+use mathlib.Core.Path.{◌≡◌, sym, ap, ap₂, ◌∙◌, subst}
+use mathlib.Core.Bool.{Bool, true, false, not, ◌&&◌}
 use mathlib.Core.List.{List}
 use Prim.Native.Nat.{ℕ, ◌+◌, ◌*◌, ◌≤◌, ◌<◌}
 use native.Mathlib.Omega.{arith}
-use native.Mathlib.Decide.{dec_lt}
-use borrow.Author.Tests.{not-true}
 use Rattle.nll_spec.specs.Fixpoint.{Table}
 use Rattle.nll_spec.specs.Syntax as syntax
 use Rattle.nll_spec.specs.Syntax.{Job, Point}
@@ -16,19 +13,15 @@ use Rattle.nll_spec.specs.Loans.{overwritten}
 use Rattle.nll_spec.specs.Loans as loans
 use Rattle.nll_spec.specs.Output.{word_bits}
 use Rattle.bit_set.specs.Bits.{has}
-use Rattle.bit_set.proofs.RunLaws.{and_true_left}
-use Rattle.bit_slice.specs.Some.{SomeSet}
 use Rattle.repr.specs.declared.Path.{Path}
 use Rattle.record.specs.Layout.{Holds}
-use Rattle.std.specs.Prelude.{Option, None}
-use Rattle.flow.specs.Flows.{bit_at}
-use Rattle.loans.specs.Loans.{loan_of}
-use Rattle.loans.specs.Table.{entry_of}
+use Rattle.std.specs.Prelude.{Option}
+use Rattle.loans.specs.Loans.{nth_loan, loan_of}
 use Rattle.loans.specs.declared.Loan.{Loan}
-use Rattle.loans_in_scope.specs.Gains.{Gains, tables, Empty, Cell, If, Below, Within, Onto}
+use Rattle.loans_in_scope.specs.Gains.{Gains, tables, Empty, Cell, If, Below}
 use Rattle.loans_in_scope.specs.Scope.{paths_of, killed, inside_of, loan_in, given_to, RegionsTo, starts, keeps, KeptOf, Begun, Kept, PointsFilled, job_bits}
 use Rattle.loans_in_scope.specs.declared.Setup.{Setup}
-use Rattle.loans_in_scope.proofs.GainsLaws.{gains_none, gains_few, on_as, cells_none, cells_more, points_none, points-more, filled-has}
+use Rattle.loans_in_scope.proofs.GainsLaws.{on_as, cells_more, points-more, filled-has}
 use Rattle.loans_in_scope.proofs.LoanLaws.{inside_is}
 
 -- ---- One loan
@@ -37,7 +30,7 @@ module _ (v : Setup) (region : List ℕ) (ds : List syntax.Path) (p i : ℕ) {b 
   pub keep_not : b ≡ false → kept ≡ b → (j : Job) → kept ≡ keeps j v region ds p i
   keep_not n k j = k ∙ n ∙ sym (ap (λ (c : Bool). c && not (killed j ds (loan_in v i))) (sym e ∙ n))
 
-  pub keep_yes : {x : Loan} {dead : Bool} → b ≡ true → x ≡ entry_of v.loans.now.numbers i → ((j : Job) → dead ≡ killed j ds (loan_of v.input.now.bytes.now x)) → kept ≡ not dead
+  pub keep_yes : {x : Loan} {dead : Bool} → b ≡ true → x ≡ nth_loan v.loans.now.loans i → ((j : Job) → dead ≡ killed j ds (loan_of v.input.now.bytes.now x)) → kept ≡ not dead
       → (j : Job) → kept ≡ keeps j v region ds p i
   keep_yes y is kill k j =
       k ∙ ap not (kill j ∙ ap (λ (z : Loan). killed j ds (loan_of v.input.now.bytes.now z)) is)
@@ -46,9 +39,6 @@ module _ (v : Setup) (region : List ℕ) (ds : List syntax.Path) (p i : ℕ) {b 
 -- ---- Each loan
 
 module _ (v : Setup) (region : List ℕ) (ds : List syntax.Path) (p : ℕ) {ws : List ℕ} where
-  pub each_none : (j : Job) → Gains (KeptOf j v region ds p 0) ws ws
-  each_none j = cells_none (keeps j v region ds) ws p
-
   pub each_more : {a b : List ℕ} (i : ℕ) {kept : Bool} → ((j : Job) → Gains (KeptOf j v region ds p i) ws a) → ((j : Job) → kept ≡ keeps j v region ds p i) → Gains (If (Cell p i) kept) a b
       → (j : Job) → Gains (KeptOf j v region ds p (i + 1)) ws b
   each_more i a e b j =
@@ -57,30 +47,9 @@ module _ (v : Setup) (region : List ℕ) (ds : List syntax.Path) (p : ℕ) {ws :
 -- ---- One point
 
 module _ (v : Setup) (region : List ℕ) (p : Point) {ws : List ℕ} where
-  -- no region has the point
-  pub kept-none : {b : Bool} → v.loans.now.count ≤ 128 → SomeSet region (4 * p) 4 b → not b ≡ true → Kept v region p ws ws
-  kept-none {b} l x n =
-      record { bits = λ j o m. gains_none ws (λ q i e. true≢false (sym (and_true_left _ _ e.1) ∙ ap (λ (y : ℕ). has region (bit_at y i)) e.0.0 ∙ x.none (not-true b n) i (omega (arith, e.0.1)))) }
-
   module _ (d : Option Path) (over : (j : Job) → Holds v.input.now j → p < code_count j.blocks → paths_of v.input.now.bytes.now d ≡ overwritten (action_at (graph_of j) p)) where
     pub kept_each : {ws' : List ℕ} → ((j : Job) → Gains (KeptOf j v region (paths_of v.input.now.bytes.now d) p v.loans.now.count) ws ws') → Kept v region p ws ws'
     kept_each {ws'} a = record { bits = λ j o m. subst (λ (ds : List syntax.Path). Gains (KeptOf j v region ds p v.loans.now.count) ws ws') (over j o m) (a j) }
-
-    -- nothing is overwritten, so that no loan is killed
-    pub kept_row : {ws' : List ℕ} → d ≡ None → Within v.loans.now.count region → Gains (Onto region (p + 1) p p) ws ws' → Kept v region p ws ws'
-    kept_row {ws'} e w a = kept_each (λ j. gains_few a (λ q i l x. ((x.1, few i l x.2 (dec_lt i v.loans.now.count)), same j q i x.1 ∙ x.2)) (λ q i l x. (omega arith, x.0.0, sym (same j q i x.0.0) ∙ x.1)))
-      where
-        and_yes : (b : Bool) → (b && not false) ≡ b
-        and_yes true = refl
-        and_yes false = refl
-
-        same : (j : Job) (q i : ℕ) → q ≡ p → keeps j v region (paths_of v.input.now.bytes.now d) q i ≡ has region (bit_at p i)
-        same j q i m =
-            ap (λ (z : Option Path). keeps j v region (paths_of v.input.now.bytes.now z) q i) e ∙ and_yes (has region (bit_at q i)) ∙ ap (λ (y : ℕ). has region (bit_at y i)) m
-
-        few : (i : ℕ) → i < 128 → has region (bit_at p i) ≡ true → Dec (i < v.loans.now.count) → i < v.loans.now.count
-        few i l h (yes m) = m
-        few i l h (no m) = absurd (true≢false (sym h ∙ w.none p i (omega (arith, m)) l))
 
 -- ---- Each point
 
@@ -90,9 +59,6 @@ pub record KeptTo (v : Setup) (region : List ℕ) (n : ℕ) (ws ws' : List ℕ) 
       → Gains (λ p i. Below n v.loans.now.count p i × (keeps j v region (overwritten (action_at (graph_of j) p)) p i ≡ true)) ws ws'
 
 module _ (v : Setup) (region : List ℕ) {ws : List ℕ} where
-  pub kept_to_none : KeptTo v region 0 ws ws
-  kept_to_none = record { bits = λ j o m. points_none _ ws v.loans.now.count }
-
   pub kept_to_more : {a b : List ℕ} (p : ℕ) → KeptTo v region p ws a → Kept v region p a b → KeptTo v region (p + 1) ws b
   kept_to_more p a b = record {
     bits = λ j o m.
@@ -101,18 +67,6 @@ module _ (v : Setup) (region : List ℕ) {ws : List ℕ} where
   }
 
 -- ---- The tables
-
-pub within : {F : Point → ℕ → Type 0} {none region : List ℕ} (count : ℕ) → ((p : Point) (i : ℕ) → F p i → i < count) → ((p : Point) (i : ℕ) → i < 128 → has none (bit_at p i) ≡ false) → Gains F none region
-    → Within count region
-within {F} {none} {region} count below empty a = record { none = λ p i l m. go p i l m (has region (bit_at p i)) refl }
-  where
-    from : (p i : ℕ) → count ≤ i → i < 128 → (has none (bit_at p i) ≡ true) ⊎ F p i → ⊥
-    from p i l m (inl e) = true≢false (sym e ∙ empty p i m)
-    from p i l m (inr e) = omega (arith, below p i e)
-
-    go : (p i : ℕ) → count ≤ i → i < 128 → (b : Bool) → has region (bit_at p i) ≡ b → b ≡ false
-    go p i l m true e = absurd (from p i l m (a.only p i m e))
-    go p i l m false e = refl
 
 module _ {v : Setup} {start₀ pass₀ region₀ start pass region : List ℕ} (empty : Empty (tables start₀ pass₀ region₀)) (few : v.loans.now.count ≤ 128) where
   pub all-filled : Begun v v.loans.now.count start₀ start → Gains (RegionsTo v v.loans.now.count) region₀ region → KeptTo v region v.code pass₀ pass

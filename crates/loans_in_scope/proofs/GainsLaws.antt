@@ -6,10 +6,8 @@ use mathlib.Core.List.{List}
 use Prim.Native.Nat.{ℕ, ◌+◌, ◌-◌, ◌*◌, ◌/◌, ◌%◌, ◌^◌, ◌≤◌, ◌<◌}
 use native.Mathlib.Omega.{arith}
 use native.Mathlib.Decide.{ℕ_discrete, dec_lt}
-use lib.ListN.{length, get_or, set, length-set}
-use lib.Seq.{get_or-set_same, get_or-set_other}
+use lib.ListN.{length, get_or}
 use lib.Dec.{eqb}
-use lib.Bits.{bit_and}
 use Rattle.nll_spec.specs.Syntax.{Point}
 use Rattle.nll_spec.specs.Output.{word_bits}
 use Rattle.bit_set.specs.Bits.{has, with_bit, joined}
@@ -52,14 +50,6 @@ gains_then {F} {G} {H} {ws} {u} {x} a b f g h =
 pub gains_as : {F G : Point → ℕ → Type 0} {ws u : List ℕ} → Gains F ws u → ((p : Point) (i : ℕ) → F p i → G p i) → ((p : Point) (i : ℕ) → G p i → F p i) → Gains G ws u
 gains_as a f g = gains_then a (gains_none _ (λ p i (x : ⊥). x)) f (λ p i x. absurd x) (λ p i x. inl (g p i x))
 
--- the same where the numbers of a set are known
-pub gains_few : {F G : Point → ℕ → Type 0} {ws u : List ℕ} → Gains F ws u → ((p : Point) (i : ℕ) → i < 128 → F p i → G p i) → ((p : Point) (i : ℕ) → i < 128 → G p i → F p i) → Gains G ws u
-gains_few {F} {G} {ws} a f g = record { as_long = a.as_long; old = a.old; new = λ p i l e. a.new p i l (g p i l e); only = λ p i l e. only p i l (a.only p i l e) }
-  where
-    only : (p : Point) (i : ℕ) → i < 128 → (has ws (bit_at p i) ≡ true) ⊎ F p i → (has ws (bit_at p i) ≡ true) ⊎ G p i
-    only p i l (inl e) = inl e
-    only p i l (inr e) = inr (f p i l e)
-
 -- ---- One number
 
 places : (p q i k : ℕ) → i < 128 → k < 128 → bit_at q k ≡ bit_at p i → (q ≡ p) × (k ≡ i)
@@ -86,9 +76,6 @@ module _ (ws : List ℕ) (p i : ℕ) {comes : Bool} where
       only q k n h (yes e) = inr (places p q i k m n e, c)
       only q k n h (no e) = inl (sym (has_with_other ws (bit_at p i) (bit_at q k) e) ∙ h)
 
-  pub gains_not : comes ≡ false → Gains (If (Cell p i) comes) ws ws
-  gains_not c = gains_none ws (λ q k e. true≢false (sym e.1 ∙ c))
-
 -- ---- Numbers at some places
 
 -- the places of D that pass a test
@@ -110,9 +97,6 @@ pub on_as : {D E : Point → ℕ → Type 0} {f g : Point → ℕ → Bool} {ws 
 on_as x d e s = gains_as x (λ p i k. (d p i k.0, sym (s p i k.0) ∙ k.1)) (λ p i k. (e p i k.0, s p i (e p i k.0) ∙ k.1))
 
 module _ (f : Point → ℕ → Bool) (ws : List ℕ) where
-  pub cells_none : (p : ℕ) → Gains (On (Cells p 0) f) ws ws
-  cells_none p = gains_none ws (λ q k e. absurd (omega (arith, e.0.1)))
-
   pub cells_more : {u v : List ℕ} (p i : ℕ) → Gains (On (Cells p i) f) ws u → Gains (On (Cell p i) f) u v → Gains (On (Cells p (i + 1)) f) ws v
   cells_more p i a b = on_then a b (λ q k e. (e.0, omega (arith, e.1))) (λ q k e. (e.0, omega (arith, e.1))) (λ q k e. go q k e (ℕ_discrete k i))
     where
@@ -120,18 +104,12 @@ module _ (f : Point → ℕ → Bool) (ws : List ℕ) where
       go q k e (yes n) = inr (e.0, n)
       go q k e (no n) = inl (e.0, omega (arith, n, e.1))
 
-  pub points_none : (n : ℕ) → Gains (On (Below 0 n) f) ws ws
-  points_none n = gains_none ws (λ q k e. absurd (omega (arith, e.0.0)))
-
   pub points-more : {u v : List ℕ} (n p : ℕ) → Gains (On (Below p n) f) ws u → Gains (On (Cells p n) f) u v → Gains (On (Below (p + 1) n) f) ws v
   points-more n p a b = on_then a b (λ q k e. (omega (arith, e.0), e.1)) (λ q k e. (omega (arith, e.0), e.1)) (λ q k e. go q k e (ℕ_discrete q p))
     where
       go : (q k : ℕ) → Below (p + 1) n q k → Dec (q ≡ p) → Below p n q k ⊎ Cells p n q k
       go q k e (yes m) = inr (m, e.1)
       go q k e (no m) = inl (omega (arith, m, e.0), e.1)
-
-  pub columns_none : (n : ℕ) → Gains (On (Below n 0) f) ws ws
-  columns_none n = gains_none ws (λ q k e. absurd (omega (arith, e.0.1)))
 
   pub columns_more : {u v : List ℕ} (n i : ℕ) → Gains (On (Below n i) f) ws u → Gains (On (Column n i) f) u v → Gains (On (Below n (i + 1)) f) ws v
   columns_more n i a b = on_then a b (λ q k e. (e.0, omega (arith, e.1))) (λ q k e. (e.0, omega (arith, e.1))) (λ q k e. go q k e (ℕ_discrete k i))
@@ -158,9 +136,6 @@ module _ {f : Point → ℕ → Bool} {code count : ℕ} {none ws : List ℕ} (e
 -- ---- The bits of a word
 
 module _ (w from i : ℕ) (ws : List ℕ) where
-  pub word_none : Gains (WordTo w from from i) ws ws
-  word_none = gains_none ws (λ p k e. absurd (omega (arith, e.1, e.2)))
-
   module _ {p rest : ℕ} (l : from ≤ p) (r : rest ≡ w / 2 ^ (p - from)) where
     pub word_more : {u v : List ℕ} → Gains (WordTo w from p i) ws u → Gains (If (Cell p i) (eqb (rest % 2) 1)) u v → Gains (WordTo w from (p + 1) i) ws v
     word_more a b =
@@ -184,9 +159,6 @@ module _ (w from i : ℕ) (ws : List ℕ) where
         below : (q : ℕ) {k : ℕ} (e : WordTo w from to i q k) → Dec (q < p) → q < p
         below q e (yes n) = n
         below q e (no n) = absurd (true≢false (sym e.3 ∙ shift_done w from l r z q (omega (arith, n))))
-
-  pub word_all : {u : List ℕ} {p : ℕ} (to : ℕ) → p ≤ to → to ≤ p → Gains (WordTo w from p i) ws u → Gains (WordTo w from to i) ws u
-  word_all {u} {p} to m n a = let e : p ≡ to = omega arith in subst (λ (x : ℕ). Gains (WordTo w from x i) ws u) e a
 
 -- ---- Numbers that go to the points that follow
 
@@ -226,15 +198,8 @@ module _ (ws from : List ℕ) (code p q : ℕ) where
       only x i n h (no e) = inl (sym (other x i n e) ∙ h)
       only x i n h (yes e) = found x i e (either (has ws (bit_at q i)) (has from (bit_at p i)) (sym (here i n) ∙ rw e at h))
 
--- a number that is no point of a block
-pub gains_out : (ws from : List ℕ) (code p q : ℕ) → code ≤ q → Gains (Onto from code p q) ws ws
-gains_out ws from code p q h = gains_none ws (λ x i e. omega (arith, e.0))
-
 module _ (from : List ℕ) (code : ℕ) (first succ ws : List ℕ) where
   module _ (p : ℕ) where
-    pub leaving_none : Gains (Leaving from code first succ p (row_start first p + 0)) ws ws
-    leaving_none = gains_none ws (λ x i k. omega (arith, k.1, k.2))
-
     -- what goes to the point that is number n of the list
     pub leaving_more : {u v ss : List ℕ} (n : ℕ) → ss ≡ successors first succ p → n < length ss → Gains (Leaving from code first succ p (row_start first p + n)) ws u
         → Gains (Onto from code p (get_or ss n 0)) u v → Gains (Leaving from code first succ p (row_start first p + (n + 1))) ws v
@@ -257,9 +222,6 @@ module _ (from : List ℕ) (code : ℕ) (first succ ws : List ℕ) where
     pub leaving_all : {u : List ℕ} (n : ℕ) → n ≡ up_to (row_end first p) - row_start first p → Gains (Leaving from code first succ p (row_start first p + n)) ws u → Gains (Row from code first succ p) ws u
     leaving_all n e a = gains_as a (λ x i k. (k.0, k.1, omega (arith, e, k.1, k.2), k.3)) (λ x i k. (k.0, k.1, omega (arith, e, k.1, k.2), k.3))
 
-  pub rows_none : Gains (Rows from code first succ 0) ws ws
-  rows_none = gains_none ws (λ x i e. absurd (omega (arith, e.1)))
-
   pub rows_more : {u v : List ℕ} (p : ℕ) → Gains (Rows from code first succ p) ws u → Gains (Row from code first succ p) u v → Gains (Rows from code first succ (p + 1)) ws v
   rows_more p a b = gains_then a b (λ x i e. (e.0, omega (arith, e.1), e.2)) (λ x i e. (p, omega arith, e)) (λ x i e. go x i e (ℕ_discrete e.0 p))
     where
@@ -267,30 +229,9 @@ module _ (from : List ℕ) (code : ℕ) (first succ ws : List ℕ) where
       go x i e (yes n) = inr (subst (λ (z : ℕ). Row from code first succ z x i) n e.2)
       go x i e (no n) = inl (e.0, omega (arith, n, e.1), e.2)
 
-  pub rows_all : {u : List ℕ} (p : ℕ) → p ≤ code → code ≤ p → Gains (Rows from code first succ p) ws u → Gains (Rows from code first succ code) ws u
-  rows_all {u} p a c x = let e : p ≡ code = omega arith in subst (λ (n : ℕ). Gains (Rows from code first succ n) ws u) e x
-
 -- ---- The words of a set cut down to those of another
 
 module _ (by ws : List ℕ) where
-  pub masked_none : Masked by ws 0 ws
-  masked_none = record { as_long = refl; done = λ w l. absurd (omega arith); left = λ w l. refl }
-
-  pub masked_more : {u : List ℕ} (w : ℕ) {x : ℕ} → Masked by ws w u → w < length u → x ≡ bit_and (get_or u w 0) (get_or by w 0) → Masked by ws (w + 1) (set u w x)
-  masked_more {u} w {x} a l e =
-      record {
-        as_long = length-set u w x ∙ a.as_long;
-        done = λ v m. done v m (ℕ_discrete v w);
-        left = λ v m. get_or-set_other u w v x 0 (omega arith) ∙ a.left v (omega arith);
-      }
-    where
-      done : (v : ℕ) → v < w + 1 → Dec (v ≡ w) → get_or (set u w x) v 0 ≡ bit_and (get_or ws v 0) (get_or by v 0)
-      done v m (yes k) = rw k (get_or-set_same u w x 0 l ∙ e ∙ ap (λ (y : ℕ). bit_and y (get_or by w 0)) (a.left w (omega arith)))
-      done v m (no k) = get_or-set_other u w v x 0 k ∙ a.done v (omega (arith, k))
-
-  pub masked_all : {u : List ℕ} (w n : ℕ) → w ≤ n → n ≤ w → Masked by ws w u → Masked by ws n u
-  masked_all {u} w n a c x = let e : w ≡ n = omega arith in subst (λ (m : ℕ). Masked by ws m u) e x
-
   pub masked_has : {u : List ℕ} {n : ℕ} → Masked by ws n u → (p i : ℕ) → 4 * p + 4 ≤ n → i < 128 → has u (bit_at p i) ≡ (has ws (bit_at p i) && has by (bit_at p i))
   masked_has {u} {n} a p i l m =
       let z : word_bits * (4 * p + i / word_bits) + i % word_bits ≡ bit_at p i = omega arith in

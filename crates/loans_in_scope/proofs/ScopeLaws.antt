@@ -5,7 +5,7 @@ use mathlib.Core.Bool.{Bool, true, not, ◌&&◌, true≢false}
 use mathlib.Core.List.{List}
 use Prim.Native.Nat.{ℕ, ◌+◌, ◌*◌, ◌<◌, ◌≤◌}
 use native.Mathlib.Omega.{arith}
-use lib.ListN.{length, replicate, length-replicate}
+use lib.ListN.{length, replicate}
 use lib.Dec.{T, eqb}
 use Rattle.nll_spec.specs.Fixpoint.{Table, holds}
 use Rattle.nll_spec.specs.Syntax.{Job, Point}
@@ -20,13 +20,12 @@ use Rattle.bit_set.specs.Bits.{has, cleared}
 use Rattle.bit_set.proofs.BitLaws.{has-zeros}
 use Rattle.bit_set.proofs.RunLaws.{and_true_left, and_true_right}
 use Rattle.bit_set.proofs.SetLaws.{has-cleared}
-use Rattle.record.specs.declared.Record.{Record}
 use Rattle.graph.specs.Tables.{Edges}
 use Rattle.flow.specs.Flows.{bit_at, FlowSays}
 use Rattle.flow.specs.declared.Direction.TheVariants.{Forward}
 use Rattle.graph.proofs.EntryLaws.{edge_next, next_edge}
-use Rattle.loans_in_scope.specs.Gains.{Gains, Tables, tables, Sized, Empty, Filled, Below, Rows, Masked}
-use Rattle.loans_in_scope.specs.Scope.{killed, job_bits, Given, given_to, PointsFilled, ScopeSays, says_of}
+use Rattle.loans_in_scope.specs.Gains.{Gains, Tables, tables, Empty, Filled, Below, Rows, Masked}
+use Rattle.loans_in_scope.specs.Scope.{killed, job_bits, given_to, PointsFilled, says_of}
 use Rattle.loans_in_scope.specs.declared.Setup.{Setup}
 use Rattle.loans_in_scope.proofs.GainsLaws.{filled-has, masked_has}
 use Rattle.loans_in_scope.proofs.LoanLaws.{successors-of}
@@ -38,9 +37,6 @@ use Rattle.loans_in_scope.proofs.PathLaws.{scope_to, to_scope, scope_same}
 abbrev zeros : ℕ → Tables
 zeros n = tables (replicate n 0) (replicate n 0) (replicate n 0)
 
-pub zeros-sized : (n code : ℕ) → 4 * code ≤ n → Sized code (zeros n)
-zeros-sized n code l = let e = length-replicate {A = ℕ} n 0 in record { start = omega (arith, e); pass = omega (arith, e); region = omega (arith, e) }
-
 pub zeros_empty : (n : ℕ) → Empty (zeros n)
 zeros_empty n = record { start = λ p i l. has-zeros n (bit_at p i); pass = λ p i l. has-zeros n (bit_at p i); region = λ p i l. has-zeros n (bit_at p i) }
 
@@ -49,14 +45,6 @@ zeros_empty n = record { start = λ p i l. has-zeros n (bit_at p i); pass = λ p
 killed-is : (j : Job) (p : Point) (loan : loans.Loan) → kills j (action_at (graph_of j) p) loan ≡ killed j (overwritten (action_at (graph_of j) p)) loan
 unfolding kills
 killed-is j p loan = refl
-
-module _ {input : Record} {first succ words : List ℕ} {width : ℕ} {table : List ℕ} {count : ℕ} where
-  pub says_none : {scope : List ℕ} → ((j : Job) (sets : Table) → Given input words width table count j sets → ⊥) → ScopeSays input first succ words width table count scope
-  says_none n = record { bits = λ j sets g e p i l m. absurd (n j sets g) }
-
-  -- no loan, so that nothing is said of the words
-  pub says_empty : {scope : List ℕ} → count ≡ 0 → ScopeSays input first succ words width table count scope
-  says_empty n = record { bits = λ j sets g e p i l m. absurd (omega arith) }
 
 module _ {v : Setup} (is_code : v.code ≡ v.input.now.head.code) {blank : Tables} {start pass region leaves none u scope : List ℕ} (blanks : Empty blank) (filled : PointsFilled v blank (tables start pass region))
     (flows : (g : Graph) → Edges g v.graph.now.first v.graph.now.succ → v.code ≡ g.code → FlowSays g Forward pass start leaves) (ws : List ℕ) (size : 4 * v.code ≤ length ws) (empty : none ≡ cleared ws 0 (4 * v.code))

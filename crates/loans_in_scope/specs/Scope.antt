@@ -21,8 +21,7 @@ use Rattle.record.specs.Layout.{Holds}
 use Rattle.record.specs.declared.Record.{Record}
 use Rattle.graph.specs.Tables.{Edges}
 use Rattle.flow.specs.Flows.{bit_at}
-use Rattle.loans.specs.Loans.{loan_of, LoansAt}
-use Rattle.loans.specs.Table.{entry_of}
+use Rattle.loans.specs.Loans.{nth_loan, loan_of, LoansAt}
 use Rattle.loans.specs.declared.Loan.{Loan}
 use Rattle.loans_in_scope.specs.Gains.{Bits, Tables, Gains, Filled, Cells, Column, Below}
 use Rattle.loans_in_scope.specs.declared.Setup.{Setup}
@@ -72,18 +71,18 @@ job_bits j sets p i =
 -- ---- What is handed over
 
 -- A job of the record, its loans, and the regions' sets in so many words each.
-pub record Given (input : Record) (words : List ℕ) (width : ℕ) (table : List ℕ) (count : ℕ) (j : Job) (sets : Table) : Type 0 where
+pub record Given (input : Record) (words : List ℕ) (width : ℕ) (lent : List Loan) (count : ℕ) (j : Job) (sets : Table) : Type 0 where
   pub layout : Holds input j
   pub names : T (named j)
-  pub loans : LoansAt input.bytes.now j table count
+  pub loans : LoansAt input.bytes.now j lent count
   pub rows : length sets ≡ j.regions
   pub says : Says width sets words
   pub narrow : width ≤ 32
   pub room : point_count j ≤ word_bits * width
 
 -- The words have the loans in scope: loan i at point p is number i of the four words from 4 * p on.
-pub record ScopeSays (input : Record) (first succ words : List ℕ) (width : ℕ) (table : List ℕ) (count : ℕ) (scope : List ℕ) : Type 0 where
-  pub bits : (j : Job) (sets : Table) → Given input words width table count j sets → Edges (graph_of j) first succ → (p : Point) (i : ℕ) → p < code_count j.blocks → i < count
+pub record ScopeSays (input : Record) (first succ words : List ℕ) (width : ℕ) (lent : List Loan) (count : ℕ) (scope : List ℕ) : Type 0 where
+  pub bits : (j : Job) (sets : Table) → Given input words width lent count j sets → Edges (graph_of j) first succ → (p : Point) (i : ℕ) → p < code_count j.blocks → i < count
       → has scope (word_bits * (4 * p) + i) ≡ holds (scope_table j (graph_of j) sets (loans_of (graph_of j))) i p
 
 -- ---- The same of what the loans in scope are computed from
@@ -92,14 +91,14 @@ abbrev pub Small : Setup → Type 0
 Small u = (u.width ≤ 32) × (u.loans.now.count ≤ 128) × (u.code ≤ 1024)
 
 abbrev pub given_to : Setup → Job → Table → Type 0
-given_to u j sets = Given u.input.now u.words.now u.width u.loans.now.numbers u.loans.now.count j sets
+given_to u j sets = Given u.input.now u.words.now u.width u.loans.now.loans u.loans.now.count j sets
 
 abbrev pub says_of : Setup → List ℕ → Type 0
-says_of u scope = ScopeSays u.input.now u.graph.now.first u.graph.now.succ u.words.now u.width u.loans.now.numbers u.loans.now.count scope
+says_of u scope = ScopeSays u.input.now u.graph.now.first u.graph.now.succ u.words.now u.width u.loans.now.loans u.loans.now.count scope
 
 -- loan i, as `nll_spec` has it
 abbrev pub loan_in : Setup → ℕ → loans.Loan
-loan_in u i = loan_of u.input.now.bytes.now (entry_of u.loans.now.numbers i)
+loan_in u i = loan_of u.input.now.bytes.now (nth_loan u.loans.now.loans i)
 
 -- number i of the points that region r has
 abbrev pub RegionTo : Setup → ℕ → ℕ → Point → ℕ → Type 0

@@ -170,8 +170,7 @@ impl<'a> Setup<'a> {
         ensures { Begun self.now self.now.loans.now.count start.old start.new
             × Gains (RegionsTo self.now self.now.loans.now.count) region.old region.new }
     {
-        for i in 0..self.loans.count {
-            let loan = self.loans.get(i);
+        for (i, &loan) in self.loans.lent().iter().enumerate() {
             self.begin(loan, i, start);
             self.put_region(loan.region, i, region);
         }
@@ -182,9 +181,8 @@ impl<'a> Setup<'a> {
         requires { Small self.now × (p < 1024) × (4 * p + 4 ≤ length pass.old) }
         ensures { (j : Job) → Gains (KeptOf j self.now region.now (paths_of self.now.input.now.bytes.now d) p self.now.loans.now.count) pass.old pass.new }
     {
-        for i in 0..self.loans.count {
-            let kept = bit_set::test(region, 4 * p, i)
-                && !is_killed(self.input.bytes, d, self.loans.get(i));
+        for (i, &loan) in self.loans.lent().iter().enumerate() {
+            let kept = bit_set::test(region, 4 * p, i) && !is_killed(self.input.bytes, d, loan);
             put(pass, p, i, kept);
         }
     }
@@ -263,7 +261,7 @@ pub fn loans_in_scope(
     scope: &mut [u32],
 )
     ensures { 4 * input.now.head.code ≤ length scope.old
-        → ScopeSays input.now graph.now.first graph.now.succ words.now width loans.now.numbers loans.now.count scope.new }
+        → ScopeSays input.now graph.now.first graph.now.succ words.now width loans.now.loans loans.now.count scope.new }
 {
     let code = usize::from(input.head.code);
     if code > 1024 || width > 32 || loans.count > 128 {

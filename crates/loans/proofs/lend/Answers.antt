@@ -1,6 +1,6 @@
 -- `loans::lend` meets its contract. Assumes nothing.
 use Rattle.std.proofs.Common.{rules}
-use Rattle.loans.proofs.LendLaws.{lends_unwalked, lends-tagged, lends-refused, lends_other, lends_full, lends-more}
+use Rattle.loans.proofs.LendLaws.{lends_unwalked, lends-tagged, lends_other, lends_full, lends-more}
 use Rattle.loans.proofs.lend.Goals as goal
 
 pub returns-then-not-test : goal.returns-then-not-test
@@ -9,9 +9,6 @@ returns-then-not-test c = lends_unwalked _ (search rules) c.requires.1 c.require
 pub returns-then-tag_at-ne-BORROW : goal.returns-then-tag_at-ne-BORROW
 returns-then-tag_at-ne-BORROW c = lends-tagged _ (search rules) c.requires.1 c.requires.0 c.test.ensures c.if-not-test.false c.tag_at.ensures c.if-tag_at-ne-BORROW.true
 
-pub returns-in_default : goal.returns-in_default
-returns-in_default c = lends-refused _ (search rules) c.requires.1 c.requires.0 c.test.ensures c.if-not-test.false c.action_at.ensures c.in_default.is
-
 pub returns-in_default-a : goal.returns-in_default-a
 returns-in_default-a c = lends_other _ (search rules) c.requires.1 c.requires.0 c.test.ensures c.if-not-test.false c.action_at.ensures c.in-Ok.is c.in_default-a.not-Borrow
 
@@ -19,4 +16,4 @@ pub returns-then-n-eq128 : goal.returns-then-n-eq128
 returns-then-n-eq128 c = lends_full _ (search rules) c.requires.1 c.requires.0 c.test.ensures c.if-not-test.false c.action_at.ensures c.in-Ok.is c.in-Borrow.is c.if-n-eq128.true
 
 pub returns : goal.returns
-returns c = lends-more _ (search rules) c.requires.1 c.requires.0 c.test.ensures c.if-not-test.false c.action_at.ensures c.in-Ok.is c.in-Borrow.is c.shortest_of.ensures c.if-n-eq128.false c.put.ensures
+returns c = lends-more _ (search rules) c.requires.1 c.requires.0 c.test.ensures c.if-not-test.false c.action_at.ensures c.in-Ok.is c.in-Borrow.is c.shortest_of.ensures c.if-n-eq128.false

@@ -1,9 +1,6 @@
--- `loans_in_scope::Setup::keep_all`: a point that overwrites nothing, or one that overwrites a path. Assumes nothing.
-use Rattle.loans_in_scope.proofs.FillLaws.{kept_row, kept_each}
+-- `loans_in_scope::Setup::keep_all`: a point that overwrites a path. Assumes nothing.
+use Rattle.loans_in_scope.proofs.FillLaws.{kept_each}
 use Rattle.loans_in_scope.proofs.Setup.keep_all.Goals as goal
-
-pub returns-in-None : goal.returns-in-None
-returns-in-None c = let a = c.args in kept_row a.self.now a.region.now a.p c.overwritten_at-d.result c.overwritten_at-d.ensures c.in-None.is c.requires.4 c.keep_row.ensures
 
 pub returns-in-Some : goal.returns-in-Some
 returns-in-Some c = let a = c.args in kept_each a.self.now a.region.now a.p c.overwritten_at-d.result c.overwritten_at-d.ensures c.keep_each.ensures
