@@ -11,7 +11,8 @@ ghost use Rattle.loans.specs.Loans.{LoansAt, Lends};
 
 use env::Shortest;
 use env::prefixes::shortest_of;
-use record::{BORROW, Record};
+use graph::tables::FuncGraph;
+use record::ActionKind;
 use repr::{Action, BorrowKind, Cursor, Path, RegionName, Variable};
 
 // What a borrow lends, with the shortest prefixes of its path.
@@ -67,17 +68,17 @@ impl LoanTable {
 }
 
 // Puts the loan of point p into the table, if it is a borrow that is walked, after those that are there.
-fn lend(input: &Record<'_>, walked: &[u32; 32], p: usize, lent: &mut LoanTable)
+fn lend(graph: &FuncGraph<'_>, p: usize, lent: &mut LoanTable)
     requires { (p < 1024) × (lent.old.count ≤ 128) }
-    ensures { Lends input.now walked.now p lent.old lent.new }
+    ensures { Lends graph.now p lent.old lent.new }
 {
-    if !bit_set::test(walked, 0, p) {
+    if !bit_set::test(&graph.walked, 0, p) {
         return;
     }
-    if input.tag_at(p) != BORROW {
+    if graph.input.kind_at(p) != ActionKind::Borrow {
         return;
     }
-    let Ok((a, _)) = input.action_at(p) else {
+    let Ok((a, _)) = graph.input.action_at(p) else {
         return;
     };
     let Action::Borrow {
@@ -98,18 +99,18 @@ fn lend(input: &Record<'_>, walked: &[u32; 32], p: usize, lent: &mut LoanTable)
         region,
         kind,
         path: source,
-        shortest: shortest_of(input, source),
+        shortest: shortest_of(&graph.input, source),
     };
     lent.count = n + 1;
 }
 
 // Puts the loans of a job into the table.
-pub fn loans(input: &Record<'_>, walked: &[u32; 32], lent: &mut LoanTable)
-    ensures { (j : Job) → Holds input.now j → T (named j) → T (paths_fit j) → WalkedIn j walked.now → length (loans_of (graph_of j)) ≤ 128 → LoansAt input.now.bytes.now j lent.new.loans lent.new.count }
+pub fn loans(graph: &FuncGraph<'_>, lent: &mut LoanTable)
+    ensures { (j : Job) → Holds graph.now.input j → T (named j) → T (paths_fit j) → WalkedIn j graph.now.walked → length (loans_of (graph_of j)) ≤ 128 → LoansAt graph.now.input.bytes.now j lent.new.loans lent.new.count }
 {
     lent.count = 0;
-    let code = usize::from(input.head.code).min(1024);
+    let code = usize::from(graph.input.head.code).min(1024);
     for p in 0..code {
-        lend(input, walked, p, lent);
+        lend(graph, p, lent);
     }
 }

@@ -1,13 +1,13 @@
 -- `loans::lend` meets its contract. Assumes nothing.
 use Rattle.std.proofs.Common.{rules}
-use Rattle.loans.proofs.LendLaws.{lends_unwalked, lends-tagged, lends_other, lends_full, lends-more}
+use Rattle.loans.proofs.LendLaws.{lends_unwalked, lends_other_kind, lends_other, lends_full, lends-more}
 use Rattle.loans.proofs.lend.Goals as goal
 
 pub returns-then-not-test : goal.returns-then-not-test
 returns-then-not-test c = lends_unwalked _ (search rules) c.requires.1 c.requires.0 c.test.ensures c.if-not-test.true
 
-pub returns-then-tag_at-ne-BORROW : goal.returns-then-tag_at-ne-BORROW
-returns-then-tag_at-ne-BORROW c = lends-tagged _ (search rules) c.requires.1 c.requires.0 c.test.ensures c.if-not-test.false c.tag_at.ensures c.if-tag_at-ne-BORROW.true
+pub returns-then-ne : goal.returns-then-ne
+returns-then-ne c = lends_other_kind _ (search rules) c.requires.1 c.requires.0 c.test.ensures c.if-not-test.false c.kind_at.ensures (search (rules, c.if-ne.ensures))
 
 pub returns-in_default-a : goal.returns-in_default-a
 returns-in_default-a c = lends_other _ (search rules) c.requires.1 c.requires.0 c.test.ensures c.if-not-test.false c.action_at.ensures c.in-Ok.is c.in_default-a.not-Borrow

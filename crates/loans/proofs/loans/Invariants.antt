@@ -3,4 +3,4 @@ use Rattle.loans.proofs.LendLaws.{Lending}
 use Rattle.loans.proofs.loans.Given as goal
 
 abbrev pub invariant-loop-p : goal.invariant-loop-p
-invariant-loop-p l = Lending l.input l.walked l.p l.lent
+invariant-loop-p l = Lending l.graph l.p l.lent
