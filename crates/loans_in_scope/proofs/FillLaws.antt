@@ -30,10 +30,10 @@ module _ (v : Setup) (region : List ℕ) (ds : List syntax.Path) (p i : ℕ) {b 
   pub keep_not : b ≡ false → kept ≡ b → (j : Job) → kept ≡ keeps j v region ds p i
   keep_not n k j = k ∙ n ∙ sym (ap (λ (c : Bool). c && not (killed j ds (loan_in v i))) (sym e ∙ n))
 
-  pub keep_yes : {x : Loan} {dead : Bool} → b ≡ true → x ≡ nth_loan v.loans.now.loans i → ((j : Job) → dead ≡ killed j ds (loan_of v.input.now.bytes.now x)) → kept ≡ not dead
+  pub keep_yes : {x : Loan} {dead : Bool} → b ≡ true → x ≡ nth_loan v.loans.now.loans i → ((j : Job) → dead ≡ killed j ds (loan_of v.graph.now.input.bytes.now x)) → kept ≡ not dead
       → (j : Job) → kept ≡ keeps j v region ds p i
   keep_yes y is kill k j =
-      k ∙ ap not (kill j ∙ ap (λ (z : Loan). killed j ds (loan_of v.input.now.bytes.now z)) is)
+      k ∙ ap not (kill j ∙ ap (λ (z : Loan). killed j ds (loan_of v.graph.now.input.bytes.now z)) is)
       ∙ sym (ap (λ (c : Bool). c && not (killed j ds (loan_in v i))) (sym e ∙ y))
 
 -- ---- Each loan
@@ -47,15 +47,15 @@ module _ (v : Setup) (region : List ℕ) (ds : List syntax.Path) (p : ℕ) {ws :
 -- ---- One point
 
 module _ (v : Setup) (region : List ℕ) (p : Point) {ws : List ℕ} where
-  module _ (d : Option Path) (over : (j : Job) → Holds v.input.now j → p < code_count j.blocks → paths_of v.input.now.bytes.now d ≡ overwritten (action_at (graph_of j) p)) where
-    pub kept_each : {ws' : List ℕ} → ((j : Job) → Gains (KeptOf j v region (paths_of v.input.now.bytes.now d) p v.loans.now.count) ws ws') → Kept v region p ws ws'
+  module _ (d : Option Path) (over : (j : Job) → Holds v.graph.now.input j → p < code_count j.blocks → paths_of v.graph.now.input.bytes.now d ≡ overwritten (action_at (graph_of j) p)) where
+    pub kept_each : {ws' : List ℕ} → ((j : Job) → Gains (KeptOf j v region (paths_of v.graph.now.input.bytes.now d) p v.loans.now.count) ws ws') → Kept v region p ws ws'
     kept_each {ws'} a = record { bits = λ j o m. subst (λ (ds : List syntax.Path). Gains (KeptOf j v region ds p v.loans.now.count) ws ws') (over j o m) (a j) }
 
 -- ---- Each point
 
 -- Those that may pass the first n points came to their sets.
 pub record KeptTo (v : Setup) (region : List ℕ) (n : ℕ) (ws ws' : List ℕ) : Type 0 where
-  pub bits : (j : Job) → Holds v.input.now j → n ≤ code_count j.blocks
+  pub bits : (j : Job) → Holds v.graph.now.input j → n ≤ code_count j.blocks
       → Gains (λ p i. Below n v.loans.now.count p i × (keeps j v region (overwritten (action_at (graph_of j) p)) p i ≡ true)) ws ws'
 
 module _ (v : Setup) (region : List ℕ) {ws : List ℕ} where

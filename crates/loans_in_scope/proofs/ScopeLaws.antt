@@ -46,7 +46,7 @@ killed-is : (j : Job) (p : Point) (loan : loans.Loan) → kills j (action_at (gr
 unfolding kills
 killed-is j p loan = refl
 
-module _ {v : Setup} (is_code : v.code ≡ v.input.now.head.code) {blank : Tables} {start pass region leaves none u scope : List ℕ} (blanks : Empty blank) (filled : PointsFilled v blank (tables start pass region))
+module _ {v : Setup} (is_code : v.code ≡ v.graph.now.input.head.code) {blank : Tables} {start pass region leaves none u scope : List ℕ} (blanks : Empty blank) (filled : PointsFilled v blank (tables start pass region))
     (flows : (g : Graph) → Edges g v.graph.now.first v.graph.now.succ → v.code ≡ g.code → FlowSays g Forward pass start leaves) (ws : List ℕ) (size : 4 * v.code ≤ length ws) (empty : none ≡ cleared ws 0 (4 * v.code))
     (gathered : Gains (Rows leaves v.code v.graph.now.first v.graph.now.succ v.code) none u) (masked : Masked region u (4 * v.code) scope) where
   module _ (j : Job) (sets : Table) (g : given_to v j sets) (e : Edges (graph_of j) v.graph.now.first v.graph.now.succ) (i : ℕ) (l : i < v.loans.now.count) where

@@ -20,6 +20,7 @@ use Rattle.repr.specs.declared.Path.{Path}
 use Rattle.record.specs.Layout.{Holds}
 use Rattle.record.specs.declared.Record.{Record}
 use Rattle.graph.specs.Tables.{Edges}
+use Rattle.graph.specs.declared.tables.FuncGraph.{FuncGraph}
 use Rattle.flow.specs.Flows.{bit_at}
 use Rattle.loans.specs.Loans.{nth_loan, loan_of, LoansAt}
 use Rattle.loans.specs.declared.Loan.{Loan}
@@ -81,8 +82,8 @@ pub record Given (input : Record) (words : List ℕ) (width : ℕ) (lent : List 
   pub room : point_count j ≤ word_bits * width
 
 -- The words have the loans in scope: loan i at point p is number i of the four words from 4 * p on.
-pub record ScopeSays (input : Record) (first succ words : List ℕ) (width : ℕ) (lent : List Loan) (count : ℕ) (scope : List ℕ) : Type 0 where
-  pub bits : (j : Job) (sets : Table) → Given input words width lent count j sets → Edges (graph_of j) first succ → (p : Point) (i : ℕ) → p < code_count j.blocks → i < count
+pub record ScopeSays (graph : FuncGraph) (words : List ℕ) (width : ℕ) (lent : List Loan) (count : ℕ) (scope : List ℕ) : Type 0 where
+  pub bits : (j : Job) (sets : Table) → Given graph.input words width lent count j sets → Edges (graph_of j) graph.first graph.succ → (p : Point) (i : ℕ) → p < code_count j.blocks → i < count
       → has scope (word_bits * (4 * p) + i) ≡ holds (scope_table j (graph_of j) sets (loans_of (graph_of j))) i p
 
 -- ---- The same of what the loans in scope are computed from
@@ -91,14 +92,14 @@ abbrev pub Small : Setup → Type 0
 Small u = (u.width ≤ 32) × (u.loans.now.count ≤ 128) × (u.code ≤ 1024)
 
 abbrev pub given_to : Setup → Job → Table → Type 0
-given_to u j sets = Given u.input.now u.words.now u.width u.loans.now.loans u.loans.now.count j sets
+given_to u j sets = Given u.graph.now.input u.words.now u.width u.loans.now.loans u.loans.now.count j sets
 
 abbrev pub says_of : Setup → List ℕ → Type 0
-says_of u scope = ScopeSays u.input.now u.graph.now.first u.graph.now.succ u.words.now u.width u.loans.now.loans u.loans.now.count scope
+says_of u scope = ScopeSays u.graph.now u.words.now u.width u.loans.now.loans u.loans.now.count scope
 
 -- loan i, as `nll_spec` has it
 abbrev pub loan_in : Setup → ℕ → loans.Loan
-loan_in u i = loan_of u.input.now.bytes.now (nth_loan u.loans.now.loans i)
+loan_in u i = loan_of u.graph.now.input.bytes.now (nth_loan u.loans.now.loans i)
 
 -- number i of the points that region r has
 abbrev pub RegionTo : Setup → ℕ → ℕ → Point → ℕ → Type 0
@@ -118,17 +119,17 @@ KeptOf j u region ds p n q i = Cells p n q i × (keeps j u region ds q i ≡ tru
 
 -- Loan i came to the set of the point where it starts, if that is a point of a block.
 pub record Begins (u : Setup) (loan : Loan) (i : ℕ) (ws ws' : List ℕ) : Type 0 where
-  pub bits : (j : Job) → Holds u.input.now j → u.code ≤ code_count j.blocks
-      → Gains (λ p k. Column u.code i p k × (starts j (overwritten (action_at (graph_of j) p)) (loan_of u.input.now.bytes.now loan) p ≡ true)) ws ws'
+  pub bits : (j : Job) → Holds u.graph.now.input j → u.code ≤ code_count j.blocks
+      → Gains (λ p k. Column u.code i p k × (starts j (overwritten (action_at (graph_of j) p)) (loan_of u.graph.now.input.bytes.now loan) p ≡ true)) ws ws'
 
 -- The same for the first c loans.
 pub record Begun (u : Setup) (c : ℕ) (ws ws' : List ℕ) : Type 0 where
-  pub bits : (j : Job) → Holds u.input.now j → u.code ≤ code_count j.blocks
+  pub bits : (j : Job) → Holds u.graph.now.input j → u.code ≤ code_count j.blocks
       → Gains (λ p i. Below u.code c p i × (starts j (overwritten (action_at (graph_of j) p)) (loan_in u i) p ≡ true)) ws ws'
 
 -- The loans that may pass point p came to its set.
 pub record Kept (u : Setup) (region : List ℕ) (p : Point) (ws ws' : List ℕ) : Type 0 where
-  pub bits : (j : Job) → Holds u.input.now j → p < code_count j.blocks → Gains (KeptOf j u region (overwritten (action_at (graph_of j) p)) p u.loans.now.count) ws ws'
+  pub bits : (j : Job) → Holds u.graph.now.input j → p < code_count j.blocks → Gains (KeptOf j u region (overwritten (action_at (graph_of j) p)) p u.loans.now.count) ws ws'
 
 -- The bits of each loan at each point came to the tables.
 pub record PointsFilled (u : Setup) (a b : Tables) : Type 0 where

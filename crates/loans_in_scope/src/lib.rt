@@ -18,11 +18,10 @@ use loans::{Loan, LoanTable};
 use record::Record;
 use repr::{Action, Path, RegionName};
 
-// What the loans in scope are computed from: a record and its graph, the regions' sets in so many words each, the loans, and how many points the blocks have.
+// What the loans in scope are computed from: a graph with its record, the regions' sets in so many words each, the loans, and how many points the blocks have.
 #[derive(Clone, Copy)]
 struct Setup<'a> {
-    input: &'a Record<'a>,
-    graph: &'a FuncGraph,
+    graph: &'a FuncGraph<'a>,
     words: &'a [u32],
     width: usize,
     loans: &'a LoanTable,
@@ -107,7 +106,7 @@ fn onto(code: usize, from: &[u32], p: usize, q: u16, scope: &mut [u32])
 }
 
 // The same for each point that follows p.
-fn follow(graph: &FuncGraph, code: usize, from: &[u32], p: usize, scope: &mut [u32])
+fn follow(graph: &FuncGraph<'_>, code: usize, from: &[u32], p: usize, scope: &mut [u32])
     requires { (code ≤ 1024) × (p < code) × (4 * code ≤ length from.now) × (4 * code ≤ length scope.old) }
     ensures { Gains (Row from.now code graph.now.first graph.now.succ p) scope.old scope.new }
 {
@@ -117,7 +116,7 @@ fn follow(graph: &FuncGraph, code: usize, from: &[u32], p: usize, scope: &mut [u
 }
 
 // The same for each point.
-fn gather(graph: &FuncGraph, code: usize, from: &[u32], scope: &mut [u32])
+fn gather(graph: &FuncGraph<'_>, code: usize, from: &[u32], scope: &mut [u32])
     requires { (code ≤ 1024) × (4 * code ≤ length from.now) × (4 * code ≤ length scope.old) }
     ensures { Gains (Rows from.now code graph.now.first graph.now.succ code) scope.old scope.new }
 {
@@ -159,8 +158,9 @@ impl<'a> Setup<'a> {
         if self.code <= p {
             return;
         }
-        let d = overwritten_at(self.input, p);
-        let kept = !is_killed(self.input.bytes, d, loan);
+        let input = &self.graph.input;
+        let d = overwritten_at(input, p);
+        let kept = !is_killed(input.bytes, d, loan);
         put(start, p, i, kept);
     }
 
@@ -179,10 +179,11 @@ impl<'a> Setup<'a> {
     // Puts each loan into the set of point p, which overwrites d, if its region has the point and it is not killed.
     fn keep_each(&self, region: &[u32], d: Option<Path>, p: usize, pass: &mut [u32])
         requires { Small self.now × (p < 1024) × (4 * p + 4 ≤ length pass.old) }
-        ensures { (j : Job) → Gains (KeptOf j self.now region.now (paths_of self.now.input.now.bytes.now d) p self.now.loans.now.count) pass.old pass.new }
+        ensures { (j : Job) → Gains (KeptOf j self.now region.now (paths_of self.now.graph.now.input.bytes.now d) p self.now.loans.now.count) pass.old pass.new }
     {
+        let input = &self.graph.input;
         for (i, &loan) in self.loans.lent().iter().enumerate() {
-            let kept = bit_set::test(region, 4 * p, i) && !is_killed(self.input.bytes, d, loan);
+            let kept = bit_set::test(region, 4 * p, i) && !is_killed(input.bytes, d, loan);
             put(pass, p, i, kept);
         }
     }
@@ -195,7 +196,7 @@ impl<'a> Setup<'a> {
         if !bit_slice::some_set(region, 4 * p, 4) {
             return;
         }
-        let d = overwritten_at(self.input, p);
+        let d = overwritten_at(&self.graph.input, p);
         match d {
             None => keep_row(region, p, pass),
             Some(_) => self.keep_each(region, d, p, pass),
@@ -218,7 +219,7 @@ impl<'a> Setup<'a> {
     #[inline(never)]
     fn with_tables<const N: usize>(&self, scope: &mut [u32])
         requires { Small self.now × (4 * self.now.code ≤ N) × (N ≤ 4096) × (4 * self.now.code ≤ length scope.old) }
-        ensures { self.now.code ≡ self.now.input.now.head.code → says_of self.now scope.new }
+        ensures { self.now.code ≡ self.now.graph.now.input.head.code → says_of self.now scope.new }
     {
         let mut leaves = [0; N];
         let mut pass = [0; N];
@@ -239,7 +240,7 @@ impl<'a> Setup<'a> {
     // The same by tables of a size for so many points.
     fn compute(&self, scope: &mut [u32])
         requires { Small self.now × (4 * self.now.code ≤ length scope.old) }
-        ensures { self.now.code ≡ self.now.input.now.head.code → says_of self.now scope.new }
+        ensures { self.now.code ≡ self.now.graph.now.input.head.code → says_of self.now scope.new }
     {
         if self.code <= 32 {
             self.with_tables::<128>(scope);
@@ -253,17 +254,16 @@ impl<'a> Setup<'a> {
 
 // The loans in scope at each point, where `scope` has four words for each of at most 1024 points. Where there are no loans, it is left as it is.
 pub fn loans_in_scope(
-    input: &Record<'_>,
-    graph: &FuncGraph,
+    graph: &FuncGraph<'_>,
     words: &[u32],
     width: usize,
     loans: &LoanTable,
     scope: &mut [u32],
 )
-    ensures { 4 * input.now.head.code ≤ length scope.old
-        → ScopeSays input.now graph.now.first graph.now.succ words.now width loans.now.loans loans.now.count scope.new }
+    ensures { 4 * graph.now.input.head.code ≤ length scope.old
+        → ScopeSays graph.now words.now width loans.now.loans loans.now.count scope.new }
 {
-    let code = usize::from(input.head.code);
+    let code = usize::from(graph.input.head.code);
     if code > 1024 || width > 32 || loans.count > 128 {
         return;
     }
@@ -271,7 +271,6 @@ pub fn loans_in_scope(
         return;
     }
     let setup = Setup {
-        input,
         graph,
         words,
         width,

@@ -10,7 +10,7 @@ use Rattle.loans_in_scope.proofs.Setup.keep_each.Goals as goal
 pub loop-i-preserved : goal.loop-i-preserved
 loop-i-preserved c = let a = c.args in
     let l = c.loop-i in
-    let ds = paths_of a.self.now.input.now.bytes.now a.d in (
+    let ds = paths_of a.self.now.graph.now.input.bytes.now a.d in (
       c.put.ensures.as_long ∙ l.invariant.0,
       each_more a.self.now a.region.now ds a.p l.i l.invariant.1
           (elim c.if-test.branch [

@@ -7,4 +7,4 @@ use Rattle.loans_in_scope.specs.Scope.{paths_of, KeptOf}
 use Rattle.loans_in_scope.proofs.Setup.keep_each.Given as goal
 
 abbrev pub invariant-loop-i : goal.invariant-loop-i
-invariant-loop-i l = (length l.pass ≡ length l.initial.pass) × ((j : Job) → Gains (KeptOf j l.self l.region (paths_of l.self.input.now.bytes.now l.d) l.p l.i) l.initial.pass l.pass)
+invariant-loop-i l = (length l.pass ≡ length l.initial.pass) × ((j : Job) → Gains (KeptOf j l.self l.region (paths_of l.self.graph.now.input.bytes.now l.d) l.p l.i) l.initial.pass l.pass)
