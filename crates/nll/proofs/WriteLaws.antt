@@ -47,9 +47,6 @@ module _ (j : Job) where
 module _ {input : Record} {g : FuncGraph} (is : g.input ≡ input)
     (graphed : (j : Job) → Holds input j → T (successors_named j) → point_count j ≤ 1024 → Edges (graph_of j) g.first g.succ × (T (ltb j.start (length j.blocks)) → WalkedIn j g.walked))
   where
-    at : (j : Job) → JobAt input j → JobAt g.input j
-    at j = subst (λ (x : Record). JobAt x j) (sym is)
-
     mapped : (j : Job) → JobAt input j → Mapped g j
     mapped j a =
         let ok = accepted-job j a.accepted in
@@ -59,11 +56,11 @@ module _ {input : Record} {g : FuncGraph} (is : g.input ≡ input)
     module _ {ws ws' grown bs mid bs' : List ℕ} (solves : Solves g ws ws' grown) (judges : Judges g ws' bs mid)
         (marks : bs' ≡ paste mid (verdict_bytes * (shape_of input.head).points) grown input.head.declared) where
       found : (j : Job) → JobAt input j → Room j ws bs → Answered j ws ws' grown
-      found j a room = solves.solved j (at j a) (mapped j a) room.0
+      found j a room = solves.solved j (subst (λ (x : Record). JobAt x j) (sym is) a) (mapped j a) room.0
 
       verdicts : (j : Job) → JobAt input j → Room j ws bs → mid ≡ overwrite (verdicts_of (answer every_end j)) bs
       unfolding bytes_needed
-      verdicts j a room = judges.judged j (at j a) (mapped j a) (found j a room).says (omega (arith, room.1))
+      verdicts j a room = judges.judged j (subst (λ (x : Record). JobAt x j) (sym is) a) (mapped j a) (found j a room).says (omega (arith, room.1))
 
       pub writes : Writes input ws bs ws' bs'
       writes =
