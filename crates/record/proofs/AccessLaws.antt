@@ -10,7 +10,8 @@ use native.Mathlib.Decide.{dec_lt}
 use lib.ListN.{length, get_or, take, drop, drop_of_length-le, get_or-eq_default}
 use lib.Seq.{get_or-take, get_or-drop, get_or-append-add}
 use lib.Dec.{eqb}
-use borrow.Author.Tests.{eq-eqb, ne_eqb, eqb-true, eqb-false, lt-ltb, le-ltb}
+use borrow.Author.Tests.{eqb-true, eqb-false, lt-ltb}
+use Rattle.std.proofs.Common.{rules}
 use Rattle.nll_spec.specs.Syntax.{Ty, StructDecl, Action, Noop, Field, Block, Job, RegionName, Point, BlockIndex}
 use Rattle.nll_spec.specs.Decode.{Reading, refused, read, Reader, done, byte, one_of, items, counted, max_outlived, param, field, struct_decl, type, block, action, code_count}
 use Rattle.nll_spec.specs.Types.{struct_of}
@@ -22,7 +23,7 @@ use Rattle.repr.specs.declared.Cursor.{Cursor}
 use Rattle.repr.specs.declared.StructDecl as declared
 use Rattle.repr.specs.declared.Action as declared_action
 use Rattle.repr.specs.declared.Action.TheVariants as actions
-use Rattle.repr.proofs.ReadLaws.{step, stop, told}
+use Rattle.repr.proofs.ReadLaws.{step, stop, told, clash}
 use Rattle.repr.specs.Stands.{Stands}
 use Rattle.record.specs.Rows.{Standing, none, more}
 use Rattle.record.specs.Blocks.{block_end, firsts, Coded}
@@ -32,28 +33,15 @@ use Rattle.record.specs.Access.{entry_in, point_of, Declared, Acts, kind_of_tag,
 use Rattle.record.specs.declared.ActionKind.{ActionKind}
 use Rattle.record.specs.declared.ActionKind.TheVariants as kinds
 use Rattle.record.specs.declared.Head.{Head}
+use Rattle.record.proofs.RowLaws.{standing_length}
 use Rattle.record.proofs.KindLaws.{byte_kind, byte-refused}
 use Rattle.repr.specs.declared.refusal.Refusal.{Refusal}
 use Rattle.std.specs.Prelude.{Result, Ok, Err, Option, Some, None}
 
 -- ---- The entry that the code reads
 
-pub entry-there : (t : List ℕ) (base many : ℕ) {k i : ℕ} → k ≡ i → k < many → get_or t (base + k) 0 ≡ entry_in t base many i
-entry-there t base many {k} {i} e h = rw (← e, lt-ltb k many h)
-
-pub entry-none : (t : List ℕ) (base many : ℕ) {k i : ℕ} → k ≡ i → many ≤ k → 0 ≡ entry_in t base many i
-entry-none t base many {k} {i} e h = rw (← e, le-ltb k many h)
-
-module _ (t : List ℕ) (p : ℕ) where
-  pub point-none : 1024 ≤ p → Some (record { at = 0 }) ≡ point_of (entry_in t 256 1024 p)
-  point-none h = ap point_of (entry-none t 256 1024 refl h)
-
-  module _ (h : p < 1024) where
-    pub point-end : get_or t (256 + p) 0 ≡ 65535 → None ≡ point_of (entry_in t 256 1024 p)
-    point-end e = rw (lt-ltb p 1024 h, eq-eqb (get_or t (256 + p) 0) 65535 e)
-
-    pub point-action : {at : ℕ} → (get_or t (256 + p) 0 ≡ 65535 → ⊥) → at ≡ get_or t (256 + p) 0 → Some (record { at = at }) ≡ point_of (entry_in t 256 1024 p)
-    point-action e i = rw (lt-ltb p 1024 h, ne_eqb (get_or t (256 + p) 0) 65535 e, i)
+entry-there : (t : List ℕ) (base many : ℕ) {i : ℕ} → i < many → get_or t (base + i) 0 ≡ entry_in t base many i
+entry-there t base many {i} h = rw (lt-ltb i many h)
 
 -- what the answer says of the entry
 end_is : (o : ℕ) → point_of o ≡ None → o ≡ block_end
@@ -61,7 +49,7 @@ end_is o = go (eqb o block_end) refl
   where
     go : (b : Bool) → eqb o block_end ≡ b → cond {A = Option Cursor} b None (Some (record { at = o })) ≡ None → o ≡ block_end
     go true q e = eqb-true o block_end q
-    go false q e = let z : ◌≡◌ {A = ℕ} 0 1 = cc in omega arith
+    go false q e = absurd (search rules)
 
 action-is : (o : ℕ) {c : Cursor} → point_of o ≡ Some c → (o ≡ block_end → ⊥) × (o ≡ c.at)
 action-is o {c} = go (eqb o block_end) refl
@@ -71,7 +59,7 @@ action-is o {c} = go (eqb o block_end) refl
     at None = 0
 
     go : (b : Bool) → eqb o block_end ≡ b → cond {A = Option Cursor} b None (Some (record { at = o })) ≡ Some c → (o ≡ block_end → ⊥) × (o ≡ c.at)
-    go true q e = absurd (let z : ◌≡◌ {A = ℕ} 0 1 = cc in let n : ⊥ = omega arith in n)
+    go true q e = absurd (search rules)
     go false q e = (eqb-false o block_end q, ap at e)
 
 -- ---- A row
@@ -85,7 +73,7 @@ window_at : (t : List ℕ) (base n i : ℕ) → i < n → get_or (take n (drop b
 window_at t base n i h = get_or-take n (drop base t) i 0 h ∙ get_or-drop base t i 0
 
 row_at : {A : Type 0} {m : Reader A} {s : List ℕ} (t : List ℕ) (base n many : ℕ) {xs : List A} → Standing m s (take n (drop base t)) xs → length xs ≡ n → n ≤ many → (i : ℕ) (d : A) → i < length xs → Stands m (get_or xs i d) (drop (entry_in t base many i) s)
-row_at {m = m} {s = s} t base n many {xs} r e l i d h = subst (λ (o : ℕ). Stands m (get_or xs i d) (drop o s)) (window_at t base n i (omega arith) ∙ entry-there t base many refl (omega arith)) (standing_at r i d h)
+row_at {m = m} {s = s} t base n many {xs} r e l i d h = subst (λ (o : ℕ). Stands m (get_or xs i d) (drop o s)) (window_at t base n i (omega arith) ∙ entry-there t base many (omega arith)) (standing_at r i d h)
 
 -- ---- Points
 
@@ -94,10 +82,6 @@ unfolding first_point
 firsts_at [] p b h = absurd (omega arith)
 firsts_at (d ∷ ds) p zero h = refl
 firsts_at (d ∷ ds) p (suc b) h = firsts_at ds (p + suc (length d.actions)) b (omega arith)
-
-standing_length : {A : Type 0} {m : Reader A} {s os : List ℕ} {xs : List A} → Standing m s os xs → length os ≡ length xs
-standing_length none = refl
-standing_length (more k r) = ap suc (standing_length r)
 
 -- An entry is a block's end, where nothing is done, or where the action stands.
 abbrev AtPoint : List ℕ → ℕ → Action → Type 0
@@ -164,7 +148,7 @@ action-below s o {a} l h = go (dec_lt o 65535)
   where
     go : Dec (o < 65535) → o < 65535
     go (yes k) = k
-    go (no k) = absurd (let e = ap action (drop_of_length-le s (let j : length s ≤ o = omega arith in j)) in let f = sym (stop byte _ [] refl) ∙ sym e ∙ h.reads in let z : ◌≡◌ {A = ℕ} 0 1 = cc in omega arith)
+    go (no k) = absurd (let e = ap action (drop_of_length-le s (let j : length s ≤ o = omega arith in j)) in clash (sym (stop byte _ [] refl) ∙ sym e ∙ h.reads))
 
 -- ---- A struct that was read
 
@@ -181,7 +165,7 @@ struct_parts {s} {at} {r} {d} {x} m e h = go (items d.fields field (rest s d.mem
     both = sym (told (struct_says s) m.same e) ∙ h.reads
 
     go : (q : Reading (List Field)) → items d.fields field (rest s d.members) ≡ q → Declared s x d
-    go (refused k) i = let c = sym (step _ _ _ params.reads ∙ stop (items d.fields field) _ (rest s d.members) i) ∙ both in absurd (let z : ◌≡◌ {A = ℕ} 0 1 = cc in let n : ⊥ = omega arith in n)
+    go (refused k) i = absurd (clash (sym (step _ _ _ params.reads ∙ stop (items d.fields field) _ (rest s d.members) i) ∙ both))
     go (read fs over) i =
         let c : read (record { params = params.item; fields = fs }) over ≡ read x h.over = sym (step _ _ _ params.reads ∙ step (items d.fields field) _ (rest s d.members) i) ∙ both in
         let same : ◌≡◌ {A = StructDecl} (record { params = params.item; fields = fs }) x = cc in
@@ -204,7 +188,7 @@ module _ {s t : List ℕ} {h : Head} {j : Job} (w : Layout s t h j) where
 
   pub first-at : (b : BlockIndex) → b < length j.blocks → entry_in t 160 64 b ≡ first_point j.blocks 0 b
   first-at b l =
-      sym (window_at t 160 h.blocks b (omega (arith, w.block_count)) ∙ entry-there t 160 64 refl (omega (arith, w.block_count, w.block_limit)))
+      sym (window_at t 160 h.blocks b (omega (arith, w.block_count)) ∙ entry-there t 160 64 (omega (arith, w.block_count, w.block_limit)))
       ∙ ap (λ (x : List ℕ). get_or x b 0) w.blocks.first
       ∙ firsts_at j.blocks 0 b l
 
@@ -212,7 +196,7 @@ module _ {s t : List ℕ} {h : Head} {j : Job} (w : Layout s t h j) where
   point-is : (p : Point) → p < code_count j.blocks → AtPoint s (entry_in t 256 1024 p) (action_at (graph_of j) p)
   unfolding graph_of statements_of
   point-is p l =
-      let e = ap (λ (x : List ℕ). get_or x p 0) (sym (w.blocks.points w.few)) ∙ window_at t 256 (code_count j.blocks) p l ∙ entry-there t 256 1024 refl (omega (arith, w.few)) in
+      let e = ap (λ (x : List ℕ). get_or x p 0) (sym (w.blocks.points w.few)) ∙ window_at t 256 (code_count j.blocks) p l ∙ entry-there t 256 1024 (omega (arith, w.few)) in
       subst (λ (o : ℕ). AtPoint s o (action_at (graph_of j) p)) e (coded-point w.blocks.coded j.blocks 0 0 p l)
 
   module _ {p : Point} (l : p < code_count j.blocks) {d : Option Cursor} (same : d ≡ point_of (entry_in t 256 1024 p)) where
@@ -269,4 +253,4 @@ module _ {s t : List ℕ} {h : Head} {j : Job} (w : Layout s t h j) where
       struct_there e = struct_parts m e stands
 
       pub struct_refused : {k : Refusal} {d : declared.StructDecl} → r ≡ Err k → Declared s (struct_of j.structs name) d
-      struct_refused e = absurd (let c = told (struct_says s) m.same e in let f = sym c ∙ stands.reads in let z : ◌≡◌ {A = ℕ} 0 1 = cc in let n : ⊥ = omega arith in n)
+      struct_refused e = absurd (clash (sym (told (struct_says s) m.same e) ∙ stands.reads))

@@ -1,12 +1,13 @@
 -- Reading blocks and their actions, with the entries of the table. Assumes nothing.
-use mathlib.Core.Path.{◌≡◌, refl, sym, ap, subst, ◌∙◌}
+use mathlib.Core.Path.{◌≡◌, refl, sym, ap, ◌∙◌}
 use mathlib.Core.Bool.{Bool, true, false, cond}
 use mathlib.Core.List.{List, [], ◌∷◌, ◌++◌, append_assoc, append-nil}
-use Prim.Native.Nat.{ℕ, zero, suc, ◌+◌, ◌-◌, ◌*◌, ◌≤◌, ◌<◌, min}
+use Prim.Native.Nat.{ℕ, suc, ◌+◌, ◌-◌, ◌*◌, ◌≤◌, ◌<◌, min}
 use native.Mathlib.Omega.{arith}
 use native.Mathlib.Nat.{add-zero, zero-add}
 use lib.ListN.{length, take, drop, set, length-set, length-append}
-use lib.Seq.{take-set-le, drop-set-add, drop-set-lt, take-take, take-add, take-nil, drop-drop}
+use lib.Seq.{take-set-le, drop-set-add, drop-set-lt, take-take, take-add, drop-drop}
+use Rattle.std.proofs.lemmas.List.{drop-take}
 use lib.Dec.{ltb}
 use borrow.Author.Tests.{lt-ltb}
 use Rattle.nll_spec.specs.Lists.{select, gather}
@@ -22,12 +23,12 @@ use Rattle.repr.proofs.ReadLaws.{step, stop}
 use Rattle.repr.proofs.PartLaws.{end_readable, end_refused, end-over, action-rest}
 use Rattle.record.specs.Rows.{Standing}
 use Rattle.record.specs.Rows as rows
-use Rattle.record.specs.Blocks.{block_end, point_kept, loan_count, firsts, ActionAt, ActionResult, ActionSays, Actions, ActionsResult, ActionsSay}
+use Rattle.record.specs.Blocks.{block_end, point_kept, loan_count, firsts, ActionAt, Actions, ActionsSay}
 use Rattle.record.specs.Blocks.{Coded, none, more, Placed, BlocksSay}
 use Rattle.record.proofs.RowLaws.{Going, going_start, going_more, going_stop, going_end, offset_drop, standing_more, window_more}
 use Rattle.repr.specs.declared.refusal.Refusal.{Refusal}
 use Rattle.repr.specs.Refusals.{number_of}
-use Rattle.std.specs.Prelude.{Result, Ok, Err}
+use Rattle.std.specs.Prelude.{Ok, Err}
 
 -- ---- An action
 
@@ -64,13 +65,6 @@ module _ (s : List ℕ) (at : ℕ) (a : Action) (next : Cursor) (e : action (dro
         lends = l ∙ sym (lending-is s a next) ∙ sym (ap lending e) ∙ ap lending r.reads;
       }
 
--- what an answer that is known tells
-pub action-result : {s : List ℕ} {at : ℕ} {r x : Result (ℕ × Cursor) Refusal} → ActionSays s at r → r ≡ x → ActionResult s at x
-action-result {s} {at} h e = subst (λ (y : Result (ℕ × Cursor) Refusal). ActionResult s at y) e h.result
-
-pub actions-result : {s : List ℕ} {from : Cursor} {n first : ℕ} {old t : List ℕ} {r x : Result (ℕ × Cursor) Refusal} → ActionsSay s from n first old t r → r ≡ x → ActionsResult s from n first t x
-actions-result {s} {from} {n} {first} {old} {t} h e = subst (λ (y : Result (ℕ × Cursor) Refusal). ActionsResult s from n first t y) e h.result
-
 -- ---- Loans
 
 loans-append : (xs ys : List syntax.Action) → loan_count (xs ++ ys) ≡ loan_count xs + loan_count ys
@@ -88,9 +82,6 @@ one_loan x = go (is_borrow x)
     go true = omega arith
     go false = omega arith
 
-pub lends_one : {s : List ℕ} {from next loans : ℕ} → ActionAt s from next loans → loans ≤ 1
-lends_one a = let h = one_loan a.item in omega (arith, a.lends)
-
 gathered : (bs : List syntax.Block) (b : syntax.Block) → gather (λ d. d.actions) (bs ++ b ∷ []) ≡ gather (λ d. d.actions) bs ++ b.actions
 gathered [] b = append-nil b.actions
 gathered (d ∷ ds) b = rw (gathered ds b, append_assoc)
@@ -107,10 +98,9 @@ window_below : (t : List ℕ) (base n i v : ℕ) → i < base → take n (drop b
 window_below t base n i v h = rw (drop-set-lt base t i v h)
 
 window_take : (base n up : ℕ) (l : List ℕ) → base + n ≤ up → take n (drop base l) ≡ take n (drop base (take up l))
-window_take zero n up l h = sym (take-take n up l (omega arith))
-window_take (suc base) n up [] h = simp take-nil
-window_take (suc base) n zero (x ∷ l) h = absurd (omega arith)
-window_take (suc base) n (suc up) (x ∷ l) h = window_take base n up l (omega arith)
+window_take base n up l h =
+    let j : base + (up - base) ≡ up = omega arith in
+    sym (rw (← j, drop-take base (up - base) l) (take-take n (up - base) (drop base l) (omega arith)))
 
 -- a window below what is kept
 pub window_kept : (t u : List ℕ) (base n up : ℕ) → base + n ≤ up → take up u ≡ take up t → take n (drop base u) ≡ take n (drop base t)

@@ -2,7 +2,7 @@
 use mathlib.Core.Path.{◌≡◌, refl, sym, ap, subst, ◌∙◌}
 use mathlib.Core.Bool.{Bool, true, false, cond, ◌&&◌, and-eq-true_iff}
 use mathlib.Core.List.{List, [], ◌∷◌}
-use Prim.Native.Nat.{ℕ, suc, ◌+◌, ◌-◌, ◌*◌, ◌≤◌, ◌<◌}
+use Prim.Native.Nat.{ℕ, ◌+◌, ◌-◌, ◌*◌, ◌≤◌, ◌<◌}
 use native.Mathlib.Omega.{arith}
 use native.Mathlib.Decide.{dec_lt}
 use lib.ListN.{length, get_or, take, drop, length-drop, drop_of_length-le}
@@ -15,16 +15,17 @@ use Rattle.nll_spec.specs.Decode.{max_outlived, max_points, max_loans, max_lengt
 use Rattle.nll_spec.specs.Decode as decode
 use Rattle.repr.specs.Reading.{rest}
 use Rattle.repr.specs.declared.Cursor.{Cursor}
-use Rattle.repr.proofs.ReadLaws.{step, stop}
-use Rattle.record.specs.Rows.{Standing, none, more, Row}
+use Rattle.repr.proofs.ReadLaws.{step, stop, clash}
+use Rattle.record.specs.Rows.{Standing, Row}
 use Rattle.record.specs.Blocks.{Blocks, BlocksResult}
-use Rattle.record.specs.Layout.{DecodedSays, InRange, counts_says, CountsFit, CountsSay, parts_of, head_of, Parts, PartsResult, PartsSay}
+use Rattle.record.specs.Layout.{DecodedSays, InRange, counts_says, CountsSay, parts_of, head_of, Parts, PartsSay}
 use Rattle.record.specs.Layout.{verdict_of}
 use Rattle.record.specs.declared.Counts.{Counts}
+use Rattle.record.proofs.RowLaws.{standing_length}
 use Rattle.record.proofs.BlockLaws.{window_kept}
 use Rattle.repr.specs.declared.refusal.Refusal.{Refusal}
 use Rattle.repr.specs.Refusals.{number_of}
-use Rattle.repr.specs.declared.refusal.Refusal.TheVariants.{Form, Size}
+use Rattle.repr.specs.declared.refusal.Refusal.TheVariants.{Size}
 use Rattle.record.specs.declared.Code.{Code}
 use Rattle.record.specs.declared.Head.{Head}
 use Rattle.std.specs.Prelude.{Result, Ok, Err}
@@ -38,17 +39,13 @@ count_most low high {n} bs {over} e = go (byte bs) refl
   where
     test : (m : ℕ) (r : List ℕ) (b : Bool) → leb low m && leb m high ≡ b → cond b (done m) (refuse 4) r ≡ read n over → n ≤ high
     test m r true i j = let z : n ≡ m = cc in let l = leb-true m high ((and-eq-true_iff (leb low m) (leb m high)).0 i).1 in omega arith
-    test m r false i j = absurd (let z : ◌≡◌ {A = ℕ} 0 1 = cc in omega arith)
+    test m r false i j = absurd (clash j)
 
     go : (x : Reading ℕ) → byte bs ≡ x → n ≤ high
-    go (refused k) i = absurd (let z = sym (stop _ _ _ i) ∙ e in let y : ◌≡◌ {A = ℕ} 0 1 = cc in omega arith)
+    go (refused k) i = absurd (clash (sym (stop _ _ _ i) ∙ e))
     go (read m r) i = test m r (leb low m && leb m high) refl (sym (step _ _ _ i) ∙ e)
 
 -- ---- The rows
-
-standing_length : {A : Type 0} {m : Reader A} {s os : List ℕ} {xs : List A} → Standing m s os xs → length xs ≡ length os
-standing_length none = refl
-standing_length (more k r) = ap suc (standing_length r)
 
 window_length : (t : List ℕ) (base n : ℕ) → base + n ≤ length t → length (take n (drop base t)) ≡ n
 window_length t base n h = length-take-le n (drop base t) (simp length-drop (omega arith))
@@ -117,12 +114,6 @@ counted-job bs = refl
 pub job-counts : {s : List ℕ} {r x : Result (Counts × Cursor) Refusal} → CountsSay s 3 r → r ≡ x → job (drop 3 s) ≡ counts_says parts_of s x
 job-counts {s} {r} {x} h e = counted-job (drop 3 s) ∙ sym (h.same parts_of) ∙ ap (counts_says parts_of s) e
 
-pub counts-fit : {s : List ℕ} {at : ℕ} {r x : Result (Counts × Cursor) Refusal} → CountsSay s at r → r ≡ x → CountsFit x
-counts-fit h e = subst CountsFit e h.fit
-
-pub parts_result : {n : Counts} {s : List ℕ} {from : ℕ} {t : List ℕ} {r x : Result Code Refusal} → PartsSay n s from t r → r ≡ x → PartsResult n s from t x
-parts_result {n} {s} {from} {t} h e = subst (λ (y : Result Code Refusal). PartsResult n s from t y) e h.result
-
 -- a refusal of the job is one of the record
 pub job-refused : {s t : List ℕ} (bs : List ℕ) {k : Refusal} → job bs ≡ refused (number_of k) → DecodedSays (whole (job bs)) s t (Err k)
 unfolding whole
@@ -148,23 +139,6 @@ module _ {n : Counts} {s : List ℕ} {from : ℕ} {t : List ℕ} (next : Cursor)
       go : Dec (next.at < length s) → DecodedSays (whole (read p.job (drop next.at s))) s t (verdict_of n (length s) next points loans)
       go (yes h) = rw (drop-cons s next.at 0 h, lt-ltb next.at (length s) h) (record { says = refl })
       go (no h) = let l : length s ≤ next.at = omega arith in rw (drop_of_length-le s l, le-ltb next.at (length s) l) (accepted (leb (points + n.declared) max_points && leb loans max_loans) refl)
-
--- ---- The verdict, by its tests
-
-module _ (n : Counts) (size : ℕ) (next : Cursor) (points loans : ℕ) where
-  pub verdict_left : next.at < size → Err Form ≡ verdict_of n size next points loans
-  verdict_left h = rw (lt-ltb next.at size h)
-
-  module _ (e : size ≤ next.at) where
-    pub verdict_points : 1024 < points + n.declared → Err Size ≡ verdict_of n size next points loans
-    verdict_points h = rw (le-ltb next.at size e, lt-leb (points + n.declared) 1024 h)
-
-    module _ (h : points + n.declared ≤ 1024) where
-      pub verdict_loans : 128 < loans → Err Size ≡ verdict_of n size next points loans
-      verdict_loans k = rw (le-ltb next.at size e, le-leb (points + n.declared) 1024 h, lt-leb loans 128 k)
-
-      pub verdict_job : loans ≤ 128 → Ok (head_of n points) ≡ verdict_of n size next points loans
-      verdict_job k = rw (le-ltb next.at size e, le-leb (points + n.declared) 1024 h, le-leb loans 128 k)
 
 -- ---- The record's first bytes
 

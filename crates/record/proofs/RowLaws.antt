@@ -4,10 +4,11 @@ use mathlib.Core.List.{List, [], ◌∷◌, ◌++◌, append_assoc, append-nil}
 use Prim.Native.Nat.{ℕ, zero, suc, ◌+◌, ◌-◌, ◌≤◌, ◌<◌, min}
 use native.Mathlib.Omega.{arith}
 use native.Mathlib.Nat.{sub-zero}
-use native.Mathlib.Numerals.{add-one, sub-one}
+use native.Mathlib.Numerals.{sub-one}
 use native.Mathlib.Decide.{dec_lt}
 use lib.ListN.{length, take, drop, set, length-set, length-drop, drop_of_length-le}
-use lib.Seq.{take-suc-set, take-set-le, drop-set-add}
+use lib.Seq.{take-set-le, drop-set-add}
+use Rattle.std.proofs.lemmas.List.{take_more_set}
 use Rattle.nll_spec.specs.Decode.{Reading, refused, read, Reader, done, ◌>>=◌, items}
 use Rattle.repr.specs.Reading.{ended, end_says, bytes_say}
 use Rattle.repr.proofs.ReadLaws.{step, stop}
@@ -81,9 +82,13 @@ pub standing_more : {A : Type 0} {m : Reader A} {s os : List ℕ} {xs : List A} 
 standing_more o none h = more h none
 standing_more o (more k r) h = more k (standing_more o r h)
 
+pub standing_length : {A : Type 0} {m : Reader A} {s os : List ℕ} {xs : List A} → Standing m s os xs → length xs ≡ length os
+standing_length none = refl
+standing_length (more k r) = ap suc (standing_length r)
+
 -- one entry more of a window
 pub window_more : (t : List ℕ) (base i o : ℕ) → base + i < length t → take (i + 1) (drop base (set t (base + i) o)) ≡ take i (drop base t) ++ o ∷ []
-window_more t base i o h = let l : i < length (drop base t) = simp length-drop (omega arith) in rw (drop-set-add, add-one, take-suc-set (drop base t) i o l)
+window_more t base i o h = let l : i < length (drop base t) = simp length-drop (omega arith) in rw drop-set-add (take_more_set (drop base t) i o l)
 
 -- where some bytes end
 pub bytes-end : (s : List ℕ) (c : Cursor) (n : ℕ) (r : Result Cursor Refusal) → end_says s r ≡ ended (bytes_say s c n r)

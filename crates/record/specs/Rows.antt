@@ -31,7 +31,7 @@ reader Struct = struct_decl
 reader Outlives = counted max_outlived byte
 reader Variable = type
 
--- The answers for a place and some bytes say where a part of this kind ends that begins there.
+-- Each answer for a place of some bytes says where the part of this kind that begins there ends.
 abbrev pub Ends : Part → (Cursor → Bor (List ℕ) → Result Cursor Refusal → Type 0) → Type 0
 Ends part answers = (c : Cursor) (s : Bor (List ℕ)) (r : Result Cursor Refusal) → answers c s r → end_says s.now r ≡ ended (reader part (drop c.at s.now))
 

@@ -21,7 +21,7 @@ pub fn outlives_end(c: Cursor, s: &[u8]) -> Result<Cursor, Refusal>
     next.bytes(s, n)
 }
 
-// So many parts, each with its entry from `base` on, where `end` finds the end of the part at a place.
+// So many parts, each with its entry from `base` on; `end` finds where the part at a place ends.
 pub fn row<F: Fn(Cursor, &[u8]) -> Result<Cursor, Refusal>>(
     end: F,
     from: Cursor,
