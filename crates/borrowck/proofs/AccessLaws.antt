@@ -4,10 +4,10 @@ use mathlib.Core.Logic.{◌⊎◌, inl, inr}
 use mathlib.Core.List.{List, [], ◌∷◌, ◌++◌, map, map-append, append_assoc, append-nil}
 use Prim.Native.Nat.{ℕ, ◌+◌, ◌-◌, ◌≤◌, ◌<◌, min}
 use native.Mathlib.Omega.{arith}
-use native.Mathlib.Numerals.{add-one}
 use native.Mathlib.Nat.{sub-zero}
 use lib.ListN.{length, length-map, length-set, set, take, drop}
-use lib.Seq.{take-suc-set, length-take-le}
+use lib.Seq.{length-take-le}
+use Rattle.std.proofs.lemmas.List.{take_more_set}
 use Rattle.nll_spec.specs.Syntax.{Path}
 use Rattle.nll_spec.specs.Syntax as syntax
 use Rattle.nll_spec.specs.Decode.{read, done, items, path}
@@ -112,7 +112,7 @@ module _ {s : List ℕ} {x : own.Access} {from many : ℕ} where
         split {qs} {over} f = carry (λ x o. (qs ≡ x ∷ f.others) × (items (many - n - 1) path o ≡ read f.others over)) (sym f.first ∙ told (says (path_of s) s) m i) (f.same, f.reads)
 
         grown : n < 8 → take (n + 1 + 1) (set list (n + 1) y) ≡ take (n + 1) list ++ y ∷ []
-        grown l = ap (λ (k : ℕ). take k (set list (n + 1) y)) (add-one (n + 1)) ∙ take-suc-set list (n + 1) y (omega (arith, g.size))
+        grown l = take_more_set list (n + 1) y (omega (arith, g.size))
 
         pub sourcing_more : n < 8 → Sourcing s x from many next.at (n + 1) (set list (n + 1) y)
         sourcing_more l = record {

@@ -4,9 +4,8 @@ use mathlib.Core.Bool.{Bool, true, false, cond}
 use mathlib.Core.List.{List, [], ◌∷◌, ◌++◌, map, map-append, map-map, append-nil}
 use Prim.Native.Nat.{ℕ, zero, suc, ◌+◌, ◌-◌, ◌*◌, ◌≤◌, ◌<◌}
 use native.Mathlib.Omega.{arith}
-use native.Mathlib.Numerals.{add-one}
 use lib.ListN.{length, get_or, set, take, length-set}
-use lib.Seq.{take-suc-set}
+use Rattle.std.proofs.lemmas.List.{take_more_set}
 use Rattle.nll_spec.specs.Lists.{select, count_from}
 use Rattle.nll_spec.specs.Fixpoint.{Table, holds}
 use Rattle.nll_spec.specs.Syntax.{Point, Job}
@@ -107,8 +106,7 @@ module _ {table : List Loan} {many : ℕ} {scope : List ℕ} {p : Point} {from :
         most = omega (arith, g.most, g.low);
         few = omega (arith, g.few, z);
         are =
-            ap (λ (k : ℕ). take k (set loans n x)) (add-one n)
-            ∙ take-suc-set loans n x (omega (arith, g.size, g.few, z))
+            take_more_set loans n x (omega (arith, g.size, g.few, z))
             ∙ rw (g.are, o) (sym (rw (scope_more table scope p from i g.low, sym is_in_lem, h)));
       }
 
