@@ -2,7 +2,7 @@
 use mathlib.Core.Path.{◌≡◌, refl, sym, ap, subst, ◌∙◌}
 use mathlib.Core.Bool.{true, and-eq-true_iff, true≢false}
 use mathlib.Core.List.{List, [], ◌∷◌, ◌++◌, tail}
-use Prim.Native.Nat.{ℕ, ◌+◌, ◌-◌, ◌*◌, ◌≤◌, ◌<◌}
+use Prim.Native.Nat.{ℕ, ◌+◌, ◌-◌, ◌≤◌}
 use native.Mathlib.Omega.{arith}
 use native.Mathlib.Nat.{le_refl, sub-zero}
 use denote.Floats.{passes}
@@ -41,7 +41,6 @@ use Rattle.repr.specs.declared.refusal.Refusal.{Refusal}
 use Rattle.repr.specs.declared.Node.{Node}
 use Rattle.repr.specs.declared.Node.TheVariants as nodes
 use Rattle.repr.specs.declared.Rest.{Rest}
-use Rattle.record.specs.declared.Record.{Record}
 use Rattle.relate.specs.declared.Both.{Both}
 use Rattle.relate.specs.declared.Relation.{Relation}
 use Rattle.std.specs.Prelude.{Option, Some, None, Result, Ok, Err}
@@ -382,17 +381,3 @@ module _ {of : Relation} {x y : ℕ} {v : syntax.Variance} {ls : List ℕ} where
           subst (λ (cs : List Outlives). Adds cs ls ls₂) (ref_relates of.at j.structs v w.same refl ei er ew)
           (adds-append one (more.adds j l w.referent u (record { over = p.over; stands = w.stands }) q (omega arith) i (passes _ (refs_alike {u = RefTy k (Free o.0) u} w.same refl (is_true _ e)))));
     }
-
--- ---- The measure of the recursion
-
-pub arguments_fall : {l m n k t : ℕ} → 300 * l + n + 1 ≡ t → k ≡ n - 1 → (n ≡ 0 → ⊥) → m ≤ l → 300 * m + k + 1 < t
-arguments_fall e i z h = omega (arith, e, i, z, h)
-
-pub first-falls : (l n : ℕ) {t : ℕ} → 300 * l + n + 1 ≡ t → (n ≡ 0 → ⊥) → 300 * l + 1 < t
-first-falls l n e z = omega (arith, e, z)
-
-pub types_fall : {l t : ℕ} → 300 * l ≡ t → (l ≡ 0 → ⊥) → 300 * (l - 1) < t
-types_fall e z = omega (arith, e, z)
-
-pub parts_fall : {l n t : ℕ} → 300 * l ≡ t → (l ≡ 0 → ⊥) → n ≤ 255 → 300 * (l - 1) + n + 1 < t
-parts_fall e z h = omega (arith, e, z, h)
