@@ -1,11 +1,6 @@
--- `constraints::relate_found`: by where the first type stands. Assumes nothing.
-use mathlib.Core.Path.{ap, ◌∙◌}
-use Rattle.std.specs.Prelude.{Some}
-use Rattle.constraints.proofs.ConstrainLaws.{paths-inside, paths_written}
-use Rattle.constraints.proofs.relate_found.Goals as goal
+-- `constraints::Pair::relate_found`: where both types stand. Assumes nothing.
+use Rattle.constraints.proofs.ConstrainLaws.{paths_add}
+use Rattle.constraints.proofs.Pair.relate_found.Goals as goal
 
-pub returns-in-Inside : goal.returns-in-Inside
-returns-in-Inside c = λ p q kinds names v. paths-inside v.first (c.in-Some.is ∙ ap Some c.in-Inside.is) (c.relate_second.ensures q kinds names v.second)
-
-pub returns-in-Written : goal.returns-in-Written
-returns-in-Written c = λ p q kinds names v. paths_written v.first (c.in-Some.is ∙ ap Some c.in-Written.is) (c.relate_second-in-Written.ensures q kinds names v.second)
+pub returns : goal.returns
+returns c = λ k n kinds names u v. paths_add u v c.in-Some.is c.in-Some-q.is c.place_of.ensures c.place_of-2.ensures c.relate_types.ensures
