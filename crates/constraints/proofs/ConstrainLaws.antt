@@ -36,9 +36,9 @@ use Rattle.env.proofs.PrefixLaws.{shortest-of}
 use Rattle.env.proofs.ShortestLaws.{taken-leaves}
 use Rattle.constraint_list.specs.Listed.{Adds}
 use Rattle.constraint_list.proofs.ListLaws.{adds_none, adds-append}
-use Rattle.constraints.specs.Constraining.{step_constraints, source_constraints, Takes, SourceIs, SourceSays, PathTypesSay, along_source, TypesAdd, SecondAdds, PathsAdd, PairAdds, Constrains}
+use Rattle.constraints.specs.Constraining.{step_constraints, source_constraints, Takes, SourceIs, SourceSays, PlaceSays, along_source, TypesAdd, PathsAdd, PairAdds, Constrains}
 use Rattle.constraints.specs.declared.Source.{Source}
-use Rattle.constraints.specs.declared.PathTypes.{PathTypes}
+use Rattle.constraints.specs.declared.Place.{Place}
 use Rattle.constraints.specs.declared.Pair.{Pair}
 use Rattle.constraints.specs.declared.Related.{Related}
 use Rattle.constraints.specs.declared.Related.TheVariants.{Assigned, Borrowed}
@@ -64,17 +64,14 @@ module _ {input : Record} {p : Path} {out kinds names : List ℕ} {d : Option Pa
   result : {x : Option PathType} → d ≡ x → PathResult j (path_of input.bytes.now p) input.bytes.now out kinds names x
   result e = subst (λ (x : Option PathType). PathResult j (path_of input.bytes.now p) input.bytes.now out kinds names x) e (v.says j l w.named)
 
-module _ {input : Record} {at : Point} {how : Related} {ls : List ℕ} where
-  module _ {a : List ℕ} {x : ℕ} {q : Path} {b kinds names : List ℕ} {d : Option PathType} (v : PathSays input q b kinds names d) where
-    pub second-inside : {y : Cursor} {ls' : List ℕ} → d ≡ Some (path_type.Inside y) → TypesAdd input at how a x input.bytes.now y.at ls ls' → SecondAdds input at how a x q ls ls'
-    second-inside e u = record { adds = λ j l w m k p f z. let r = result v j l w e in u.adds j l m _ k p r.stands f r.few z }
-
-  module _ {p q : Path} {a kinds names : List ℕ} {d : Option PathType} (v : PathSays input p a kinds names d) where
-    pub paths-inside : {x : Cursor} {ls' : List ℕ} → d ≡ Some (path_type.Inside x) → SecondAdds input at how input.bytes.now x.at q ls ls' → PathsAdd input at how p q ls ls'
-    paths-inside e u = record { adds = λ j l w o k z. let r = result v j l w e in u.adds j l o _ k r.stands r.few z }
-
-    pub paths_written : {x : Cursor} {ls' : List ℕ} → d ≡ Some (path_type.Written x) → SecondAdds input at how a x.at q ls ls' → PathsAdd input at how p q ls ls'
-    paths_written e u = record { adds = λ j l w o k z. let r = result v j l w e in u.adds j l o _ k r.stands r.few z }
+module _ {pair : Pair} {a b k n kinds names : List ℕ} {d e : Option PathType} (u : PathSays pair.input.now pair.p a k n d) (v : PathSays pair.input.now pair.q b kinds names e) where
+  pub paths_add : {f g : PathType} {x y : Place} {ls ls' : List ℕ} → d ≡ Some f → e ≡ Some g → PlaceSays pair.input.now.bytes.now a f x → PlaceSays pair.input.now.bytes.now b g y → TypesAdd pair x y ls ls' → PathsAdd pair ls ls'
+  paths_add f g p q t = record {
+    adds = λ j l wp wq kind z.
+        let r = p.says _ _ _ _ (result u j l wp f) in
+        let o = q.says _ _ _ _ (result v j l wq g) in
+        t.adds j l _ _ kind r.stands o.stands r.few o.few z;
+  }
 
 -- ---- An assignment and a borrow
 
@@ -97,21 +94,27 @@ module _ {input : Record} {q : Path} {b kinds names : List ℕ} {d : Option Path
       ∙ ap (source_constraints at kinds names u.of.supporting r.0) u.steps
       ∙ source-same j accepted (path_of input.bytes.now q) leaves w.short o at r.0
 
-module _ {input : Record} {at : Point} (pair : Pair) {ls : List ℕ} where
-  pub pair_stepless : (x y : Cursor) {ls' : List ℕ} → (pair.p.steps ≡ 0) × (pair.q.steps ≡ 0) → x.at ≡ entry_in input.layout.now 32 64 pair.p.base.0 → y.at ≡ entry_in input.layout.now 32 64 pair.q.base.0
-      → TypesAdd input at pair.how input.bytes.now x.at input.bytes.now y.at ls ls' → PairAdds input at pair ls ls'
+-- the type stands in the record
+stays : {s out : List ℕ} {x : Place} → x.bytes.now ≡ s → PlaceSays s out (path_type.Inside x.at) x
+stays e = record { says = λ j p k n r. rw e r }
+
+module _ {pair : Pair} {ls : List ℕ} where
+  pub pair_stepless : (x y : Place) {ls' : List ℕ} → (pair.p.steps ≡ 0) × (pair.q.steps ≡ 0)
+      → (x.bytes.now ≡ pair.input.now.bytes.now) × (x.at.at ≡ entry_in pair.input.now.layout.now 32 64 pair.p.base.0)
+      → (y.bytes.now ≡ pair.input.now.bytes.now) × (y.at.at ≡ entry_in pair.input.now.layout.now 32 64 pair.q.base.0)
+      → TypesAdd pair x y ls ls' → PairAdds pair ls ls'
   pair_stepless x y z vp vq u =
       record {
         adds = λ j l accepted wp wq k same.
-            adds_as (sym (then_none _ (no_steps pair.how at j (path_of input.bytes.now pair.q) (rw z.1))))
-            ((paths-inside (stepless pair.p x z.0 vp) refl (second-inside (stepless pair.q y z.1 vq) refl u)).adds j l wp wq k same);
+            adds_as (sym (then_none _ (no_steps pair.how pair.at j (path_of pair.input.now.bytes.now pair.q) (rw z.1))))
+            ((paths_add (stepless pair.p x.at z.0 vp.1) (stepless pair.q y.at z.1 vq.1) refl refl (stays vp.0) (stays vq.0) u).adds j l wp wq k same);
       }
 
-  pub pair_adds : {a b kinds names : List ℕ} {d : PathTypes} {ls₁ ls₂ : List ℕ} {of : Source} → PathTypesSay input pair.p pair.q a b kinds names d
-      → PathsAdd input at pair.how pair.p pair.q ls ls₁
-      → SourceSays input.bytes.now pair.q pair.how kinds of → Adds (source_constraints at kinds names of.supporting of.region.0 of.steps) ls₁ ls₂
-      → PairAdds input at pair ls ls₂
-  pair_adds {of = of} v u o src = record { adds = λ j l accepted wp wq k z. adds-append (u.adds j l wp wq k z) (adds_as (along v.second at of j l accepted wq pair.how o.says) src) }
+  pub pair_adds : {b kinds names : List ℕ} {d : Option PathType} {ls₁ ls₂ : List ℕ} {of : Source} → PathSays pair.input.now pair.q b kinds names d
+      → PathsAdd pair ls ls₁
+      → SourceSays pair kinds of → Adds (source_constraints pair.at kinds names of.supporting of.region.0 of.steps) ls₁ ls₂
+      → PairAdds pair ls ls₂
+  pair_adds {of = of} v u o src = record { adds = λ j l accepted wp wq k z. adds-append (u.adds j l wp wq k z) (adds_as (along v pair.at of j l accepted wq pair.how o.says) src) }
 
 -- ---- An action
 
@@ -149,40 +152,37 @@ module _ {input : Record} {at p : Point} {ls : List ℕ} {r : Result (Action × 
     pub action_other : ((d : Path) (m : RegionName) (k : BorrowKind) (q : Path) → a ≡ actions.Borrow d m k q → ⊥) → ((d q : Path) → a ≡ actions.Assign d q → ⊥) → ((m n : RegionName) → a ≡ actions.Constraint m n → ⊥) → Constrains input at ls ls
     action_other o u v = record { adds = λ j l accepted h. adds_none (none_made input.bytes.now c j at a o u v (acts same act j l h e).reads) }
 
-    module _ {ls' : List ℕ} where
-      pub action-borrow : {d q : Path} {o : RegionName} {k : BorrowKind} → a ≡ actions.Borrow d o k q
-          → PairAdds input (at + 1) (record { how = Borrowed o; p = d; q = q }) ls ls' → Constrains input at ls ls'
-      unfolding constraints_at shape_fits
-      action-borrow {d} {q} {o} {k} i b =
-          record {
-            adds = λ j l accepted h.
-                let u : action_at (graph_of j) at ≡ syntax.Borrow (path_of input.bytes.now d) o.0 (borrow_kind_of k) (path_of input.bytes.now q)
-                = carry (λ x y. x ≡ syntax.Borrow (path_of input.bytes.now d) o.0 (borrow_kind_of k) (path_of input.bytes.now q)) (is same act j l h e i).reads refl in
-                let w = borrow-takes l accepted at d q u in
-                let z : T (shape_fits j (syntax.Borrow (path_of input.bytes.now d) o.0 (borrow_kind_of k) (path_of input.bytes.now q))) = subst (λ (x : syntax.Action). T (shape_fits j x)) u ((accepted-job j accepted).shapes at) in
-                adds_as (ap (constraints_at j at) (sym u))
-                (subst (λ (p : Point). Adds
-                (relate p j.structs (path_type j (path_of input.bytes.now d)) Contra (RefTy (borrow_kind_of k) (Free o.0) (path_type j (path_of input.bytes.now q)))
-                ++ relate_source p j.structs (Free o.0) (variable_type j q.base.0) (path_of input.bytes.now q).steps) ls ls')
-                (add-one at) (b.adds j l accepted w.0 w.1 (borrow_kind_of k) z));
-          }
+    pub action-constraint : {m n : RegionName} {ls' : List ℕ} → a ≡ actions.Constraint m n → Adds (require_outlives at (Free m.0) (Free n.0)) ls ls' → Constrains input at ls ls'
+    unfolding constraints_at
+    action-constraint {m} {n} i b =
+        record { adds = λ j l accepted h. adds_as (ap (constraints_at j at) (sym (carry (λ x y. x ≡ syntax.Constraint m.0 n.0) (is same act j l h e i).reads refl))) b }
 
-      pub action_assign : {d q : Path} → a ≡ actions.Assign d q
-          → PairAdds input (at + 1) (record { how = Assigned; p = q; q = d }) ls ls' → Constrains input at ls ls'
-      unfolding constraints_at shape_fits
-      action_assign {d} {q} i b =
-          record {
-            adds = λ j l accepted h.
-                let u : action_at (graph_of j) at ≡ syntax.Assign (path_of input.bytes.now d) (path_of input.bytes.now q) = carry (λ x y. x ≡ syntax.Assign (path_of input.bytes.now d) (path_of input.bytes.now q)) (is same act j l h e i).reads refl in
-                let w = assign_takes l accepted at d q u in
-                let z : T (shape_fits j (syntax.Assign (path_of input.bytes.now d) (path_of input.bytes.now q))) = subst (λ (x : syntax.Action). T (shape_fits j x)) u ((accepted-job j accepted).shapes at) in
-                adds_as (ap (constraints_at j at) (sym u))
-                (subst (λ (p : Point). Adds (relate p j.structs (path_type j (path_of input.bytes.now q)) Co (path_type j (path_of input.bytes.now d))) ls ls')
-                (add-one at) (adds_as (append-nil _) (b.adds j l accepted w.1 w.0 syntax.Mut z)));
-          }
+-- the paths as `Syntax` has them
+abbrev first : Pair → syntax.Path
+first pair = path_of pair.input.now.bytes.now pair.p
 
-      pub action-constraint : {m n : RegionName} → a ≡ actions.Constraint m n → Adds (require_outlives at (Free m.0) (Free n.0)) ls ls'
-          → Constrains input at ls ls'
-      unfolding constraints_at
-      action-constraint {m} {n} i b =
-          record { adds = λ j l accepted h. adds_as (ap (constraints_at j at) (sym (carry (λ x y. x ≡ syntax.Constraint m.0 n.0) (is same act j l h e i).reads refl))) b }
+abbrev second : Pair → syntax.Path
+second pair = path_of pair.input.now.bytes.now pair.q
+
+module _ {pair : Pair} {at p : Point} {r : Result (Action × Cursor) Refusal} (same : p ≡ at) (act : (j : Job) → Holds pair.input.now j → p < code_count j.blocks → Acts pair.input.now.bytes.now (action_at (graph_of j) p) r) {a : Action} {c : Cursor} (e : r ≡ Ok (a, c)) (next : pair.at ≡ at + 1) {ls ls' : List ℕ} where
+  pub action-borrow : {o : RegionName} {k : BorrowKind} → pair.how ≡ Borrowed o → a ≡ actions.Borrow pair.p o k pair.q → PairAdds pair ls ls' → Constrains pair.input.now at ls ls'
+  unfolding constraints_at shape_fits
+  action-borrow {o} {k} how i b =
+      record {
+        adds = λ j l accepted h.
+            let u : action_at (graph_of j) at ≡ syntax.Borrow (first pair) o.0 (borrow_kind_of k) (second pair) = carry (λ x y. x ≡ syntax.Borrow (first pair) o.0 (borrow_kind_of k) (second pair)) (is same act j l h e i).reads refl in
+            let w = borrow-takes l accepted at pair.p pair.q u in
+            let z : T (shape_fits j (syntax.Borrow (first pair) o.0 (borrow_kind_of k) (second pair))) = subst (λ (x : syntax.Action). T (shape_fits j x)) u ((accepted-job j accepted).shapes at) in
+            adds_as (ap (constraints_at j at) (sym u)) (rw (how, next, add-one) at (b.adds j l accepted w.0 w.1 (borrow_kind_of k) (rw how z)));
+      }
+
+  pub action_assign : pair.how ≡ Assigned → a ≡ actions.Assign pair.q pair.p → PairAdds pair ls ls' → Constrains pair.input.now at ls ls'
+  unfolding constraints_at shape_fits
+  action_assign how i b =
+      record {
+        adds = λ j l accepted h.
+            let u : action_at (graph_of j) at ≡ syntax.Assign (second pair) (first pair) = carry (λ x y. x ≡ syntax.Assign (second pair) (first pair)) (is same act j l h e i).reads refl in
+            let w = assign_takes l accepted at pair.q pair.p u in
+            let z : T (shape_fits j (syntax.Assign (second pair) (first pair))) = subst (λ (x : syntax.Action). T (shape_fits j x)) u ((accepted-job j accepted).shapes at) in
+            adds_as (ap (constraints_at j at) (sym u)) (adds_as (append-nil _) (rw (how, next, add-one) at (b.adds j l accepted w.1 w.0 syntax.Mut (rw how z))));
+      }

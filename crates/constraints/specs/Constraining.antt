@@ -1,5 +1,5 @@
 -- What adding the constraints of an action to a list does.
-use Rattle.std.specs.Prelude.{◌≡◌, true, ◌&&◌, not, cond, List, [], ◌++◌, ℕ, ◌+◌, ◌≤◌, ◌<◌, length, get_or, T, eqb, leb}
+use Rattle.std.specs.Prelude.{Some, ◌≡◌, true, ◌&&◌, not, cond, List, [], ◌++◌, ℕ, ◌+◌, ◌≤◌, ◌<◌, length, get_or, T, eqb, leb}
 use Rattle.nll_spec.specs.Lists.{gather, below}
 use Rattle.nll_spec.specs.Syntax as syntax
 use Rattle.nll_spec.specs.Syntax.{Job, Point, RegionName, BorrowKind, Variance, Co, Contra, Free, Ty, RefTy}
@@ -14,12 +14,13 @@ use Rattle.repr.specs.declared.RegionName as repr
 use Rattle.record.specs.Layout.{Holds}
 use Rattle.record.specs.declared.Record.{Record}
 use Rattle.repr.specs.Stands.{TypeAt}
-use Rattle.env.specs.Paths.{PathSays}
+use Rattle.env.specs.Paths.{PathIs, PathResult}
+use Rattle.env.specs.declared.paths.PathType.{PathType}
 use Rattle.env.specs.Prefixes.{ShortestIn}
 use Rattle.env.specs.declared.Shortest.{Shortest}
 use Rattle.constraint_list.specs.Listed.{Adds}
 use Rattle.constraints.specs.declared.Source.{Source}
-use Rattle.constraints.specs.declared.PathTypes.{PathTypes}
+use Rattle.constraints.specs.declared.Place.{Place}
 use Rattle.constraints.specs.declared.Pair.{Pair}
 use Rattle.constraints.specs.declared.Related.{Related}
 use Rattle.constraints.specs.declared.Related.TheVariants.{Assigned, Borrowed}
@@ -52,16 +53,12 @@ abbrev pub SourceIs : List ℕ → Path → Related → List ℕ → Source → 
 SourceIs s p Assigned kinds r = r.steps ≡ 0
 SourceIs s p (Borrowed region) kinds r = BorrowSource s p region kinds r
 
--- What `source_of` says.
-pub record SourceSays (s : List ℕ) (p : Path) (how : Related) (kinds : List ℕ) (r : Source) : Type 0 where
-  pub says : SourceIs s p how kinds r
+pub record SourceSays (pair : Pair) (kinds : List ℕ) (r : Source) : Type 0 where
+  pub says : SourceIs pair.input.now.bytes.now pair.q pair.how kinds r
 
--- The types of two paths, with what the steps of the second leave.
-pub record PathTypesSay (input : Record) (p q : Path) (a b kinds names : List ℕ) (r : PathTypes) : Type 0 where
-  pub first_kinds : List ℕ
-  pub first_names : List ℕ
-  pub first : PathSays input p a first_kinds first_names r.p
-  pub second : PathSays input q b kinds names r.q
+-- The type that a path was found to have stands there.
+pub record PlaceSays (s out : List ℕ) (found : PathType) (r : Place) : Type 0 where
+  pub says : (j : Job) (p : syntax.Path) (kinds names : List ℕ) → PathResult j p s out kinds names (Some found) → PathIs j p r.bytes.now r.at.at kinds names
 
 -- ---- Two types that are related
 
@@ -80,37 +77,35 @@ abbrev pub along_source : Related → Point → Job → syntax.Path → List Out
 along_source Assigned at j q = []
 along_source (Borrowed r) at j q = relate_source at j.structs (Free r.0) (variable_type j q.base) q.steps
 
-module _ (input : Record) (at : Point) where
+module _ (pair : Pair) where
   abbrev s : List ℕ
-  s = input.bytes.now
+  s = pair.input.now.bytes.now
+
+  -- the types of the paths
+  abbrev pub first_type : Job → Ty
+  first_type j = path_type j (path_of s pair.p)
+
+  abbrev pub second_type : Job → BorrowKind → Ty
+  second_type j k = against pair.how k (path_type j (path_of s pair.q))
 
   -- The constraints of the two types that stand there are added, if the types have one shape.
-  pub record TypesAdd (how : Related) (a : List ℕ) (x : ℕ) (b : List ℕ) (y : ℕ) (ls ls' : List ℕ) : Type 0 where
-    pub adds : (j : Job) → Holds input j → (m n : Ty) (k : BorrowKind) → TypeAt a x m → TypeAt b y n → type_nodes m ≤ max_nodes → type_nodes n ≤ max_nodes → T (same_shape m (against how k n))
-        → Adds (relate at j.structs m (under how) (against how k n)) ls ls'
+  pub record TypesAdd (x y : Place) (ls ls' : List ℕ) : Type 0 where
+    pub adds : (j : Job) → Holds pair.input.now j → (m n : Ty) (k : BorrowKind) → TypeAt x.bytes.now x.at.at m → TypeAt y.bytes.now y.at.at n → type_nodes m ≤ max_nodes → type_nodes n ≤ max_nodes → T (same_shape m (against pair.how k n))
+        → Adds (relate pair.at j.structs m (under pair.how) (against pair.how k n)) ls ls'
 
-  -- The same for the type that stands there and that of a path.
-  pub record SecondAdds (how : Related) (a : List ℕ) (x : ℕ) (q : Path) (ls ls' : List ℕ) : Type 0 where
-    pub adds : (j : Job) → Holds input j → Takes s j q → (m : Ty) (k : BorrowKind) → TypeAt a x m → type_nodes m ≤ max_nodes → T (same_shape m (against how k (path_type j (path_of s q))))
-        → Adds (relate at j.structs m (under how) (against how k (path_type j (path_of s q)))) ls ls'
-
-  -- The same for the types of two paths.
-  pub record PathsAdd (how : Related) (p q : Path) (ls ls' : List ℕ) : Type 0 where
-    pub adds : (j : Job) → Holds input j → Takes s j p → Takes s j q → (k : BorrowKind) → T (same_shape (path_type j (path_of s p)) (against how k (path_type j (path_of s q))))
-        → Adds (relate at j.structs (path_type j (path_of s p)) (under how) (against how k (path_type j (path_of s q)))) ls ls'
+  -- The same for the types of the paths.
+  pub record PathsAdd (ls ls' : List ℕ) : Type 0 where
+    pub adds : (j : Job) → Holds pair.input.now j → Takes s j pair.p → Takes s j pair.q → (k : BorrowKind) → T (same_shape (first_type j) (second_type j k))
+        → Adds (relate pair.at j.structs (first_type j) (under pair.how) (second_type j k)) ls ls'
 
   -- ---- The constraints of an action
 
   -- The constraints of an assignment or a borrow are added, at the point.
-  pub record PairAdds (pair : Pair) (ls ls' : List ℕ) : Type 0 where
-    pub adds : (j : Job) → Holds input j → refusal j ≡ 0 → Takes s j pair.p → Takes s j pair.q → (k : BorrowKind)
-        → T (same_shape (path_type j (path_of s pair.p)) (against pair.how k (path_type j (path_of s pair.q))))
-        → Adds
-        (relate at j.structs (path_type j (path_of s pair.p)) (under pair.how) (against pair.how k (path_type j (path_of s pair.q)))
-        ++ along_source pair.how at j (path_of s pair.q))
-        ls ls'
+  pub record PairAdds (ls ls' : List ℕ) : Type 0 where
+    pub adds : (j : Job) → Holds pair.input.now j → refusal j ≡ 0 → Takes s j pair.p → Takes s j pair.q → (k : BorrowKind) → T (same_shape (first_type j) (second_type j k))
+        → Adds (relate pair.at j.structs (first_type j) (under pair.how) (second_type j k) ++ along_source pair.how pair.at j (path_of s pair.q)) ls ls'
 
-  -- The constraints of the action at the point, which is one of the blocks.
-  pub record Constrains (ls ls' : List ℕ) : Type 0 where
-    pub adds : (j : Job) → Holds input j → refusal j ≡ 0 → at < (graph_of j).code
-        → Adds (constraints_at j at (action_at (graph_of j) at)) ls ls'
+-- The constraints of the action at the point, which is one of the blocks.
+pub record Constrains (input : Record) (at : Point) (ls ls' : List ℕ) : Type 0 where
+  pub adds : (j : Job) → Holds input j → refusal j ≡ 0 → at < (graph_of j).code
+      → Adds (constraints_at j at (action_at (graph_of j) at)) ls ls'

@@ -14,6 +14,15 @@ use record::Record;
 use repr::{Cursor, Node, Region, RegionName, StructName, Variance};
 use variance::{invert, referent_variance, within};
 
+// Two runs of bytes in which types stand, and the point at which those types are related.
+#[derive(Clone, Copy)]
+pub struct Relation<'a> {
+    pub input: &'a Record<'a>,
+    pub a: &'a [u8],
+    pub b: &'a [u8],
+    pub at: u16,
+}
+
 // Where two types begin. The first has at most `left` nodes.
 #[derive(Clone, Copy)]
 struct Types {
@@ -84,179 +93,140 @@ fn parameters_of(input: &Record<'_>, name: StructName) -> Row
     }
 }
 
-// Relates two types.
-#[cycle(relate_arguments_relate_first_relate_types)]
-fn relate_types(
-    input: &Record<'_>,
-    a: &[u8],
-    b: &[u8],
-    two: Types,
-    v: Variance,
-    at: u16,
-    list: &mut [u32],
-) -> Option<Both>
-    ensures { TypesRelate input.now at
-        a.now two.a.at b.now two.b.at two.left (variance_of v)
-        list.old list.new result }
-{
-    if two.left == 0 {
-        return None;
-    }
-    let left = two.left - 1;
-    match beside(two.a.type_node(a), two.b.type_node(b))? {
-        Heads::Units(p, q) => Some(Both { left, a: p, b: q }),
-        Heads::Refs {
-            kind,
-            r,
-            a: p,
-            o,
-            b: q,
-        } => {
-            relate_regions(invert(v), r, o, at, list);
-            let w = within(v, referent_variance(kind));
-            let to = Types { a: p, b: q, left };
-            relate_types(input, a, b, to, w, at, list)
+impl<'a> Relation<'a> {
+    // Relates two types.
+    #[cycle(relate_arguments_relate_first_relate_types)]
+    fn relate_types(&self, two: Types, v: Variance, list: &mut [u32]) -> Option<Both>
+        ensures { TypesRelate self.now two.a.at two.b.at two.left (variance_of v)
+            list.old list.new result }
+    {
+        if two.left == 0 {
+            return None;
         }
-        Heads::Structs { name, a: g, b: h } => {
-            let params = parameters_of(input, name);
-            let of = Rows {
-                params,
-                a: g,
-                b: h,
-                left,
-            };
-            relate_arguments(input, a, b, of, v, at, list)
-        }
-    }
-}
-
-// Relates the first arguments of two rows, under their own variance. The first row has one.
-#[cycle(relate_arguments_relate_first_relate_types)]
-fn relate_first(
-    input: &Record<'_>,
-    a: &[u8],
-    b: &[u8],
-    two: Rows,
-    v: Variance,
-    at: u16,
-    list: &mut [u32],
-) -> Option<Both>
-    requires { two.a.count ≡ 0 → ⊥ }
-    ensures { FirstRelates input.now at
-        a.now two.a b.now two.b two.left (variance_of v)
-        list.old list.new result }
-{
-    let left = two.left;
-    match first_pair(a, two.a.from, b, two.b)? {
-        Pair::Regions { r, a: p, o, b: q } => {
-            relate_regions(v, r, o, at, list);
-            Some(Both { left, a: p, b: q })
-        }
-        Pair::Units(p, q) => {
-            if left == 0 {
-                return None;
-            }
-            Some(Both {
-                left: left - 1,
+        let left = two.left - 1;
+        match beside(two.a.type_node(self.a), two.b.type_node(self.b))? {
+            Heads::Units(p, q) => Some(Both { left, a: p, b: q }),
+            Heads::Refs {
+                kind,
+                r,
                 a: p,
+                o,
                 b: q,
-            })
-        }
-        Pair::Types(p, q) => {
-            let to = Types { a: p, b: q, left };
-            relate_types(input, a, b, to, v, at, list)
+            } => {
+                relate_regions(invert(v), r, o, self.at, list);
+                let w = within(v, referent_variance(kind));
+                let to = Types { a: p, b: q, left };
+                self.relate_types(to, w, list)
+            }
+            Heads::Structs { name, a: g, b: h } => {
+                let params = parameters_of(self.input, name);
+                let of = Rows {
+                    params,
+                    a: g,
+                    b: h,
+                    left,
+                };
+                self.relate_arguments(of, v, list)
+            }
         }
     }
-}
 
-// Relates two rows of arguments.
-#[cycle(relate_arguments_relate_first_relate_types)]
-fn relate_arguments(
-    input: &Record<'_>,
-    a: &[u8],
-    b: &[u8],
-    two: Rows,
-    v: Variance,
-    at: u16,
-    list: &mut [u32],
-) -> Option<Both>
-    ensures { ArgumentsRelate input.now at
-        two.params a.now two.a b.now two.b two.left (variance_of v)
-        list.old list.new result }
-{
-    let g = two.a;
-    let h = two.b;
-    if g.count == 0 {
-        let rest = h.from.arguments(b, h.count, 32).ok()?;
-        return Some(Both {
-            left: two.left,
-            a: g.from,
-            b: rest.next,
-        });
+    // Relates the first arguments of two rows, under their own variance. The first row has one.
+    #[cycle(relate_arguments_relate_first_relate_types)]
+    fn relate_first(&self, two: Rows, v: Variance, list: &mut [u32]) -> Option<Both>
+        requires { two.a.count ≡ 0 → ⊥ }
+        ensures { FirstRelates self.now two.a two.b two.left (variance_of v)
+            list.old list.new result }
+    {
+        let left = two.left;
+        match first_pair(self.a, two.a.from, self.b, two.b)? {
+            Pair::Regions { r, a: p, o, b: q } => {
+                relate_regions(v, r, o, self.at, list);
+                Some(Both { left, a: p, b: q })
+            }
+            Pair::Units(p, q) => {
+                if left == 0 {
+                    return None;
+                }
+                Some(Both {
+                    left: left - 1,
+                    a: p,
+                    b: q,
+                })
+            }
+            Pair::Types(p, q) => {
+                let to = Types { a: p, b: q, left };
+                self.relate_types(to, v, list)
+            }
+        }
     }
-    let own = first_parameter(input.bytes, two.params);
-    let w = within(v, own.variance);
-    let one = relate_first(input, a, b, two, w, at, list)?;
-    let to = Rows {
-        params: own.others,
-        a: after(g, one.a),
-        b: after(h, one.b),
-        left: one.left,
-    };
-    relate_arguments(input, a, b, to, v, at, list)
-}
 
-// Relates the type at x of a with the type at y of b, which has its shape.
-pub fn relate(
-    input: &Record<'_>,
-    a: &[u8],
-    x: Cursor,
-    b: &[u8],
-    y: Cursor,
-    variance: Variance,
-    at: u16,
-    list: &mut [u32],
-)
-    ensures { Relates input.now at
-        a.now x.at b.now y.at (variance_of variance)
-        list.old list.new }
-{
-    let two = Types {
-        a: x,
-        b: y,
-        left: 32,
-    };
-    relate_types(input, a, b, two, variance, at, list);
-}
+    // Relates two rows of arguments.
+    #[cycle(relate_arguments_relate_first_relate_types)]
+    fn relate_arguments(&self, two: Rows, v: Variance, list: &mut [u32]) -> Option<Both>
+        ensures { ArgumentsRelate self.now two.params two.a two.b two.left (variance_of v)
+            list.old list.new result }
+    {
+        let g = two.a;
+        let h = two.b;
+        if g.count == 0 {
+            let rest = h.from.arguments(self.b, h.count, 32).ok()?;
+            return Some(Both {
+                left: two.left,
+                a: g.from,
+                b: rest.next,
+            });
+        }
+        let own = first_parameter(self.input.bytes, two.params);
+        let w = within(v, own.variance);
+        let one = self.relate_first(two, w, list)?;
+        let to = Rows {
+            params: own.others,
+            a: after(g, one.a),
+            b: after(h, one.b),
+            left: one.left,
+        };
+        self.relate_arguments(to, v, list)
+    }
 
-// Relates the type at x of a with a Ref of a region to the type at y of b, which has its shape.
-pub fn relate_ref(
-    input: &Record<'_>,
-    a: &[u8],
-    x: Cursor,
-    region: RegionName,
-    b: &[u8],
-    y: Cursor,
-    variance: Variance,
-    at: u16,
-    list: &mut [u32],
-)
-    ensures { RelatesRef region.0 input.now at
-        a.now x.at b.now y.at (variance_of variance)
-        list.old list.new }
-{
-    let Ok(node) = x.type_node(a) else {
-        return;
-    };
-    let Node::Ref {
-        kind,
-        region: r,
-        referent,
-    } = node
-    else {
-        return;
-    };
-    relate_regions(invert(variance), r, Region::Free(region), at, list);
-    let v = within(variance, referent_variance(kind));
-    relate(input, a, referent, b, y, v, at, list);
+    // Relates the type at x of a with the type at y of b, which has its shape.
+    pub fn relate(&self, x: Cursor, y: Cursor, variance: Variance, list: &mut [u32])
+        ensures { Relates self.now x.at y.at (variance_of variance)
+            list.old list.new }
+    {
+        let two = Types {
+            a: x,
+            b: y,
+            left: 32,
+        };
+        self.relate_types(two, variance, list);
+    }
+
+    // Relates the type at x of a with a Ref of a region to the type at y of b, which has its shape.
+    pub fn relate_ref(
+        &self,
+        x: Cursor,
+        region: RegionName,
+        y: Cursor,
+        variance: Variance,
+        list: &mut [u32],
+    )
+        ensures { RelatesRef region.0 self.now x.at y.at (variance_of variance)
+            list.old list.new }
+    {
+        let Ok(node) = x.type_node(self.a) else {
+            return;
+        };
+        let Node::Ref {
+            kind,
+            region: r,
+            referent,
+        } = node
+        else {
+            return;
+        };
+        relate_regions(invert(variance), r, Region::Free(region), self.at, list);
+        let v = within(variance, referent_variance(kind));
+        self.relate(referent, y, v, list);
+    }
 }

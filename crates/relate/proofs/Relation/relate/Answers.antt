@@ -1,5 +1,5 @@
 use Rattle.relate.proofs.RelateLaws as laws
-use Rattle.relate.proofs.relate.Goals as goal
+use Rattle.relate.proofs.Relation.relate.Goals as goal
 
 pub returns : goal.returns
 returns c = laws.whole_types c.relate_types.ensures

@@ -2,7 +2,7 @@ use Rattle.relate.proofs.RelateLaws as laws
 use Rattle.repr.specs.declared.Node.TheVariants as nodes
 use Rattle.std.specs.Prelude.{Ok}
 use mathlib.Core.Path.{ap, ◌∙◌}
-use Rattle.relate.proofs.relate_ref.Goals as goal
+use Rattle.relate.proofs.Relation.relate_ref.Goals as goal
 
 pub returns-in_default : goal.returns-in_default
 returns-in_default c = laws.ref_other c.type_node.ensures (λ j r n e. c.in_default.not-Ok (nodes.Ref j r n) e)

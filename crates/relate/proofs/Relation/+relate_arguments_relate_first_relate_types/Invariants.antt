@@ -1,6 +1,6 @@
--- `relate::relate_types`, `relate::relate_first` and `relate::relate_arguments` meet their contracts. Assumes nothing.
+-- `relate::Relation::relate_types`, `relate::Relation::relate_first` and `relate::Relation::relate_arguments` meet their contracts. Assumes nothing.
 use Prim.Native.Nat.{◌+◌, ◌*◌}
-use Rattle.relate.proofs.+relate_arguments_relate_first_relate_types.Given as goal
+use Rattle.relate.proofs.Relation.+relate_arguments_relate_first_relate_types.Given as goal
 
 abbrev pub decreases-relate_arguments : goal.decreases-relate_arguments
 decreases-relate_arguments l = 300 * l.two.left + l.two.a.count + 1

@@ -1,9 +1,9 @@
--- `relate::relate_types`, `relate::relate_first` and `relate::relate_arguments` meet their contracts. Assumes nothing.
+-- `relate::Relation::relate_types`, `relate::Relation::relate_first` and `relate::Relation::relate_arguments` meet their contracts. Assumes nothing.
 use Rattle.relate.proofs.RelateLaws as laws
 use Rattle.repr.proofs.ReadLaws.{ok_some, ok_none}
 use Rattle.std.specs.Prelude.{Some}
 use mathlib.Core.Path.{ap, ◌∙◌}
-use Rattle.relate.proofs.+relate_arguments_relate_first_relate_types.Goals as goal
+use Rattle.relate.proofs.Relation.+relate_arguments_relate_first_relate_types.Goals as goal
 
 pub relate_arguments-returns-in_err-rest : goal.relate_arguments-returns-in_err-rest
 relate_arguments-returns-in_err-rest t c = rw c.from_residual.ensures (laws.arguments_short c.arguments.ensures c.if-g-eq0.true (ok_none c.ok.ensures.value c.in_err-rest.was).1)
