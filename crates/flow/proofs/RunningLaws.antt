@@ -205,47 +205,20 @@ ran_as {E} {F} {pass} {ws} a e f =
 
 -- ---- The loops
 
--- The first k of the four words are done, and the others, in every set, are as they were.
-record Done (pass ws : List ℕ) (p q k : ℕ) (u : List ℕ) (r : Bool) : Type 0 where
-  pub ran : Ran (Lanes k p q) pass ws u r
-  pub rest : (x : ℕ) → k ≤ x % 4 → get_or u x 0 ≡ get_or ws x 0
-
+-- the first k of the four words
 module _ (pass ws : List ℕ) (p q : ℕ) (size : 4 * q + 4 ≤ length ws) where
-  done_none : Done pass ws p q 0 ws false
-  done_none = record { ran = ran-none pass ws (λ v w k. absurd (omega (arith, k.1))); rest = λ x l. refl }
+  pub lanes_none : Ran (Lanes 0 p q) pass ws ws false
+  lanes_none = ran-none pass ws (λ v w k. absurd (omega (arith, k.1)))
 
-  done_more : {u : List ℕ} {r : Bool} {c : ℕ} (k : ℕ) → k < 4 → Done pass ws p q k u r → Mixed (get_or ws (4 * q + k) 0) (get_or ws (4 * p + k) 0) (get_or pass (4 * q + k) 0) c
-      → Done pass ws p q (k + 1) (set u (4 * q + k) c) (not (eqb (get_or ws (4 * q + k) 0) c) || r)
-  done_more {u} {r} {c} k l a m =
-      record {
-        ran = ran_then r (not (eqb (get_or ws (4 * q + k) 0) c)) a.ran one (λ v w e. (e.0, omega (arith, e.1), e.2, e.3)) (λ v w e. (k, omega arith, e.0, e.1)) (λ v w e. go v w e (ℕ_discrete e.0 k));
-        rest = λ x h. get_or-set_other u (4 * q + k) x c 0 (omega arith) ∙ a.rest x (omega arith);
-      }
+  pub lanes_more : {u : List ℕ} {r : Bool} {c : ℕ} (k : ℕ) → k < 4 → Ran (Lanes k p q) pass ws u r → Mixed (get_or u (4 * q + k) 0) (get_or u (4 * p + k) 0) (get_or pass (4 * q + k) 0) c
+      → Ran (Lanes (k + 1) p q) pass ws (set u (4 * q + k) c) (not (eqb (get_or u (4 * q + k) 0) c) || r)
+  lanes_more {u} {r} {c} k l a m =
+      ran_then r (not (eqb (get_or u (4 * q + k) 0) c)) a (ran_one pass u (4 * p + k) (4 * q + k) m (omega (arith, a.since.as_long)))
+      (λ v w e. (e.0, omega (arith, e.1), e.2, e.3)) (λ v w e. (k, omega arith, e.0, e.1)) (λ v w e. go v w e (ℕ_discrete e.0 k))
     where
-      one : Ran (One (4 * p + k) (4 * q + k)) pass u (set u (4 * q + k) c) (not (eqb (get_or ws (4 * q + k) 0) c))
-      one =
-          let w : get_or u (4 * q + k) 0 ≡ get_or ws (4 * q + k) 0 = a.rest (4 * q + k) (omega arith) in
-          let v : get_or u (4 * p + k) 0 ≡ get_or ws (4 * p + k) 0 = a.rest (4 * p + k) (omega arith) in
-          let x : Mixed (get_or u (4 * q + k) 0) (get_or u (4 * p + k) 0) (get_or pass (4 * q + k) 0) c = rw (w, v) m in
-          subst (λ (y : ℕ). Ran (One (4 * p + k) (4 * q + k)) pass u (set u (4 * q + k) c) (not (eqb y c))) w (ran_one pass u (4 * p + k) (4 * q + k) x (omega (arith, a.ran.since.as_long)))
-
       go : (v w : ℕ) (e : Lanes (k + 1) p q v w) → Dec (e.0 ≡ k) → Lanes k p q v w ⊎ One (4 * p + k) (4 * q + k) v w
       go v w e (yes i) = inr (rw (← i) e.2, rw (← i) e.3)
       go v w e (no n) = inl (e.0, omega (arith, n, e.1), e.2, e.3)
-
-  -- as the code writes it
-  pub lanes_four : {c₀ c₁ c₂ c₃ : ℕ} → Mixed (get_or ws (4 * q) 0) (get_or ws (4 * p) 0) (get_or pass (4 * q) 0) c₀ → Mixed (get_or ws (4 * q + 1) 0) (get_or ws (4 * p + 1) 0) (get_or pass (4 * q + 1) 0) c₁
-      → Mixed (get_or ws (4 * q + 2) 0) (get_or ws (4 * p + 2) 0) (get_or pass (4 * q + 2) 0) c₂ → Mixed (get_or ws (4 * q + 3) 0) (get_or ws (4 * p + 3) 0) (get_or pass (4 * q + 3) 0) c₃
-      → Ran (Lanes 4 p q) pass ws (set (set (set (set ws (4 * q) c₀) (4 * q + 1) c₁) (4 * q + 2) c₂) (4 * q + 3) c₃)
-      (not (eqb (get_or ws (4 * q + 3) 0) c₃) || (not (eqb (get_or ws (4 * q + 2) 0) c₂) || (not (eqb (get_or ws (4 * q + 1) 0) c₁) || not (eqb (get_or ws (4 * q) 0) c₀))))
-  lanes_four {c₀} m₀ m₁ m₂ m₃ = (done_more 3 (omega arith) (done_more 2 (omega arith) (done_more 1 (omega arith) first m₁) m₂) m₃).ran
-    where
-      first : Done pass ws p q 1 (set ws (4 * q) c₀) (not (eqb (get_or ws (4 * q) 0) c₀))
-      first =
-          let y : 4 * q + 0 ≡ 4 * q = omega arith in
-          let x : 4 * p + 0 ≡ 4 * p = omega arith in
-          let d : Done pass ws p q 1 (set ws (4 * q + 0) c₀) (not (eqb (get_or ws (4 * q + 0) 0) c₀) || false) = done_more 0 (omega arith) done_none (rw (y, x) m₀) in
-          subst (λ (z : ℕ). Done pass ws p q 1 (set ws z c₀) (not (eqb (get_or ws z 0) c₀))) y (subst (Done pass ws p q 1 (set ws (4 * q + 0) c₀)) (or-false (not (eqb (get_or ws (4 * q + 0) 0) c₀))) d)
 
 module _ (d : Direction) (code p s q : ℕ) (e : q ≡ s) where
   pub turned_out : (pass ws : List ℕ) → code ≤ q → Ran (Turned d code p s) pass ws ws false

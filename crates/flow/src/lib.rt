@@ -27,25 +27,14 @@ fn edge(sets: &mut [u32], pass: &[u32], p: usize, q: usize) -> bool
     requires { (4 * p + 4 ≤ length sets.old) × (4 * q + 4 ≤ length sets.old) × (4 * q + 4 ≤ length pass.now) }
     ensures { Ran (Lanes 4 p q) pass.now sets.old sets.new result }
 {
-    let v = 4 * p;
-    let w = 4 * q;
-    let a0 = sets[v];
-    let a1 = sets[v + 1];
-    let a2 = sets[v + 2];
-    let a3 = sets[v + 3];
-    let b0 = sets[w];
-    let b1 = sets[w + 1];
-    let b2 = sets[w + 2];
-    let b3 = sets[w + 3];
-    let c0 = mixed(b0, a0, pass[w]);
-    let c1 = mixed(b1, a1, pass[w + 1]);
-    let c2 = mixed(b2, a2, pass[w + 2]);
-    let c3 = mixed(b3, a3, pass[w + 3]);
-    sets[w] = c0;
-    sets[w + 1] = c1;
-    sets[w + 2] = c2;
-    sets[w + 3] = c3;
-    (b3 != c3) | ((b2 != c2) | ((b1 != c1) | (b0 != c0)))
+    let mut changed = false;
+    for k in 0..4 {
+        let old = sets[4 * q + k];
+        let new = mixed(old, sets[4 * p + k], pass[4 * q + k]);
+        sets[4 * q + k] = new;
+        changed = (old != new) | changed;
+    }
+    changed
 }
 
 // What numbers go along: the edges of a graph between points below `code`, in one direction, to points that let them pass.
@@ -116,11 +105,7 @@ impl Ways<'_> {
             × ((g : Graph) → Edges g self.now.graph.now.first self.now.graph.now.succ → self.now.code ≡ g.code
             → FlowSays g self.now.direction self.now.pass.now sets.old sets.new) }
     {
-        loop {
-            if !self.round(sets) {
-                return;
-            }
-        }
+        while self.round(sets) {}
     }
 }
 

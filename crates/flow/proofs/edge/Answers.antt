@@ -1,17 +1,10 @@
--- `flow::edge`: the words that are read are not among those that were written before. Assumes nothing.
+-- `flow::edge`. The loop's invariant: the first k words are done. Assumes nothing.
 use native.Mathlib.Omega.{arith}
-use lib.ListN.{length-set}
-use Rattle.flow.proofs.RunningLaws.{lanes_four}
+use Rattle.flow.proofs.RunningLaws.{lanes_none, lanes_more}
 use Rattle.flow.proofs.edge.Goals as goal
 
-pub bounds-sets-w-6 : goal.bounds-sets-w-6
-bounds-sets-w-6 c = simp length-set (omega arith)
+pub loop-k-init : goal.loop-k-init
+loop-k-init c = let a = c.args in lanes_none a.pass.now a.sets.now a.p a.q c.requires.1
 
-pub bounds-sets-w-7 : goal.bounds-sets-w-7
-bounds-sets-w-7 c = simp length-set (omega arith)
-
-pub bounds-sets-w-8 : goal.bounds-sets-w-8
-bounds-sets-w-8 c = simp length-set (omega arith)
-
-pub returns : goal.returns
-returns c = let a = c.args in lanes_four a.pass.now a.sets.now a.p a.q c.requires.1 c.mixed-c0.ensures c.mixed-c1.ensures c.mixed-c2.ensures c.mixed-c3.ensures
+pub loop-k-preserved : goal.loop-k-preserved
+loop-k-preserved c = let a = c.args in lanes_more a.pass.now a.sets.now a.p a.q c.requires.1 c.loop-k.k (omega arith) c.loop-k.invariant c.mixed-new.ensures

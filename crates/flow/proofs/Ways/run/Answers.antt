@@ -10,13 +10,13 @@ loop-init c = let a = c.args.self.now in rounds_none a.direction a.code a.graph.
 pub round-requires : goal.round-requires
 round-requires c = (c.requires.0, omega (arith, c.loop.invariant.as_long, c.requires.1), c.requires.2)
 
-pub returns-then-not-round : goal.returns-then-not-round
-returns-then-not-round c = let a = c.args.self.now in
+pub returns : goal.returns
+returns c = let a = c.args.self.now in
     let s = c.loop.invariant in
-    (c.round.ensures.since.as_long ∙ s.as_long, rounds_all a.direction a.code a.graph.now.first a.graph.now.succ a.pass.now c.args.sets.now s c.round.ensures c.if-not-round.true)
+    (c.round.ensures.since.as_long ∙ s.as_long, rounds_all a.direction a.code a.graph.now.first a.graph.now.succ a.pass.now c.args.sets.now s c.round.ensures c.loop-test.false)
 
 pub loop-smaller : goal.loop-smaller
-loop-smaller c = let a = c.args.self.now in rounds_less a.direction a.code a.graph.now.first a.graph.now.succ a.pass.now c.args.sets.now c.loop.invariant c.round.ensures c.if-not-round.false
+loop-smaller c = let a = c.args.self.now in rounds_less a.direction a.code a.graph.now.first a.graph.now.succ a.pass.now c.args.sets.now c.loop.invariant c.round.ensures c.loop-test.true
 
 pub loop-preserved : goal.loop-preserved
 loop-preserved c = let a = c.args.self.now in rounds_more a.direction a.code a.graph.now.first a.graph.now.succ a.pass.now c.args.sets.now c.loop.invariant c.round.ensures

@@ -1,0 +1,6 @@
+-- `flow::edge`. The loop's invariant: the first k words are done. Assumes nothing.
+use Rattle.flow.specs.Running.{Ran, Lanes}
+use Rattle.flow.proofs.edge.Given as goal
+
+abbrev pub invariant-loop-k : goal.invariant-loop-k
+invariant-loop-k l = Ran (Lanes l.k l.p l.q) l.pass l.initial.sets l.sets l.changed
