@@ -44,12 +44,14 @@ struct Ways<'a> {
     graph: &'a FuncGraph<'a>,
     code: usize,
     direction: Direction,
+    ghost few: { code ≤ 1024 },
+    ghost passes: { 4 * code ≤ length pass.now },
 }
 
 impl Ways<'_> {
     // The same for p and the point s that follows it, in the direction. A number that is no point of a block is passed by.
     fn turned(&self, sets: &mut [u32], p: usize, s: u16) -> bool
-        requires { (self.now.code ≤ 1024) × (p < self.now.code) × (4 * self.now.code ≤ length sets.old) × (4 * self.now.code ≤ length self.now.pass.now) }
+        requires { (p < self.now.code) × (4 * self.now.code ≤ length sets.old) }
         ensures { Ran (Turned self.now.direction self.now.code p s) self.now.pass.now sets.old sets.new result }
     {
         let q = usize::from(s);
@@ -64,7 +66,7 @@ impl Ways<'_> {
 
     // The same for p and each point that follows it.
     fn row(&self, sets: &mut [u32], p: usize) -> bool
-        requires { (self.now.code ≤ 1024) × (p < self.now.code) × (4 * self.now.code ≤ length sets.old) × (4 * self.now.code ≤ length self.now.pass.now) }
+        requires { (p < self.now.code) × (4 * self.now.code ≤ length sets.old) }
         ensures { Ran (Row self.now.direction self.now.code self.now.graph.now.first self.now.graph.now.succ p) self.now.pass.now sets.old sets.new result }
     {
         let mut changed = false;
@@ -87,7 +89,7 @@ impl Ways<'_> {
 
     // Every edge once.
     fn round(&self, sets: &mut [u32]) -> bool
-        requires { (self.now.code ≤ 1024) × (4 * self.now.code ≤ length sets.old) × (4 * self.now.code ≤ length self.now.pass.now) }
+        requires { 4 * self.now.code ≤ length sets.old }
         ensures { Ran (Rows self.now.direction self.now.code self.now.graph.now.first self.now.graph.now.succ self.now.code) self.now.pass.now sets.old sets.new result }
     {
         let mut changed = false;
@@ -100,7 +102,7 @@ impl Ways<'_> {
 
     // Every edge until no set changes.
     fn run(&self, sets: &mut [u32])
-        requires { (self.now.code ≤ 1024) × (4 * self.now.code ≤ length sets.old) × (4 * self.now.code ≤ length self.now.pass.now) }
+        requires { 4 * self.now.code ≤ length sets.old }
         ensures { (length sets.new ≡ length sets.old)
             × ((g : Graph) → Edges g self.now.graph.now.first self.now.graph.now.succ → self.now.code ≡ g.code
             → FlowSays g self.now.direction self.now.pass.now sets.old sets.new) }
@@ -130,21 +132,11 @@ pub fn flow(
     if pass.len() < 4 * code {
         return;
     }
-    // Each direction by itself, so that no edge has to test it.
-    match direction {
-        Direction::Forward => Ways {
-            pass,
-            graph,
-            code,
-            direction: Direction::Forward,
-        }
-        .run(sets),
-        Direction::Backward => Ways {
-            pass,
-            graph,
-            code,
-            direction: Direction::Backward,
-        }
-        .run(sets),
-    }
+    let ways = Ways {
+        pass,
+        graph,
+        code,
+        direction,
+    };
+    ways.run(sets);
 }

@@ -8,7 +8,7 @@ pub loop-init : goal.loop-init
 loop-init c = let a = c.args.self.now in rounds_none a.direction a.code a.graph.now.first a.graph.now.succ a.pass.now c.args.sets.now
 
 pub round-requires : goal.round-requires
-round-requires c = (c.requires.0, omega (arith, c.loop.invariant.as_long, c.requires.1), c.requires.2)
+round-requires c = omega (arith, c.loop.invariant.as_long, c.requires)
 
 pub returns : goal.returns
 returns c = let a = c.args.self.now in
