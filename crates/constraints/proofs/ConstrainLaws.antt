@@ -8,10 +8,9 @@ use lib.Dec.{T}
 use Rattle.nll_spec.specs.Syntax as syntax
 use Rattle.nll_spec.specs.Syntax.{Job, Point, Free, RefTy, Co, Contra}
 use Rattle.nll_spec.specs.Decode.{read, done, items, path, code_count}
-use Rattle.nll_spec.specs.Types.{path_type, variable_type}
 use Rattle.nll_spec.specs.WellFormed.{shape_fits, refusal}
 use Rattle.nll_spec.specs.Graph.{graph_of, action_at}
-use Rattle.nll_spec.specs.Constraints.{Outlives, require_outlives, relate, relate_source, constraints_at}
+use Rattle.nll_spec.specs.Constraints.{Outlives, require_outlives, relate_source, constraints_at}
 use Rattle.nll_spec.proofs.AcceptedLaws.{accepted-job}
 use Rattle.nll_spec.proofs.GraphLaws.{code-count}
 use Rattle.repr.specs.Reading.{rest, path_of, borrow_kind_of}
@@ -36,7 +35,7 @@ use Rattle.env.proofs.PrefixLaws.{shortest-of}
 use Rattle.env.proofs.ShortestLaws.{taken-leaves}
 use Rattle.constraint_list.specs.Listed.{Adds}
 use Rattle.constraint_list.proofs.ListLaws.{adds_none, adds-append}
-use Rattle.constraints.specs.Constraining.{step_constraints, source_constraints, Takes, SourceIs, SourceSays, PlaceSays, along_source, TypesAdd, PathsAdd, PairAdds, Constrains}
+use Rattle.constraints.specs.Constraining.{step_constraints, source_constraints, Takes, SourceIs, SourceSays, PlaceSays, first, second, along_source, TypesAdd, PathsAdd, PairAdds, Constrains}
 use Rattle.constraints.specs.declared.Source.{Source}
 use Rattle.constraints.specs.declared.Place.{Place}
 use Rattle.constraints.specs.declared.Pair.{Pair}
@@ -106,7 +105,7 @@ module _ {pair : Pair} {ls : List ℕ} where
   pair_stepless x y z vp vq u =
       record {
         adds = λ j l accepted wp wq k same.
-            adds_as (sym (then_none _ (no_steps pair.how pair.at j (path_of pair.input.now.bytes.now pair.q) (rw z.1))))
+            adds_as (sym (then_none _ (no_steps pair.how pair.at j (second pair) (rw z.1))))
             ((paths_add (stepless pair.p x.at z.0 vp.1) (stepless pair.q y.at z.1 vq.1) refl refl (stays vp.0) (stays vq.0) u).adds j l wp wq k same);
       }
 
@@ -156,13 +155,6 @@ module _ {input : Record} {at p : Point} {ls : List ℕ} {r : Result (Action × 
     unfolding constraints_at
     action-constraint {m} {n} i b =
         record { adds = λ j l accepted h. adds_as (ap (constraints_at j at) (sym (carry (λ x y. x ≡ syntax.Constraint m.0 n.0) (is same act j l h e i).reads refl))) b }
-
--- the paths as `Syntax` has them
-abbrev first : Pair → syntax.Path
-first pair = path_of pair.input.now.bytes.now pair.p
-
-abbrev second : Pair → syntax.Path
-second pair = path_of pair.input.now.bytes.now pair.q
 
 module _ {pair : Pair} {at p : Point} {r : Result (Action × Cursor) Refusal} (same : p ≡ at) (act : (j : Job) → Holds pair.input.now j → p < code_count j.blocks → Acts pair.input.now.bytes.now (action_at (graph_of j) p) r) {a : Action} {c : Cursor} (e : r ≡ Ok (a, c)) (next : pair.at ≡ at + 1) {ls ls' : List ℕ} where
   pub action-borrow : {o : RegionName} {k : BorrowKind} → pair.how ≡ Borrowed o → a ≡ actions.Borrow pair.p o k pair.q → PairAdds pair ls ls' → Constrains pair.input.now at ls ls'

@@ -53,6 +53,7 @@ abbrev pub SourceIs : List ℕ → Path → Related → List ℕ → Source → 
 SourceIs s p Assigned kinds r = r.steps ≡ 0
 SourceIs s p (Borrowed region) kinds r = BorrowSource s p region kinds r
 
+-- What `Pair::source` says.
 pub record SourceSays (pair : Pair) (kinds : List ℕ) (r : Source) : Type 0 where
   pub says : SourceIs pair.input.now.bytes.now pair.q pair.how kinds r
 
@@ -81,12 +82,19 @@ module _ (pair : Pair) where
   abbrev s : List ℕ
   s = pair.input.now.bytes.now
 
-  -- the types of the paths
+  -- the paths
+  abbrev pub first : syntax.Path
+  first = path_of s pair.p
+
+  abbrev pub second : syntax.Path
+  second = path_of s pair.q
+
+  -- their types, or what the second's is related as
   abbrev pub first_type : Job → Ty
-  first_type j = path_type j (path_of s pair.p)
+  first_type j = path_type j first
 
   abbrev pub second_type : Job → BorrowKind → Ty
-  second_type j k = against pair.how k (path_type j (path_of s pair.q))
+  second_type j k = against pair.how k (path_type j second)
 
   -- The constraints of the two types that stand there are added, if the types have one shape.
   pub record TypesAdd (x y : Place) (ls ls' : List ℕ) : Type 0 where
@@ -103,7 +111,7 @@ module _ (pair : Pair) where
   -- The constraints of an assignment or a borrow are added, at the point.
   pub record PairAdds (ls ls' : List ℕ) : Type 0 where
     pub adds : (j : Job) → Holds pair.input.now j → refusal j ≡ 0 → Takes s j pair.p → Takes s j pair.q → (k : BorrowKind) → T (same_shape (first_type j) (second_type j k))
-        → Adds (relate pair.at j.structs (first_type j) (under pair.how) (second_type j k) ++ along_source pair.how pair.at j (path_of s pair.q)) ls ls'
+        → Adds (relate pair.at j.structs (first_type j) (under pair.how) (second_type j k) ++ along_source pair.how pair.at j second) ls ls'
 
 -- The constraints of the action at the point, which is one of the blocks.
 pub record Constrains (input : Record) (at : Point) (ls ls' : List ℕ) : Type 0 where

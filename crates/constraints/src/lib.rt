@@ -104,7 +104,7 @@ impl<'a> Pair<'a> {
         }
     }
 
-    // Relates the types of the paths, which stand there.
+    // Relates the types of the paths, which stand at x and at y.
     fn relate_types(&self, x: Place<'_>, y: Place<'_>, list: &mut [u32])
         ensures { TypesAdd self.now x.entry y.entry
             list.old list.new }
@@ -123,7 +123,7 @@ impl<'a> Pair<'a> {
         }
     }
 
-    // The same for the types of those that may be taken, in the record, in a or in b.
+    // The same for what was found of each path, in the record, in a or in b. A path that may not be taken has no type.
     fn relate_found(
         &self,
         a: &[u8; 512],
@@ -146,7 +146,7 @@ impl<'a> Pair<'a> {
         self.relate_types(place_of(s, a, x), place_of(s, b, y), list);
     }
 
-    // The same for paths of which one has steps, and the steps of a borrow's source.
+    // The types of paths of which one has steps, and the steps of a borrow's source.
     fn relate_stepped(&self, list: &mut [u32])
         ensures { PairAdds self.now
             list.old list.new }
