@@ -13,6 +13,13 @@ use Rattle.record.specs.Layout.{Holds}
 use Rattle.record.specs.declared.Record.{Record}
 use Rattle.bit_set.specs.Bits.{has}
 use Rattle.flow.specs.Flows.{bit_at}
+use Rattle.liveness.specs.declared.Half.{Half}
+use Rattle.liveness.specs.declared.Half.TheVariants.{Used, Dropped}
+
+-- the number that variable 0 has in a half of a point's set
+abbrev pub start_of : Half → ℕ
+start_of Used = 0
+start_of Dropped = 64
 
 -- number b is that of one of these variables, in the half of 64 numbers that begins at `from`
 abbrev pub in_half : ℕ → List Variable → ℕ → Bool

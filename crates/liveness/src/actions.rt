@@ -2,19 +2,20 @@
 ghost use Rattle.std.specs.Prelude.{◌≡◌, [], ◌∷◌, ◌+◌, ◌*◌, ◌<◌, ◌≤◌, length};
 ghost use Rattle.nll_spec.specs.Liveness.{is_plain, write_def, write_use};
 ghost use Rattle.repr.specs.Reading.{path_of};
-ghost use Rattle.liveness.specs.Needs.{in_half, in_either, Added, Removed, Sourced, Needed, Defined, Blank, Acted, AllActed};
+ghost use Rattle.liveness.specs.Needs.{start_of, in_half, in_either, Added, Removed, Sourced, Needed, Defined, Blank, Acted, AllActed};
 
+use super::Half;
 use record::Record;
 use repr::{Action, Cursor, Path, Variable};
 
-// Puts a variable into point p's set, in the half of 64 numbers that begins at `from`.
-fn add(sets: &mut [u32], p: usize, from: usize, v: Variable)
-    requires { (4 * p + 4 ≤ length sets.old) × (from ≤ 64) }
-    ensures { Added p (in_half from (v.0 ∷ [])) sets.old sets.new }
+// Puts a variable into a half of point p's set.
+fn add(sets: &mut [u32], p: usize, half: Half, v: Variable)
+    requires { 4 * p + 4 ≤ length sets.old }
+    ensures { Added p (in_half (start_of half) (v.0 ∷ [])) sets.old sets.new }
 {
     let k = usize::from(v.0);
     if k < 64 {
-        bit_set::add(sets, 4 * p, from + k);
+        bit_set::add(sets, 4 * p, half.start() + k);
     }
 }
 
@@ -43,7 +44,7 @@ fn write_use(s: &[u8], sets: &mut [u32], p: usize, dest: Path)
     ensures { Added p (in_half 0 (write_use (path_of s.now dest))) sets.old sets.new }
 {
     if !plain(s, dest) {
-        add(sets, p, 0, dest.base);
+        add(sets, p, Half::Used, dest.base);
     }
 }
 
@@ -67,7 +68,7 @@ fn sources(s: &[u8], from: Cursor, count: u8, sets: &mut [u32], p: usize)
         let Ok((q, next)) = c.path(s) else {
             return;
         };
-        add(sets, p, 0, q.base);
+        add(sets, p, Half::Used, q.base);
         c = next;
     }
 }
@@ -82,13 +83,13 @@ fn needs(s: &[u8], a: Action, next: Cursor, sets: &mut [u32], p: usize)
             sources(s, next, count, sets, p);
             write_use(s, sets, p, dest);
         }
-        Action::Borrow { source, .. } => add(sets, p, 0, source.base),
+        Action::Borrow { source, .. } => add(sets, p, Half::Used, source.base),
         Action::Assign { dest, source } => {
-            add(sets, p, 0, source.base);
+            add(sets, p, Half::Used, source.base);
             write_use(s, sets, p, dest);
         }
-        Action::Use(q) => add(sets, p, 0, q.base),
-        Action::Drop(q) => add(sets, p, 64, q.base),
+        Action::Use(q) => add(sets, p, Half::Used, q.base),
+        Action::Drop(q) => add(sets, p, Half::Dropped, q.base),
         Action::Noop | Action::Constraint { .. } | Action::StorageDead(_) => {}
     }
 }

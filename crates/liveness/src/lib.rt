@@ -3,7 +3,7 @@
 mod actions;
 mod rows;
 
-ghost use Rattle.std.specs.Prelude.{◌≡◌, ◌*◌, ◌<◌, ◌≤◌, length};
+ghost use Rattle.std.specs.Prelude.{◌≡◌, ◌*◌, ◌%◌, ◌<◌, ◌≤◌, length};
 ghost use Rattle.nll_spec.specs.Syntax.{Job};
 ghost use Rattle.nll_spec.specs.Graph.{graph_of};
 ghost use Rattle.nll_spec.specs.Decode.{code_count};
@@ -11,13 +11,32 @@ ghost use Rattle.nll_spec.specs.Output.{word_bits};
 ghost use Rattle.record.specs.Layout.{Holds};
 ghost use Rattle.graph.specs.Tables.{Edges};
 ghost use Rattle.graph.specs.Search.{WalkedIn};
-ghost use Rattle.liveness.specs.Needs.{Blank};
+ghost use Rattle.liveness.specs.Needs.{start_of, Blank};
 ghost use Rattle.liveness.specs.Rows.{LiveRows};
 
 use actions::fill;
 use flow::Direction;
 use graph::tables::FuncGraph;
 use rows::rows;
+
+// A half of a point's set: the variables that are used later, or those that are dropped later.
+#[derive(Clone, Copy)]
+enum Half {
+    Used,
+    Dropped,
+}
+
+impl Half {
+    // The number that variable 0 has in a point's set.
+    fn start(self) -> usize
+        ensures { (result ≡ start_of self) × (result ≤ 64) × (result % 32 ≡ 0) }
+    {
+        match self {
+            Half::Used => 0,
+            Half::Dropped => 64,
+        }
+    }
+}
 
 // Fills the rows of the variables, by two tables of the points' sets: nothing starts yet, and everything passes.
 fn by_tables(
@@ -36,8 +55,8 @@ fn by_tables(
     fill(&graph.input, sets, pass);
     let code = usize::from(graph.input.head.code);
     flow::flow(sets, pass, graph, code, Direction::Backward);
-    rows(graph, sets, 0, width, used);
-    rows(graph, sets, 64, width, dropped);
+    rows(graph, sets, Half::Used, width, used);
+    rows(graph, sets, Half::Dropped, width, dropped);
 }
 
 // The same by tables of N words.

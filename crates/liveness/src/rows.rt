@@ -1,7 +1,9 @@
 // From the points' sets of variables to the variables' rows of points.
-ghost use Rattle.std.specs.Prelude.{◌≡◌, ◌*◌, ◌%◌, ◌<◌, ◌≤◌, length};
+ghost use Rattle.std.specs.Prelude.{◌≡◌, ◌*◌, ◌<◌, ◌≤◌, length};
+ghost use Rattle.liveness.specs.Needs.{start_of};
 ghost use Rattle.liveness.specs.Rows.{in_set, in_word, Column, Columns};
 
+use super::Half;
 use graph::tables::FuncGraph;
 
 // Puts point p into the row of each variable from `first` on and below n that a word has: its first bit is for variable `first`.
@@ -21,12 +23,12 @@ fn word_column(w: u32, p: usize, first: usize, n: usize, width: usize, rows: &mu
     }
 }
 
-// Puts point p into the row of each of so many variables that is in the half of its set that begins at `from`.
-fn column(sets: &[u32], p: usize, from: usize, many: usize, width: usize, rows: &mut [u32])
-    requires { (p < 32 * width) × (width ≤ 32) × (from ≤ 64) × (from % 32 ≡ 0) × (many ≤ 64) × (64 * width ≤ length rows.old) }
-    ensures { Column width many (in_set sets.now p from) p rows.old rows.new }
+// Puts point p into the row of each of so many variables that is in the half of its set.
+fn column(sets: &[u32], p: usize, half: Half, many: usize, width: usize, rows: &mut [u32])
+    requires { (p < 32 * width) × (width ≤ 32) × (many ≤ 64) × (64 * width ≤ length rows.old) }
+    ensures { Column width many (in_set sets.now p (start_of half)) p rows.old rows.new }
 {
-    let at = 4 * p + from / 32;
+    let at = 4 * p + half.start() / 32;
     let low = bit_slice::word_at(sets, at);
     if many <= 32 {
         word_column(low, p, 0, many, width, rows);
@@ -38,15 +40,15 @@ fn column(sets: &[u32], p: usize, from: usize, many: usize, width: usize, rows: 
 }
 
 // The rows of all variables, with the walked points only.
-pub fn rows(graph: &FuncGraph<'_>, sets: &[u32], from: usize, width: usize, rows: &mut [u32])
-    requires { (graph.now.input.head.code ≤ 32 * width) × (width ≤ 32) × (from ≤ 64) × (from % 32 ≡ 0) × (graph.now.input.head.variables ≤ 64) × (64 * width ≤ length rows.old) }
-    ensures { Columns width graph.now.input.head.variables graph.now.input.head.code from graph.now.walked sets.now rows.new }
+pub fn rows(graph: &FuncGraph<'_>, sets: &[u32], half: Half, width: usize, rows: &mut [u32])
+    requires { (graph.now.input.head.code ≤ 32 * width) × (width ≤ 32) × (graph.now.input.head.variables ≤ 64) × (64 * width ≤ length rows.old) }
+    ensures { Columns width graph.now.input.head.variables graph.now.input.head.code (start_of half) graph.now.walked sets.now rows.new }
 {
     let many = usize::from(graph.input.head.variables);
     bit_set::clear(rows, 0, many * width);
     for p in 0..usize::from(graph.input.head.code) {
         if bit_set::test(&graph.walked, 0, p) {
-            column(sets, p, from, many, width, rows);
+            column(sets, p, half, many, width, rows);
         }
     }
 }
