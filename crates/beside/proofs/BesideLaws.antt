@@ -18,7 +18,6 @@ use Rattle.repr.specs.declared.Cursor.{Cursor}
 use Rattle.repr.specs.declared.BorrowKind.{BorrowKind}
 use Rattle.repr.specs.declared.Region.{Region}
 use Rattle.repr.specs.declared.Region.TheVariants as regions
-use Rattle.repr.specs.declared.StructName.{StructName}
 use Rattle.repr.specs.declared.StructParameter.{StructParameter}
 use Rattle.repr.proofs.ReadLaws.{told}
 use Rattle.repr.specs.Stands.{Stands, TypeTo, ArgsTo, FirstType}
@@ -27,7 +26,7 @@ use Rattle.repr.proofs.ItemLaws.{first_of, none_of}
 use Rattle.repr.proofs.NodeLaws.{first-nodes}
 use Rattle.repr.proofs.StandLaws.{NodeIs, node-is, on-node, on_argument, none_is, type-passed}
 use Rattle.beside.specs.Beside.{heads_of, ParameterSays, NoType, RegionIs, RegionSays, TypeIs, TypeSays, UnitIs, UnitSays, PairIs, FirstsSay}
-use Rattle.beside.specs.declared.Row.{Row}
+use Rattle.repr.specs.declared.Row.{Row}
 use Rattle.beside.specs.declared.Heads.{Heads}
 use Rattle.beside.specs.declared.Heads.TheVariants as heads
 use Rattle.beside.specs.declared.First.{First}

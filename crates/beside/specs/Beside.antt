@@ -9,11 +9,9 @@ use Rattle.nll_spec.specs.Constraints.{head_variance}
 use Rattle.nll_spec.specs.WellFormed.{is_unit, same_shapes}
 use Rattle.repr.specs.Reading.{rest, borrow_kind_of, variance_of, region_of}
 use Rattle.repr.specs.declared.Cursor.{Cursor}
-use Rattle.repr.specs.declared.BorrowKind.{BorrowKind}
 use Rattle.repr.specs.declared.Region.{Region}
-use Rattle.repr.specs.declared.StructName.{StructName}
 use Rattle.repr.specs.Stands.{Stands, TypeTo, ArgsTo, FirstType}
-use Rattle.beside.specs.declared.Row.{Row}
+use Rattle.repr.specs.declared.Row.{Row}
 use Rattle.beside.specs.declared.Heads.{Heads}
 use Rattle.beside.specs.declared.Heads.TheVariants as heads
 use Rattle.beside.specs.declared.First.{First}

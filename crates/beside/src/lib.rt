@@ -4,15 +4,9 @@ ghost use Rattle.std.specs.Prelude.{◌≡◌, ◌-◌};
 ghost use Rattle.beside.specs.Beside.{heads_of, ParameterSays, RegionSays, TypeSays, UnitSays, FirstsSay};
 
 use repr::{
-    Argument, BorrowKind, Cursor, Node, Reading, Refusal, Region, RegionName, StructName, Variance,
+    Argument, BorrowKind, Cursor, Node, Reading, Refusal, Region, RegionName, Row, StructName,
+    Variance,
 };
-
-// So many arguments or parameters, and where they begin.
-#[derive(Clone, Copy)]
-pub struct Row {
-    pub from: Cursor,
-    pub count: u8,
-}
 
 // What two types begin with that begin alike: their first nodes, with their regions and where their parts begin.
 #[derive(Clone, Copy)]
@@ -50,6 +44,14 @@ pub enum Pair {
     },
     Types(Cursor, Cursor),
     Units(Cursor, Cursor),
+}
+
+// Where two parts of types end, with how many more nodes the first type may have.
+#[derive(Clone, Copy)]
+pub struct Both {
+    pub left: usize,
+    pub a: Cursor,
+    pub b: Cursor,
 }
 
 // The first parameter's variance, and the others.

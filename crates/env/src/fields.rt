@@ -7,8 +7,8 @@ use repr::{Cursor, FieldName, StructDecl};
 pub fn field_type(s: &[u8], d: StructDecl, f: FieldName) -> Option<Cursor>
     ensures { FieldSays s.now d f.0 result }
 {
-    let mut c = d.members;
-    for _ in 0..d.fields {
+    let mut c = d.fields.from;
+    for _ in 0..d.fields.count {
         let (number, ty) = c.field(s).ok()?;
         if number == f {
             return Some(ty);

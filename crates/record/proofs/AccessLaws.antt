@@ -155,19 +155,19 @@ action-below s o {a} l h = go (dec_lt o 65535)
 -- its parameters and its fields
 struct_parts : {s : List ℕ} {at : ℕ} {r : Result declared.StructDecl Refusal} {d : declared.StructDecl} {x : StructDecl} → StructSays s at r → r ≡ Ok d → Stands struct_decl x (drop at s) → Declared s x d
 unfolding parts.struct_of done
-struct_parts {s} {at} {r} {d} {x} m e h = go (items d.fields field (rest s d.members)) refl
+struct_parts {s} {at} {r} {d} {x} m e h = go (items d.fields.count field (rest s d.fields.from)) refl
   where
-    params : parts.Readable (items d.parameters param) (rest s d.declared)
+    params : parts.Readable (items d.parameters.count param) (rest s d.parameters.from)
     params = subst (parts.ParametersRead s) e m.declared
 
     -- reading the fields, where the parameters are read
     both : parts.struct_of s d ≡ read x h.over
     both = sym (told (struct_says s) m.same e) ∙ h.reads
 
-    go : (q : Reading (List Field)) → items d.fields field (rest s d.members) ≡ q → Declared s x d
-    go (refused k) i = absurd (clash (sym (step _ _ _ params.reads ∙ stop (items d.fields field) _ (rest s d.members) i) ∙ both))
+    go : (q : Reading (List Field)) → items d.fields.count field (rest s d.fields.from) ≡ q → Declared s x d
+    go (refused k) i = absurd (clash (sym (step _ _ _ params.reads ∙ stop (items d.fields.count field) _ (rest s d.fields.from) i) ∙ both))
     go (read fs over) i =
-        let c : read (record { params = params.item; fields = fs }) over ≡ read x h.over = sym (step _ _ _ params.reads ∙ step (items d.fields field) _ (rest s d.members) i) ∙ both in
+        let c : read (record { params = params.item; fields = fs }) over ≡ read x h.over = sym (step _ _ _ params.reads ∙ step (items d.fields.count field) _ (rest s d.fields.from) i) ∙ both in
         let same : ◌≡◌ {A = StructDecl} (record { params = params.item; fields = fs }) x = cc in
         subst (λ (y : StructDecl). Declared s y d) same (record { params = record { over = params.over; reads = params.reads }; fields = record { over = over; reads = i } })
 
@@ -239,10 +239,10 @@ module _ {s t : List ℕ} {h : Head} {j : Job} (w : Layout s t h j) where
 
   -- the struct of a name
   module _ {name x : ℕ} (there : x ≡ entry_in t 0 16 name) where
-    pub struct_past : {c : Cursor} → h.structs ≤ name → Declared s (struct_of j.structs name) (record { parameters = 0; declared = c; fields = 0; members = c })
+    pub struct_past : {c : Cursor} → h.structs ≤ name → Declared s (struct_of j.structs name) (record { parameters = record { from = c; count = 0 }; fields = record { from = c; count = 0 } })
     unfolding items done
     struct_past {c} l =
-        subst (λ (y : StructDecl). Declared s y (record { parameters = 0; declared = c; fields = 0; members = c })) (sym (get_or-eq_default j.structs _ (let k : length j.structs ≤ name = omega (arith, w.struct_count) in k)))
+        subst (λ (y : StructDecl). Declared s y (record { parameters = record { from = c; count = 0 }; fields = record { from = c; count = 0 } })) (sym (get_or-eq_default j.structs _ (let k : length j.structs ≤ name = omega (arith, w.struct_count) in k)))
         (record { params = record { over = rest s c; reads = refl }; fields = record { over = rest s c; reads = refl } })
 
     module _ (l : name < h.structs) {r : Result declared.StructDecl Refusal} (m : StructSays s x r) where

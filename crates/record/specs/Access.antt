@@ -23,8 +23,8 @@ point_of o = cond {A = Option Cursor} (eqb o block_end) None (Some (record { at 
 
 -- A struct's parameters and fields stand where d says.
 pub record Declared (s : List ℕ) (x : syntax.StructDecl) (d : StructDecl) : Type 0 where
-  pub params : Stands (items d.parameters param) x.params (rest s d.declared)
-  pub fields : Stands (items d.fields field) x.fields (rest s d.members)
+  pub params : Stands (items d.parameters.count param) x.params (rest s d.parameters.from)
+  pub fields : Stands (items d.fields.count field) x.fields (rest s d.fields.from)
 
 -- The answer is the action a.
 pub record Acts (s : List ℕ) (a : syntax.Action) (r : Result (Action × Cursor) Refusal) : Type 0 where

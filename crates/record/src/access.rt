@@ -9,7 +9,7 @@ ghost use Rattle.record.specs.Access.{entry_in, point_of, Declared, Acts, kind_o
 
 use super::{ActionKind, BLOCKS, END, FIRST, OUTLIVES, POINTS, Record, STRUCTS, VARIABLES};
 use repr::{
-    Action, BasicBlockIndex, Cursor, Reading, RegionName, StructDecl, StructName, Variable,
+    Action, BasicBlockIndex, Cursor, Reading, RegionName, Row, StructDecl, StructName, Variable,
 };
 
 // What an action does, by the byte that it begins with. A byte that begins none counts as Noop; a record that was read has none there.
@@ -93,11 +93,10 @@ impl<'a> Record<'a> {
         ensures { (j : Job) → Holds self.now j → Declared self.now.bytes.now (struct_of j.structs name.0) result }
     {
         let at = self.struct_at(name);
+        let row = Row { from: at, count: 0 };
         let none = StructDecl {
-            parameters: 0,
-            declared: at,
-            fields: 0,
-            members: at,
+            parameters: row,
+            fields: row,
         };
         if self.head.structs <= name.0 {
             return none;

@@ -29,8 +29,8 @@ use Rattle.record.specs.Access.{Declared}
 use Rattle.record.specs.declared.Record.{Record}
 use Rattle.repr.proofs.SpellLaws.{clash, carry}
 use Rattle.repr.proofs.ItemLaws.{first_of, items-length}
-use Rattle.refusals.specs.Fits.{params_of, ParamsAt, Within, TypeFit, ArgumentsFit}
-use Rattle.refusals.specs.declared.fits.Params.{Params}
+use Rattle.refusals.specs.Fits.{ParamsAt, Within, TypeFit, ArgumentsFit}
+use Rattle.repr.specs.declared.Row.{Row}
 use Rattle.refusals.proofs.WalkLaws as walks
 use Rattle.refusals.proofs.WalkLaws.{fewer-still, rest-fewer}
 use Rattle.std.specs.Prelude.{Result, Ok, Err}
@@ -66,24 +66,24 @@ abbrev absent : Param
 absent = record { variance = Co; may_dangle = false; kind = RegionKind }
 
 -- how many there are
-size : {s : List ℕ} {around : Params} {ps : List Param} → ParamsAt s around ps → length ps ≡ around.count
-size {s} {around} p = items-length param around.count (rest s around.declared) p.stand.reads
+size : {s : List ℕ} {around : Row} {ps : List Param} → ParamsAt s around ps → length ps ≡ around.count
+size {s} {around} p = items-length param around.count (rest s around.from) p.stand.reads
 
-pub bound_past : {s : List ℕ} {around : Params} (f : syntax.Kind → Bool) (ps : List Param) (b : ℕ) → around.count ≤ b → ParamsAt s around ps → false ≡ bound_fits f ps b
+pub bound_past : {s : List ℕ} {around : Row} (f : syntax.Kind → Bool) (ps : List Param) (b : ℕ) → around.count ≤ b → ParamsAt s around ps → false ≡ bound_fits f ps b
 bound_past f ps b h p = let n = size p in let l : ltb b (length ps) ≡ false = le-ltb b (length ps) (omega arith) in rw l
 
-module _ {s : List ℕ} {around : Params} (f : syntax.Kind → Bool) (ps : List Param) (b k : ℕ) (h : b < around.count) (i : k ≡ around.count - 1 - b) (p : ParamsAt s around ps) where
-  there : ItemAt param k (rest s around.declared) ps absent
-  there = item-at param around.count k (rest s around.declared) absent (omega arith) p.stand.reads
+module _ {s : List ℕ} {around : Row} (f : syntax.Kind → Bool) (ps : List Param) (b k : ℕ) (h : b < around.count) (i : k ≡ around.count - 1 - b) (p : ParamsAt s around ps) where
+  there : ItemAt param k (rest s around.from) ps absent
+  there = item-at param around.count k (rest s around.from) absent (omega arith) p.stand.reads
 
-  module _ (d : Result Cursor Refusal) (m : end_says s d ≡ ended (items k param (rest s around.declared))) where
+  module _ (d : Result Cursor Refusal) (m : end_says s d ≡ ended (items k param (rest s around.from))) where
     pub bound_short : {l : Refusal} → d ≡ Err l → false ≡ bound_fits f ps b
     bound_short e = absurd (clash (sym (ap (end_says s) e) ∙ m ∙ ap ended there.first))
 
     module _ {c : Cursor} (e : d ≡ Ok c) (q : Result (StructParameter × Cursor) Refusal) (o : says parameter_of s q ≡ param (rest s c)) where
       -- the parameter that is meant
       meant : says parameter_of s q ≡ read (get_or ps k absent) there.over
-      meant = o ∙ rw (← end-over (items k param) (rest s around.declared) there.first (sym m ∙ ap (end_says s) e)) there.item
+      meant = o ∙ rw (← end-over (items k param) (rest s around.from) there.first (sym m ∙ ap (end_says s) e)) there.item
 
       pub bound_none : {l : Refusal} → q ≡ Err l → false ≡ bound_fits f ps b
       bound_none g = absurd (clash (sym (ap (says parameter_of s) g) ∙ meant))
@@ -97,12 +97,12 @@ module _ {s : List ℕ} {around : Params} (f : syntax.Kind → Bool) (ps : List 
 
 -- ---- The parameters of a struct
 
-pub no_params : {s : List ℕ} (c : Cursor) → ParamsAt s (record { declared = c; count = 0 }) []
+pub no_params : {s : List ℕ} (c : Cursor) → ParamsAt s (record { from = c; count = 0 }) []
 unfolding items done
 no_params {s} c = record { stand = record { over = rest s c; reads = refl } }
 
-declared-size : {s : List ℕ} {x : StructDecl} {d : repr_struct.StructDecl} → Declared s x d → length x.params ≡ d.parameters
-declared-size {s} {d = d} w = items-length param d.parameters (rest s d.declared) w.params.reads
+declared-size : {s : List ℕ} {x : StructDecl} {d : repr_struct.StructDecl} → Declared s x d → length x.params ≡ d.parameters.count
+declared-size {s} {d = d} w = items-length param d.parameters.count (rest s d.parameters.from) w.params.reads
 
 -- ---- Arguments and parameters, counted
 
@@ -117,7 +117,7 @@ args-differ ss ps (TypeArg t g) (d ∷ ds) h = rw (args-differ ss ps g ds (λ e.
 
 -- ---- A type
 
-module _ {input : Record} {around : Params} {at left : ℕ} where
+module _ {input : Record} {around : Row} {at left : ℕ} where
   pub fit_none : {k : Refusal} → left ≡ 0 → TypeFit input around at left (Err k)
   fit_none z = record { walks = λ j ps w. walks.type-none z; fewer = tt }
 
@@ -148,14 +148,14 @@ module _ {input : Record} {around : Params} {at left : ℕ} where
       ref_unfit i = record { walks = λ j ps w. walks.ref_fails m e (λ u. rw (← f ps w.params, i)); fewer = tt }
 
     module _ {name : StructName} {n : ℕ} {c : Cursor} (e : d ≡ Ok (nodes.Struct name n c)) {p : repr_struct.StructDecl} (f : (j : Job) → Holds input j → Declared input.bytes.now (struct_of j.structs name.0) p) where
-      pub fit_struct : {r : Result Rest Refusal} → p.parameters ≡ n → (left ≡ 0 → ⊥) → ArgumentsFit input around p.declared c.at n (left - 1) r → TypeFit input around at left r
+      pub fit_struct : {r : Result Rest Refusal} → p.parameters.count ≡ n → (left ≡ 0 → ⊥) → ArgumentsFit input around p.parameters.from c.at n (left - 1) r → TypeFit input around at left r
       unfolding type_fits
       fit_struct {r} i z v = record {
         walks = λ j ps w. walks.type_struct m e z (λ g. refl) (v.walks j ps (struct_of j.structs name.0).params w (rw (← i) (f j w.layout).params));
         fewer = fewer-still r v.fewer (omega arith);
       }
 
-      pub count_unfit : {k : Refusal} → (p.parameters ≡ n → ⊥) → TypeFit input around at left (Err k)
+      pub count_unfit : {k : Refusal} → (p.parameters.count ≡ n → ⊥) → TypeFit input around at left (Err k)
       unfolding type_fits
       count_unfit i = record {
         walks = λ j ps w. walks.struct_fails m e (λ g l. args-differ j.structs ps g (struct_of j.structs name.0).params (λ o. i (sym (declared-size (f j w.layout)) ∙ sym o ∙ l)));
@@ -191,7 +191,7 @@ module _ (ss : List StructDecl) (ps : List Param) where
   unfolding args_fit
   type-first u g e k = rw (e, k)
 
-module _ {input : Record} {around : Params} {declared : Cursor} {n left : ℕ} where
+module _ {input : Record} {around : Row} {declared : Cursor} {n left : ℕ} where
   pub fit_arguments_none : (c : Cursor) → n ≡ 0 → ArgumentsFit input around declared c.at n left (Ok (record { left = left; next = c }))
   fit_arguments_none c z = record { walks = λ j ps ds w d. walks.args_none c z (no_args j.structs ps ds (items-length param n (rest input.bytes.now declared) d.reads ∙ z)); fewer = le_refl left }
 
@@ -251,9 +251,9 @@ module _ {input : Record} {around : Params} {declared : Cursor} {n left : ℕ} w
 -- ---- Parts
 
 -- the parameters of a struct, around its fields
-pub around_fields : {input : Record} {j : Job} {x : StructDecl} {d : repr_struct.StructDecl} → Holds input j → Declared input.bytes.now x d → Within input (params_of d) j x.params
+pub around_fields : {input : Record} {j : Job} {x : StructDecl} {d : repr_struct.StructDecl} → Holds input j → Declared input.bytes.now x d → Within input d.parameters j x.params
 around_fields w v = record { layout = w; params = record { stand = v.params } }
 
 -- no parameters around
-pub alone : {input : Record} {j : Job} (c : Cursor) → Holds input j → Within input (record { declared = c; count = 0 }) j []
+pub alone : {input : Record} {j : Job} (c : Cursor) → Holds input j → Within input (record { from = c; count = 0 }) j []
 alone c w = record { layout = w; params = no_params c }

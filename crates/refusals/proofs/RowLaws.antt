@@ -133,7 +133,7 @@ pub row-item : {A : Type 0} {m : Reader A} {f : A → Bool} {s t : List ℕ} {ba
 row-item {xs = xs} {x = x} {i = i} w h e v = let c = w.count in let k = w.stands i (omega arith) in record { says = v.says (get_or xs i x) k.over (rw e k.reads) }
 
 -- the fields of a struct
-pub fields_tested : (f : Field → Bool) {s : List ℕ} {x : StructDecl} {d : declared.StructDecl} {r : Bool} → Declared s x d → Tested (items d.fields field) (every f) s d.members.at r → r ≡ every f x.fields
+pub fields_tested : (f : Field → Bool) {s : List ℕ} {x : StructDecl} {d : declared.StructDecl} {r : Bool} → Declared s x d → Tested (items d.fields.count field) (every f) s d.fields.from.at r → r ≡ every f x.fields
 fields_tested f {x = x} w v = let k = w.fields in v.says x.fields k.over k.reads
 
 -- ---- The rows of a job

@@ -5,64 +5,46 @@ ghost use Rattle.nll_spec.specs.Decode.{type};
 ghost use Rattle.nll_spec.specs.WellFormed.{bound_fits, region_fits, type_fits, is_region_kind};
 ghost use Rattle.repr.specs.Reading.{kind_of, region_of};
 ghost use Rattle.refusals.specs.Tests.{Passes};
-ghost use Rattle.refusals.specs.Fits.{kind_test, params_of, ParamsAt, Within, TypeFit, ArgumentsFit};
+ghost use Rattle.refusals.specs.Fits.{kind_test, ParamsAt, Within, TypeFit, ArgumentsFit};
 
 use record::Record;
-use repr::{Argument, Cursor, Kind, Node, Refusal, Region, Rest, StructDecl};
+use repr::{Argument, Cursor, Kind, Node, Refusal, Region, Rest, Row};
 
-// So many parameters of a struct, and where they begin.
-#[derive(Clone, Copy)]
-pub struct Params {
-    pub declared: Cursor,
-    pub count: u8,
+// Whether a bound index means a parameter of this kind, of those around.
+fn bound_fits(around: Row, s: &[u8], b: u8, wanted: Kind) -> bool
+    ensures { (ps : List Param) → ParamsAt s.now around ps → result ≡ bound_fits (kind_test (kind_of wanted)) ps b }
+{
+    if around.count <= b {
+        return false;
+    }
+    let Ok(c) = around.from.parameters(s, around.count - 1 - b) else {
+        return false;
+    };
+    match c.parameter(s) {
+        Ok((p, _)) => p.kind == wanted,
+        Err(_) => false,
+    }
 }
 
-impl Params {
-    pub fn of(d: StructDecl) -> Params
-        ensures { result ≡ params_of d }
-    {
-        Params {
-            declared: d.declared,
-            count: d.parameters,
-        }
+fn region_fits(around: Row, s: &[u8], region: Region) -> bool
+    ensures { (ps : List Param) → ParamsAt s.now around ps → result ≡ region_fits ps (region_of region) }
+{
+    match region {
+        Region::Free(_) => true,
+        Region::Bound(b) => bound_fits(around, s, b, Kind::Region),
     }
+}
 
-    // Whether a bound index means a parameter of this kind.
-    fn bound_fits(self, s: &[u8], b: u8, wanted: Kind) -> bool
-        ensures { (ps : List Param) → ParamsAt s.now self ps → result ≡ bound_fits (kind_test (kind_of wanted)) ps b }
-    {
-        if self.count <= b {
-            return false;
-        }
-        let Ok(c) = self.declared.parameters(s, self.count - 1 - b) else {
-            return false;
-        };
-        match c.parameter(s) {
-            Ok((p, _)) => p.kind == wanted,
-            Err(_) => false,
-        }
-    }
-
-    fn region_fits(self, s: &[u8], region: Region) -> bool
-        ensures { (ps : List Param) → ParamsAt s.now self ps → result ≡ region_fits ps (region_of region) }
-    {
-        match region {
-            Region::Free(_) => true,
-            Region::Bound(b) => self.bound_fits(s, b, Kind::Region),
-        }
-    }
-
-    // Whether a region fits as an argument for a parameter of this kind.
-    fn argument_fits(self, s: &[u8], kind: Kind, region: Region) -> bool
-        ensures { (ps : List Param) → ParamsAt s.now self ps → result ≡ is_region_kind (kind_of kind) && region_fits ps (region_of region) }
-    {
-        kind == Kind::Region && self.region_fits(s, region)
-    }
+// Whether a region fits as an argument for a parameter of this kind.
+fn argument_fits(around: Row, s: &[u8], kind: Kind, region: Region) -> bool
+    ensures { (ps : List Param) → ParamsAt s.now around ps → result ≡ is_region_kind (kind_of kind) && region_fits ps (region_of region) }
+{
+    kind == Kind::Region && region_fits(around, s, region)
 }
 
 // Where a type of at most `left` nodes ends, if its arguments and bounds fit.
 #[cycle(arguments_fit_type_fits)]
-fn type_fits(input: &Record<'_>, c: Cursor, left: u8, around: Params) -> Result<Rest, Refusal>
+fn type_fits(input: &Record<'_>, c: Cursor, left: u8, around: Row) -> Result<Rest, Refusal>
     ensures { TypeFit input.now around c.at left result }
 {
     if left == 0 {
@@ -72,7 +54,7 @@ fn type_fits(input: &Record<'_>, c: Cursor, left: u8, around: Params) -> Result<
     match c.type_node(input.bytes)? {
         Node::Unit(next) => Ok(Rest { left, next }),
         Node::Bound(b, next) => {
-            if !around.bound_fits(input.bytes, b, Kind::Type) {
+            if !bound_fits(around, input.bytes, b, Kind::Type) {
                 return Err(Refusal::Arguments);
             }
             Ok(Rest { left, next })
@@ -82,7 +64,7 @@ fn type_fits(input: &Record<'_>, c: Cursor, left: u8, around: Params) -> Result<
             referent,
             ..
         } => {
-            if !around.region_fits(input.bytes, region) {
+            if !region_fits(around, input.bytes, region) {
                 return Err(Refusal::Arguments);
             }
             type_fits(input, referent, left, around)
@@ -93,10 +75,10 @@ fn type_fits(input: &Record<'_>, c: Cursor, left: u8, around: Params) -> Result<
             arguments,
         } => {
             let named = input.struct_decl_at(name);
-            if named.parameters != count {
+            if named.parameters.count != count {
                 return Err(Refusal::Arguments);
             }
-            arguments_fit(input, arguments, left, around, Params::of(named))
+            arguments_fit(input, arguments, left, around, named.parameters)
         }
     }
 }
@@ -107,18 +89,18 @@ fn arguments_fit(
     input: &Record<'_>,
     from: Cursor,
     left: u8,
-    around: Params,
-    of: Params,
+    around: Row,
+    of: Row,
 ) -> Result<Rest, Refusal>
-    ensures { ArgumentsFit input.now around of.declared from.at of.count left result }
+    ensures { ArgumentsFit input.now around of.from from.at of.count left result }
 {
     let mut rest = Rest { left, next: from };
-    let mut declared = of.declared;
+    let mut declared = of.from;
     for _ in 0..of.count {
         let (p, others) = declared.parameter(input.bytes)?;
         match rest.next.argument(input.bytes)? {
             Argument::Region(region, next) => {
-                if !around.argument_fits(input.bytes, p.kind, region) {
+                if !argument_fits(around, input.bytes, p.kind, region) {
                     return Err(Refusal::Arguments);
                 }
                 rest.next = next;
@@ -136,7 +118,7 @@ fn arguments_fit(
 }
 
 // The same of a whole type.
-pub fn ty_fits(input: &Record<'_>, c: Cursor, around: Params) -> Result<Cursor, Refusal>
+pub fn ty_fits(input: &Record<'_>, c: Cursor, around: Row) -> Result<Cursor, Refusal>
     ensures { (j : Job) (ps : List Param) → Within input.now around j ps → Passes type (type_fits j.structs ps) input.now.bytes.now c.at result }
 {
     Ok(type_fits(input, c, 32, around)?.next)

@@ -8,13 +8,13 @@ ghost use Rattle.record.specs.Layout.{Holds};
 ghost use Rattle.refusals.specs.Tests.{Passes, ItemTested};
 ghost use Rattle.refusals.specs.Fits.{Within, field_fits, struct_fits};
 
-use super::fits::{Params, ty_fits};
+use super::fits::ty_fits;
 use super::rows::each;
 use record::Record;
-use repr::{Cursor, Refusal, StructName, Variable};
+use repr::{Cursor, Refusal, Row, StructName, Variable};
 
 // A field of a struct with these parameters.
-fn field_fits(input: &Record<'_>, c: Cursor, around: Params) -> Result<Cursor, Refusal>
+fn field_fits(input: &Record<'_>, c: Cursor, around: Row) -> Result<Cursor, Refusal>
     ensures { (j : Job) (ps : List Param) → Within input.now around j ps → Passes field (field_fits j ps) input.now.bytes.now c.at result }
 {
     let (_, ty) = c.field(input.bytes)?;
@@ -26,8 +26,13 @@ fn struct_fits(input: &Record<'_>, name: StructName) -> bool
     ensures { (j : Job) → Holds input.now j → result ≡ struct_fits j (struct_of j.structs name.0) }
 {
     let d = input.struct_decl_at(name);
-    let around = Params::of(d);
-    each(d.members, d.fields, |c| field_fits(input, c, around)).is_ok()
+    let around = d.parameters;
+    each(
+        d.fields.from,
+        d.fields.count,
+        |c| field_fits(input, c, around),
+    )
+    .is_ok()
 }
 
 pub fn structs_fit(input: &Record<'_>) -> bool
@@ -41,10 +46,7 @@ fn variable_fits(input: &Record<'_>, v: Variable) -> bool
     ensures { (j : Job) → Holds input.now j → v.0 < input.now.head.variables → ItemTested (type_fits j.structs []) j.variables UnitTy v.0 result }
 {
     let c = input.variable_at(v);
-    let around = Params {
-        declared: c,
-        count: 0,
-    };
+    let around = Row { from: c, count: 0 };
     ty_fits(input, c, around).is_ok()
 }
 

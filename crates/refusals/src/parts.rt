@@ -27,7 +27,7 @@ fn struct_named(input: &Record<'_>, name: StructName) -> bool
     ensures { (j : Job) → Holds input.now j → result ≡ struct_named j (struct_of j.structs name.0) }
 {
     let d = input.struct_decl_at(name);
-    each(d.members, d.fields, |c| field_named(input, c)).is_ok()
+    each(d.fields.from, d.fields.count, |c| field_named(input, c)).is_ok()
 }
 
 pub fn structs_named(input: &Record<'_>) -> bool

@@ -30,7 +30,7 @@ use Rattle.repr.proofs.StandLaws.{NodeIs, node-is, on-node, none_is, args-passed
 use Rattle.repr.proofs.NodeLaws.{type-nodes, unit-nodes, ref_nodes, struct_nodes, region-nodes, first-nodes, tail-nodes}
 use Rattle.beside.specs.Beside.{heads_of, ParameterSays, TypesFirst, PairIs, FirstsSay}
 use Rattle.relate.specs.Relates.{Types, Arguments, Ends, Fewer, ParametersSay, relate_first, OthersAt, Others, TypesRelate, FirstRelates, ArgumentsRelate, Relates, RelatesRef}
-use Rattle.beside.specs.declared.Row.{Row}
+use Rattle.repr.specs.declared.Row.{Row}
 use Rattle.beside.specs.declared.Heads.{Heads}
 use Rattle.beside.specs.declared.Heads.TheVariants as heads
 use Rattle.beside.specs.declared.Pair.{Pair}
@@ -41,7 +41,7 @@ use Rattle.repr.specs.declared.refusal.Refusal.{Refusal}
 use Rattle.repr.specs.declared.Node.{Node}
 use Rattle.repr.specs.declared.Node.TheVariants as nodes
 use Rattle.repr.specs.declared.Rest.{Rest}
-use Rattle.relate.specs.declared.Both.{Both}
+use Rattle.beside.specs.declared.Both.{Both}
 use Rattle.relate.specs.declared.Relation.{Relation}
 use Rattle.std.specs.Prelude.{Option, Some, None, Result, Ok, Err}
 

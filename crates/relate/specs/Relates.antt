@@ -10,8 +10,8 @@ use Rattle.repr.specs.Stands.{Stands, TypeTo, ArgsTo, TypeAt}
 use Rattle.record.specs.Layout.{Holds}
 use Rattle.record.specs.declared.Record.{Record}
 use Rattle.constraint_list.specs.Listed.{Adds}
-use Rattle.beside.specs.declared.Row.{Row}
-use Rattle.relate.specs.declared.Both.{Both}
+use Rattle.repr.specs.declared.Row.{Row}
+use Rattle.beside.specs.declared.Both.{Both}
 use Rattle.relate.specs.declared.Relation.{Relation}
 
 -- ---- Two types, or two rows of arguments, of one shape

@@ -8,10 +8,10 @@ ghost use Rattle.repr.specs.Reading.{variance_of, region_of};
 ghost use Rattle.constraint_list.specs.Listed.{Adds};
 ghost use Rattle.relate.specs.Relates.{ParametersSay, TypesRelate, FirstRelates, ArgumentsRelate, Relates, RelatesRef};
 
-use beside::{Heads, Pair, Row, after, beside, first_pair, first_parameter};
+use beside::{Both, Heads, Pair, after, beside, first_pair, first_parameter};
 use constraint_list::Constraint;
 use record::Record;
-use repr::{Cursor, Node, Region, RegionName, StructName, Variance};
+use repr::{Cursor, Node, Region, RegionName, Row, StructName, Variance};
 use variance::{invert, referent_variance, within};
 
 // Two runs of bytes in which types stand, and the point at which those types are related.
@@ -38,14 +38,6 @@ struct Rows {
     a: Row,
     b: Row,
     left: usize,
-}
-
-// Where two parts that were related end, with the nodes that are left.
-#[derive(Clone, Copy)]
-struct Both {
-    left: usize,
-    a: Cursor,
-    b: Cursor,
 }
 
 // The first outlives the second. A bound gives no constraint.
@@ -86,11 +78,7 @@ fn relate_regions(variance: Variance, a: Region, b: Region, at: u16, list: &mut 
 fn parameters_of(input: &Record<'_>, name: StructName) -> Row
     ensures { ParametersSay input.now name.0 result }
 {
-    let d = input.struct_decl_at(name);
-    Row {
-        from: d.declared,
-        count: d.parameters,
-    }
+    input.struct_decl_at(name).parameters
 }
 
 impl<'a> Relation<'a> {

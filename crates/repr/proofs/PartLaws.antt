@@ -14,8 +14,7 @@ use Rattle.repr.specs.declared.Action.TheVariants.{Noop, Init, Borrow, Assign, C
 use Rattle.repr.specs.declared.StructDecl.{StructDecl}
 use Rattle.repr.proofs.ReadLaws.{step, stop, told}
 use Rattle.repr.specs.declared.refusal.Refusal.{Refusal}
-use Rattle.repr.specs.Refusals.{number_of}
-use Rattle.std.specs.Prelude.{Result, Ok, Err}
+use Rattle.std.specs.Prelude.{Result, Ok}
 
 -- ---- A row that is counted, and what follows it
 
@@ -130,11 +129,11 @@ module _ {A : Type 0} {item : Reader A} {s : List ℕ} {at count c over : ℕ} (
 
 -- ---- A struct ends after its fields
 
-pub struct_rest : {s : List ℕ} {at : ℕ} {r : Result StructDecl Refusal} (d : StructDecl) → StructSays s at r → r ≡ Ok d → ended (struct_decl (drop at s)) ≡ ended (items d.fields field (rest s d.members))
+pub struct_rest : {s : List ℕ} {at : ℕ} {r : Result StructDecl Refusal} (d : StructDecl) → StructSays s at r → r ≡ Ok d → ended (struct_decl (drop at s)) ≡ ended (items d.fields.count field (rest s d.fields.from))
 unfolding struct_of
 struct_rest {s} d h i =
     let p = subst (λ (x : Result StructDecl Refusal). ParametersRead s x) i h.declared in
-    ap ended (told (struct_says s) h.same i ∙ step _ _ _ p.reads) ∙ end-done (items d.fields field) _ (rest s d.members)
+    ap ended (told (struct_says s) h.same i ∙ step _ _ _ p.reads) ∙ end-done (items d.fields.count field) _ (rest s d.fields.from)
 
 -- ---- An action ends after its sources
 

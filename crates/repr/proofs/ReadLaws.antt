@@ -1,10 +1,9 @@
 -- Reading step by step: what a reading that is known says of the reading that goes on from it. Assumes nothing.
 use mathlib.Core.Path.{◌≡◌, refl, sym, ap, ◌∙◌}
-use mathlib.Core.List.{List, [], ◌∷◌, map}
+use mathlib.Core.List.{List, [], ◌∷◌}
 use Prim.Native.Nat.{ℕ, zero, suc, ◌+◌, ◌-◌, ◌<◌, ◌≤◌}
 use native.Mathlib.Omega.{arith}
 use native.Mathlib.Numerals.{add-one}
-use native.Mathlib.Nat.{add-zero, zero-add}
 use lib.ListN.{length, get_or, take, drop, length-drop, drop_of_length-le, get_or-eq_default}
 use lib.Seq.{drop-cons, drop-drop}
 use borrow.Author.Tests.{le-leb, lt-leb}
@@ -12,7 +11,7 @@ use Rattle.std.specs.Prelude.{Result, Ok, Err, IsErr, IsErrAnd, Option, Some, No
 use Rattle.std.specs.Result.{result_ok}
 use Rattle.std.proofs.Common.{rules}
 use Rattle.repr.specs.declared.refusal.Refusal.{Refusal}
-use Rattle.nll_spec.specs.Decode.{Reading, refused, read, Reader, done, refuse, ◌>>=◌, byte, count, pick, one_of, items, region}
+use Rattle.nll_spec.specs.Decode.{Reading, refused, read, Reader, done, refuse, ◌>>=◌, byte, count, pick, one_of, items}
 
 -- The answer r says d, and r is x: so d is what x says.
 pub told : {A B : Type 0} (says : B → A) {r x : B} {d : A} → says r ≡ d → r ≡ x → d ≡ says x

@@ -24,7 +24,6 @@ use Rattle.repr.specs.declared.Argument.{Argument}
 use Rattle.repr.specs.declared.Argument.TheVariants as arguments
 use Rattle.repr.specs.declared.Rest.{Rest}
 use Rattle.repr.specs.declared.refusal.Refusal.{Refusal}
-use Rattle.repr.specs.Refusals.{number_of}
 use Rattle.std.specs.Prelude.{Result, Ok, Err}
 
 -- ---- Bytes

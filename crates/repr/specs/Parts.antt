@@ -33,9 +33,9 @@ field_says s (Err k) = refused (number_of k)
 unfoldable pub struct_of : List ℕ → StructDecl → Reading syntax.StructDecl
 struct_of s d =
     (do
-      ps ← items d.parameters param
-      elsewhere (rest s d.members) (do fs ← items d.fields field; done (record { params = ps; fields = fs })))
-    (rest s d.declared)
+      ps ← items d.parameters.count param
+      elsewhere (rest s d.fields.from) (do fs ← items d.fields.count field; done (record { params = ps; fields = fs })))
+    (rest s d.parameters.from)
 
 abbrev pub struct_says : List ℕ → Result StructDecl Refusal → Reading syntax.StructDecl
 struct_says s (Ok d) = struct_of s d
@@ -43,7 +43,7 @@ struct_says s (Err k) = refused (number_of k)
 
 -- the parameters of a struct can be read
 abbrev pub ParametersRead : List ℕ → Result StructDecl Refusal → Type 0
-ParametersRead s (Ok d) = Readable (items d.parameters param) (rest s d.declared)
+ParametersRead s (Ok d) = Readable (items d.parameters.count param) (rest s d.parameters.from)
 ParametersRead s (Err k) = Unit {0}
 
 -- The answer is what `struct_decl` reads there, and where it is a struct, its parameters can be read.

@@ -97,13 +97,18 @@ pub enum Action {
     StorageDead(Variable),
 }
 
-// So many parameters and fields, and where they begin.
+// So many parts of a kind, one after the other from a place on.
+#[derive(Clone, Copy)]
+pub struct Row {
+    pub from: Cursor,
+    pub count: u8,
+}
+
+// A struct's parameters and fields.
 #[derive(Clone, Copy)]
 pub struct StructDecl {
-    pub parameters: u8,
-    pub declared: Cursor,
-    pub fields: u8,
-    pub members: Cursor,
+    pub parameters: Row,
+    pub fields: Row,
 }
 
 // So many successors and actions, and where they begin.

@@ -4,7 +4,7 @@ ghost use Rattle.nll_spec.specs.Decode.{items, param, field, struct_decl};
 ghost use Rattle.repr.specs.Reading.{ended, end_says};
 ghost use Rattle.repr.specs.Parts.{field_says, StructSays};
 
-use super::{Cursor, FieldName, Reading, Refusal, StructDecl};
+use super::{Cursor, FieldName, Reading, Refusal, Row, StructDecl};
 
 #[tactic(auto, using(crate::proofs::ReadLaws::step, crate::proofs::ReadLaws::stop, crate::proofs::PartLaws::counted_step, crate::proofs::PartLaws::counted_stop), unfolding(nll_spec::specs::Decode::field, nll_spec::specs::Decode::struct_decl, nll_spec::specs::Decode::done, crate::specs::Parts::struct_of))]
 impl Cursor {
@@ -43,15 +43,12 @@ impl Cursor {
     pub fn struct_decl(self, s: &[u8]) -> Result<StructDecl, Refusal>
         ensures { StructSays s.now self.at result }
     {
-        let (parameters, declared) = self.count(s, 0, 4)?;
-        let end = declared.parameters(s, parameters)?;
-        let (fields, members) = end.count(s, 0, 8)?;
-        Ok(StructDecl {
-            parameters,
-            declared,
-            fields,
-            members,
-        })
+        let (count, from) = self.count(s, 0, 4)?;
+        let parameters = Row { from, count };
+        let end = from.parameters(s, count)?;
+        let (count, from) = end.count(s, 0, 8)?;
+        let fields = Row { from, count };
+        Ok(StructDecl { parameters, fields })
     }
 
     // Where a struct ends.
@@ -59,6 +56,6 @@ impl Cursor {
         ensures { end_says s.now result ≡ ended (struct_decl (drop self.at s.now)) }
     {
         let d = self.struct_decl(s)?;
-        d.members.fields(s, d.fields)
+        d.fields.from.fields(s, d.fields.count)
     }
 }

@@ -36,7 +36,7 @@ use Rattle.repr.proofs.StandLaws.{LeafIs, on-node, on_argument, none_is, whole}
 use Rattle.repr.proofs.NodeLaws.{type-nodes, ref_nodes, struct_nodes, region-nodes, first-nodes}
 use Rattle.seeds.specs.declared.Which.{Which}
 use Rattle.seeds.specs.declared.Which.TheVariants.{Every, Dropped, Nothing}
-use Rattle.seeds.specs.declared.Parameters.{Parameters}
+use Rattle.repr.specs.declared.Row.{Row}
 use Rattle.seeds.specs.Chosen.{add_all, in_ref, in_argument, chosen_region, chosen, chosen_args, FirstIs, Added, TypeAdds, ArgumentsAdd}
 use Rattle.seeds.proofs.AddLaws.{add_append}
 
@@ -96,7 +96,7 @@ chosen-type Nothing ss ds t g = refl
 
 -- ---- The first parameter
 
-module _ (s : List ℕ) (ps : Parameters) where
+module _ (s : List ℕ) (ps : Row) where
   pub first-none : ps.count ≡ 0 → (ds : List Param) → Stands (items ps.count param) ds (rest s ps.at) → FirstIs s ds (Ok (false, ps))
   unfolding items done
   first-none z ds p = let e = (none_of param ps.count (rest s ps.at) z p.reads).0 in record { dangles = false; others = ps; is = refl; first = rw e; stand = record { over = rest s ps.at; reads = rw (z, e) } }
@@ -119,21 +119,21 @@ module _ (s : List ℕ) (ps : Parameters) where
 no-err : {k : Refusal} {x : Rest} → Err k ≡ Ok x → ⊥
 no-err e = let z : ◌≡◌ {A = ℕ} 0 1 = cc in omega arith
 
-no-err-first : {k : Refusal} {x : Bool × Parameters} → Err k ≡ Ok x → ⊥
+no-err-first : {k : Refusal} {x : Bool × Row} → Err k ≡ Ok x → ⊥
 no-err-first e = let z : ◌≡◌ {A = ℕ} 0 1 = cc in omega arith
 
 same-rest : {x y : Rest} → ◌≡◌ {A = Result Rest Refusal} (Ok x) (Ok y) → x ≡ y
 same-rest e = cc
 
 -- what was found of the first parameter
-found-first : {s : List ℕ} {ds : List Param} {d : Result (Bool × Parameters) Refusal} (which : Which) {inner : Which} {dangles : Bool} {others : Parameters} → FirstIs s ds d → d ≡ Ok (dangles, others) → inner ≡ in_argument which dangles
-    → (inner ≡ in_argument which (head_dangles ds)) × Stands (items others.count param) (tail ds) (rest s others.at)
-found-first which {dangles = dangles} {others = others} y e i = (i ∙ ap (in_argument which) (ap (λ (p : Bool × Parameters). p.0) q ∙ y.first), let b : others ≡ y.others = ap (λ (p : Bool × Parameters). p.1) q in rw b y.stand)
+found-first : {s : List ℕ} {ds : List Param} {d : Result (Bool × Row) Refusal} (which : Which) {inner : Which} {dangles : Bool} {others : Row} → FirstIs s ds d → d ≡ Ok (dangles, others) → inner ≡ in_argument which dangles
+    → (inner ≡ in_argument which (head_dangles ds)) × Stands (items others.count param) (tail ds) (rest s others.from)
+found-first which {dangles = dangles} {others = others} y e i = (i ∙ ap (in_argument which) (ap (λ (p : Bool × Row). p.0) q ∙ y.first), let b : others ≡ y.others = ap (λ (p : Bool × Row). p.1) q in rw b y.stand)
   where
-    k : ◌≡◌ {A = Result (Bool × Parameters) Refusal} (Ok (dangles, others)) (Ok (y.dangles, y.others))
+    k : ◌≡◌ {A = Result (Bool × Row) Refusal} (Ok (dangles, others)) (Ok (y.dangles, y.others))
     k = sym e ∙ y.is
 
-    q : ◌≡◌ {A = Bool × Parameters} (dangles, others) (y.dangles, y.others)
+    q : ◌≡◌ {A = Bool × Row} (dangles, others) (y.dangles, y.others)
     q = cc
 
 -- what was put in with a part of the nodes done
@@ -178,7 +178,7 @@ module _ {input : Record} {which : Which} {from : Rest} {before : List ℕ} wher
 
     pub adds_struct : {name : StructName} {n : ℕ} {c : Cursor} {x : decl.StructDecl} {after : List ℕ} {r : Result Rest Refusal} → d ≡ Ok (nodes.Struct name n c) → (from.left ≡ 0 → ⊥)
         → ((j : Job) → Holds input j → Declared input.bytes.now (struct_of j.structs name.0) x)
-        → ArgumentsAdd input which (record { count = x.parameters; at = x.declared }) (record { left = from.left - 1; next = c }) n before after r → TypeAdds input which from before after r
+        → ArgumentsAdd input which (x.parameters) (record { left = from.left - 1; next = c }) n before after r → TypeAdds input which from before after r
     adds_struct {name} e z f v = record {
       adds = λ j l ty bs p k.
           let w = on-node m e p in
@@ -190,7 +190,7 @@ module _ {input : Record} {which : Which} {from : Rest} {before : List ℕ} wher
 
 -- ---- Arguments
 
-module _ {input : Record} {which : Which} {ps : Parameters} {from : Rest} {n : ℕ} {before : List ℕ} where
+module _ {input : Record} {which : Which} {ps : Row} {from : Rest} {n : ℕ} {before : List ℕ} where
   pub args_none : n ≡ 0 → ArgumentsAdd input which ps from n before before (Ok from)
   unfolding arg_nodes
   args_none z = record {
@@ -198,7 +198,7 @@ module _ {input : Record} {which : Which} {ps : Parameters} {from : Rest} {n : �
     fewer = λ to e. let i = ap (λ (x : Rest). x.left) (same-rest e) in omega arith;
   }
 
-  pub args_unread : {d : Result (Bool × Parameters) Refusal} {k q : Refusal} → ((ds : List Param) → Stands (items ps.count param) ds (rest input.bytes.now ps.at) → FirstIs input.bytes.now ds d) → d ≡ Err k → ArgumentsAdd input which ps from n before before (Err q)
+  pub args_unread : {d : Result (Bool × Row) Refusal} {k q : Refusal} → ((ds : List Param) → Stands (items ps.count param) ds (rest input.bytes.now ps.from) → FirstIs input.bytes.now ds d) → d ≡ Err k → ArgumentsAdd input which ps from n before before (Err q)
   args_unread f e = record { adds = λ j l ds q g bs p k. absurd (no-err-first (sym e ∙ (f ds q).is)); fewer = λ to i. absurd (no-err i) }
 
   module _ {d : Result Argument Refusal} (m : ArgumentSays input.bytes.now from.next.at d) (z : n ≡ 0 → ⊥) where
@@ -214,8 +214,8 @@ module _ {input : Record} {which : Which} {ps : Parameters} {from : Rest} {n : �
       fewer = λ to i. absurd (no-err i);
     }
 
-    module _ {first : Result (Bool × Parameters) Refusal} (f : (ds : List Param) → Stands (items ps.count param) ds (rest input.bytes.now ps.at) → FirstIs input.bytes.now ds first)
-        {dangles : Bool} {others : Parameters} (found : first ≡ Ok (dangles, others)) {inner : Which} (i : inner ≡ in_argument which dangles) where
+    module _ {first : Result (Bool × Row) Refusal} (f : (ds : List Param) → Stands (items ps.count param) ds (rest input.bytes.now ps.from) → FirstIs input.bytes.now ds first)
+        {dangles : Bool} {others : Row} (found : first ≡ Ok (dangles, others)) {inner : Which} (i : inner ≡ in_argument which dangles) where
       pub args-region : {o : Region} {c : Cursor} {mid after : List ℕ} {r : Result Rest Refusal} → d ≡ Ok (arguments.Region o c) → mid ≡ add_all before 0 (chosen_region inner (region_of o))
           → ArgumentsAdd input which others (record { left = from.left; next = c }) (n - 1) mid after r → ArgumentsAdd input which ps from n before after r
       args-region {o} e a v = record {
@@ -245,18 +245,18 @@ module _ {input : Record} {which : Which} {ps : Parameters} {from : Rest} {n : �
       }
 
 -- Of n arguments, `over` are passed over up to c: passing over the others passes over all.
-pub record Passing (input : Record) (which : Which) (ps : Parameters) (from : Rest) (n : ℕ) (before : List ℕ) (others : Parameters) (c : Rest) (over : ℕ) (ws : List ℕ) : Type 0 where
+pub record Passing (input : Record) (which : Which) (ps : Row) (from : Rest) (n : ℕ) (before : List ℕ) (others : Row) (c : Rest) (over : ℕ) (ws : List ℕ) : Type 0 where
   pub low : c.left ≤ from.left
   pub onward : (after : List ℕ) (r : Result Rest Refusal) → ArgumentsAdd input which others c (n - over) ws after r → ArgumentsAdd input which ps from n before after r
 
-pub passing_none : (input : Record) (which : Which) (ps : Parameters) (from : Rest) (n : ℕ) (ws : List ℕ) → Passing input which ps from n ws ps from 0 ws
+pub passing_none : (input : Record) (which : Which) (ps : Row) (from : Rest) (n : ℕ) (ws : List ℕ) → Passing input which ps from n ws ps from 0 ws
 passing_none input which ps from n ws = record { low = le_refl from.left; onward = λ after r v. rw sub-zero at v }
 
-module _ {input : Record} {which : Which} {ps : Parameters} {from : Rest} {n : ℕ} {before : List ℕ} {others : Parameters} {c : Rest} {over : ℕ} {ws : List ℕ} (p : Passing input which ps from n before others c over ws) where
+module _ {input : Record} {which : Which} {ps : Row} {from : Rest} {n : ℕ} {before : List ℕ} {others : Row} {c : Rest} {over : ℕ} {ws : List ℕ} (p : Passing input which ps from n before others c over ws) where
   pub passing_all : over ≡ n → ArgumentsAdd input which ps from n before ws (Ok c)
   passing_all e = p.onward ws (Ok c) (args_none (omega arith))
 
-  pub passing_more : {more : Parameters} {d : Rest} {us : List ℕ} → d.left ≤ c.left
+  pub passing_more : {more : Row} {d : Rest} {us : List ℕ} → d.left ≤ c.left
       → ((after : List ℕ) (r : Result Rest Refusal) → ArgumentsAdd input which more d (n - over - 1) us after r → ArgumentsAdd input which others c (n - over) ws after r) → Passing input which ps from n before more d (over + 1) us
   passing_more l f = record { low = let k = p.low in omega arith; onward = λ after r v. p.onward after r (f after r (let e : n - over - 1 ≡ n - (over + 1) = omega arith in rw e v)) }
 

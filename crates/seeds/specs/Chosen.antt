@@ -15,7 +15,7 @@ use Rattle.record.specs.declared.Record.{Record}
 use Rattle.bit_set.specs.Bits.{with_bit}
 use Rattle.seeds.specs.declared.Which.{Which}
 use Rattle.seeds.specs.declared.Which.TheVariants.{Every, Dropped, Nothing}
-use Rattle.seeds.specs.declared.Parameters.{Parameters}
+use Rattle.repr.specs.declared.Row.{Row}
 
 -- the words with these numbers put into the set that starts at word s
 abbrev pub add_all : List ℕ → ℕ → List ℕ → List ℕ
@@ -56,12 +56,12 @@ chosen_args Nothing ss ds given = []
 -- ---- The walk
 
 -- The answer is whether the first parameter may dangle, with the others.
-pub record FirstIs (s : List ℕ) (ds : List Param) (r : Result (Bool × Parameters) Refusal) : Type 0 where
+pub record FirstIs (s : List ℕ) (ds : List Param) (r : Result (Bool × Row) Refusal) : Type 0 where
   pub dangles : Bool
-  pub others : Parameters
+  pub others : Row
   pub is : r ≡ Ok (dangles, others)
   pub first : dangles ≡ head_dangles ds
-  pub stand : Stands (items others.count param) (tail ds) (rest s others.at)
+  pub stand : Stands (items others.count param) (tail ds) (rest s others.from)
 
 -- A part of a type with so many nodes was passed over, and its regions were put into the set.
 pub record Added (s : List ℕ) (left nodes : ℕ) (bs : List ℕ) (names : List RegionName) (before after : List ℕ) (r : Result Rest Refusal) : Type 0 where
@@ -77,7 +77,7 @@ pub record TypeAdds (input : Record) (which : Which) (from : Rest) (before after
   pub fewer : (to : Rest) → r ≡ Ok to → to.left ≤ from.left
 
 -- n arguments, for these parameters
-pub record ArgumentsAdd (input : Record) (which : Which) (ps : Parameters) (from : Rest) (n : ℕ) (before after : List ℕ) (r : Result Rest Refusal) : Type 0 where
-  pub adds : (j : Job) → Holds input j → (ds : List Param) → Stands (items ps.count param) ds (rest input.bytes.now ps.at) → (given : Args) (bs : List ℕ) → ArgsTo (rest input.bytes.now from.next) n given bs
+pub record ArgumentsAdd (input : Record) (which : Which) (ps : Row) (from : Rest) (n : ℕ) (before after : List ℕ) (r : Result Rest Refusal) : Type 0 where
+  pub adds : (j : Job) → Holds input j → (ds : List Param) → Stands (items ps.count param) ds (rest input.bytes.now ps.from) → (given : Args) (bs : List ℕ) → ArgsTo (rest input.bytes.now from.next) n given bs
       → arg_nodes given ≤ from.left → Added input.bytes.now from.left (arg_nodes given) bs (chosen_args which j.structs ds given) before after r
   pub fewer : (to : Rest) → r ≡ Ok to → to.left ≤ from.left

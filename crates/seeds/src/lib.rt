@@ -17,7 +17,6 @@ ghost use Rattle.seeds.specs.Seeded.{Seeded};
 
 use declared::ends;
 use graph::tables::FuncGraph;
-use repr::Cursor;
 use rows::{fill_declared, fill_live};
 
 // Which regions are taken of a type: every one, those that a drop of it needs, or none.
@@ -26,13 +25,6 @@ pub enum Which {
     Every,
     Dropped,
     Nothing,
-}
-
-// So many parameters of a struct, from a place of the record on.
-#[derive(Clone, Copy)]
-pub struct Parameters {
-    pub count: u8,
-    pub at: Cursor,
 }
 
 // The seeds of a job's regions, in rows of `width` words. Row v of `used` and of `dropped` has the walked points on entry to which variable v is

@@ -7,9 +7,9 @@ ghost use Rattle.repr.specs.Stands.{Stands};
 ghost use Rattle.record.specs.Layout.{Holds};
 ghost use Rattle.seeds.specs.Chosen.{add_all, in_ref, in_argument, chosen_region, chosen, FirstIs, TypeAdds, ArgumentsAdd};
 
-use super::{Parameters, Which};
+use super::Which;
 use record::Record;
-use repr::{Argument, Cursor, Node, Refusal, Region, Rest};
+use repr::{Argument, Cursor, Node, Refusal, Region, Rest, Row};
 
 // What is taken of a Ref's referent.
 fn in_ref(which: Which) -> Which
@@ -41,15 +41,15 @@ fn add_region(region: Region, which: Which, set: &mut [u32; 4])
 }
 
 // Whether the first of some parameters may dangle, and the others. Where there is none, nothing may dangle.
-fn first_parameter(s: &[u8], parameters: Parameters) -> Result<(bool, Parameters), Refusal>
-    ensures { (ds : List Param) → Stands (items parameters.count param) ds (rest s.now parameters.at) → FirstIs s.now ds result }
+fn first_parameter(s: &[u8], parameters: Row) -> Result<(bool, Row), Refusal>
+    ensures { (ds : List Param) → Stands (items parameters.count param) ds (rest s.now parameters.from) → FirstIs s.now ds result }
 {
     if parameters.count == 0 {
         return Ok((false, parameters));
     }
-    let (first, at) = parameters.at.parameter(s)?;
+    let (first, from) = parameters.from.parameter(s)?;
     let count = parameters.count - 1;
-    Ok((first.may_dangle, Parameters { count, at }))
+    Ok((first.may_dangle, Row { from, count }))
 }
 
 // The type that begins there, with at most so many nodes. Answers where it ends.
@@ -82,11 +82,7 @@ fn add_type(
             arguments: next,
         } => {
             let d = input.struct_decl_at(name);
-            let parameters = Parameters {
-                count: d.parameters,
-                at: d.declared,
-            };
-            add_arguments(input, Rest { left, next }, count, parameters, which, set)
+            add_arguments(input, Rest { left, next }, count, d.parameters, which, set)
         }
     }
 }
@@ -97,7 +93,7 @@ fn add_arguments(
     input: &Record<'_>,
     from: Rest,
     count: u8,
-    parameters: Parameters,
+    parameters: Row,
     which: Which,
     set: &mut [u32; 4],
 ) -> Result<Rest, Refusal>

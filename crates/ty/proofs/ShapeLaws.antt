@@ -31,24 +31,24 @@ use Rattle.repr.proofs.SpellLaws.{clash}
 use Rattle.repr.proofs.StandLaws.{NodeIs, on-node, none_is, args-passed}
 use Rattle.repr.proofs.NodeLaws.{type-nodes, unit-nodes, ref_nodes, struct_nodes, region-nodes, first-nodes, tail-nodes}
 use Rattle.beside.specs.Beside.{heads_of, TypesFirst, PairIs, FirstsSay}
-use Rattle.beside.specs.declared.Row.{Row}
+use Rattle.repr.specs.declared.Row.{Row}
 use Rattle.beside.specs.declared.Heads.{Heads}
 use Rattle.beside.specs.declared.Heads.TheVariants as heads
 use Rattle.beside.specs.declared.Pair.{Pair}
 use Rattle.beside.specs.declared.Pair.TheVariants as pairs
 use Rattle.beside.proofs.BesideLaws.{heads_by}
 use Rattle.ty.specs.Shape.{same, differ, shapes, shape_says, Fewer, TypesSay, FirstIs, FirstSays, ArgumentsSay, SameShape, SameAsRef}
-use Rattle.ty.specs.declared.shape.Same.{Same}
+use Rattle.beside.specs.declared.Both.{Both}
 
 -- ---- Nodes that are left
 
-pub fewer-still : {l left : ℕ} (r : Option Same) → Fewer l r → l ≤ left → Fewer left r
+pub fewer-still : {l left : ℕ} (r : Option Both) → Fewer l r → l ≤ left → Fewer left r
 fewer-still (Some s) h g = omega arith
 fewer-still None h g = tt
 
 -- what was found so far leaves no more nodes than there were
-pub rest-fewer : {left : ℕ} {s : Same} (r : Option Same) → Fewer left r → r ≡ Some s → s.left ≤ left
-rest-fewer {left} r h e = subst (λ (x : Option Same). Fewer left x) e h
+pub rest-fewer : {left : ℕ} {s : Both} (r : Option Both) → Fewer left r → r ≡ Some s → s.left ≤ left
+rest-fewer {left} r h e = subst (λ (x : Option Both). Fewer left x) e h
 
 -- ---- Two types
 
@@ -62,7 +62,7 @@ module _ {a : List ℕ} {x : ℕ} {b : List ℕ} {y left : ℕ} {j k : Result No
   pub types_units : {c d : Cursor} → h ≡ Some (heads.Units c d) → TypesSay a x b y left (Some (record { left = left - 1; a = c; b = d }))
   types_units f = record { says = λ t u p q s o g i. let w = heads_by m n e f s o in rw (w.alike, unit-nodes w.a_same, w.a_ends, w.b_ends); fewer = omega arith }
 
-  pub types_refs : {k' : BorrowKind} {r' o' : Region} {c d : Cursor} {r : Option Same} → h ≡ Some (heads.Refs k' r' c o' d) → (left ≡ 0 → ⊥) → TypesSay a c.at b d.at (left - 1) r → TypesSay a x b y left r
+  pub types_refs : {k' : BorrowKind} {r' o' : Region} {c d : Cursor} {r : Option Both} → h ≡ Some (heads.Refs k' r' c o' d) → (left ≡ 0 → ⊥) → TypesSay a c.at b d.at (left - 1) r → TypesSay a x b y left r
   types_refs {r = r} f z v = record {
     says = λ t u p q s o g i.
         let w = heads_by m n e f s o in
@@ -73,7 +73,7 @@ module _ {a : List ℕ} {x : ℕ} {b : List ℕ} {y left : ℕ} {j k : Result No
     fewer = fewer-still r v.fewer (omega arith);
   }
 
-  pub types_structs : {name : StructName} {c d : Row} {r : Option Same} → h ≡ Some (heads.Structs name c d) → (left ≡ 0 → ⊥) → ArgumentsSay a c b d (left - 1) r → TypesSay a x b y left r
+  pub types_structs : {name : StructName} {c d : Row} {r : Option Both} → h ≡ Some (heads.Structs name c d) → (left ≡ 0 → ⊥) → ArgumentsSay a c b d (left - 1) r → TypesSay a x b y left r
   types_structs {r = r} f z v = record {
     says = λ t u p q s o g i.
         let w = heads_by m n e f s o in
@@ -157,7 +157,7 @@ module _ {a : List ℕ} {x : ℕ} {b : List ℕ} {row : Row} {left : ℕ} {pair 
     }
 
   module _ {c d : Cursor} (e : pair ≡ Some (pairs.Types c d)) where
-    pub first_types : {r : Option Same} → TypesSay a c.at b d.at left r → FirstSays a x b row left r
+    pub first_types : {r : Option Both} → TypesSay a c.at b d.at left r → FirstSays a x b row left r
     first_types {r} u = record {
       says = λ m g h p q z s o i j.
           let w = on_pair v e m g h p q z s o j in
@@ -167,7 +167,7 @@ module _ {a : List ℕ} {x : ℕ} {b : List ℕ} {row : Row} {left : ℕ} {pair 
       fewer = u.fewer;
     }
       where
-        go : (r : Option Same) (m : ℕ) (g h : Args) (p q : List ℕ) → arg_nodes g ≤ left → (w : TypesFirst (rest a c) (m - 1) (rest b d) (row.count - 1) g h p q)
+        go : (r : Option Both) (m : ℕ) (g h : Args) (p q : List ℕ) → arg_nodes g ≤ left → (w : TypesFirst (rest a c) (m - 1) (rest b d) (row.count - 1) g h p q)
             → shape_says a b r ≡ shapes (same_shape w.first.item w.second.item) (left - type_nodes w.first.item) w.first.mid w.second.mid → FirstIs a b m row.count left g h p q r
         go None m g h p q i w f = types_unlike w.first.same w.second.same (told_differ _ _ _ _ f)
         go (Some s') m g h p q i w f =
@@ -201,15 +201,15 @@ module _ {a : List ℕ} {x : Row} {b : List ℕ} {y : Row} {left : ℕ} where
       fewer = le_refl left;
     }
 
-  module _ (z : x.count ≡ 0 → ⊥) {w : Option Same} (v : FirstSays a x.from.at b y left w) where
-    on-first : {r : Option Same} → w ≡ r → (g h : Args) (p q : List ℕ) → ArgsTo (rest a x.from) x.count g p → ArgsTo (rest b y.from) y.count h q → arg_nodes g ≤ left → arg_nodes h ≤ max_nodes → FirstIs a b x.count y.count left g h p q r
-    on-first e g h p q s o i j = subst (λ (r : Option Same). FirstIs a b x.count y.count left g h p q r) e (v.says x.count g h p q z s o i j)
+  module _ (z : x.count ≡ 0 → ⊥) {w : Option Both} (v : FirstSays a x.from.at b y left w) where
+    on-first : {r : Option Both} → w ≡ r → (g h : Args) (p q : List ℕ) → ArgsTo (rest a x.from) x.count g p → ArgsTo (rest b y.from) y.count h q → arg_nodes g ≤ left → arg_nodes h ≤ max_nodes → FirstIs a b x.count y.count left g h p q r
+    on-first e g h p q s o i j = subst (λ (r : Option Both). FirstIs a b x.count y.count left g h p q r) e (v.says x.count g h p q z s o i j)
 
     pub arguments_differ : w ≡ None → ArgumentsSay a x b y left None
     arguments_differ e = record { says = λ g h p q s o i j. rw (on-first e g h p q s o i j); fewer = tt }
 
-    pub arguments_more : {s : Same} → w ≡ Some s → {x' y' : Row} → (x'.from ≡ s.a) × (x'.count ≡ x.count - 1) → (y'.from ≡ s.b) × (y'.count ≡ y.count - 1)
-        → {r : Option Same} → ArgumentsSay a x' b y' s.left r → ArgumentsSay a x b y left r
+    pub arguments_more : {s : Both} → w ≡ Some s → {x' y' : Row} → (x'.from ≡ s.a) × (x'.count ≡ x.count - 1) → (y'.from ≡ s.b) × (y'.count ≡ y.count - 1)
+        → {r : Option Both} → ArgumentsSay a x' b y' s.left r → ArgumentsSay a x b y left r
     arguments_more {s} e ex ey {r} u = record {
       says = λ g h p q v o i j.
           let k = on-first e g h p q v o i j in
@@ -222,7 +222,7 @@ module _ {a : List ℕ} {x : Row} {b : List ℕ} {y : Row} {left : ℕ} where
 
 -- ---- Whole types
 
-pub whole : {a : List ℕ} {x : ℕ} {b : List ℕ} {y : ℕ} {r : Option Same} → TypesSay a x b y 32 r → SameShape a x b y (is_some r)
+pub whole : {a : List ℕ} {x : ℕ} {b : List ℕ} {y : ℕ} {r : Option Both} → TypesSay a x b y 32 r → SameShape a x b y (is_some r)
 whole {r = Some s} v = record { says = λ t u p q h k. sym (told_same (same_shape t u) _ _ _ (v.says t u p.over q.over p.stands q.stands h k)).alike }
 whole {r = None} v = record { says = λ t u p q h k. sym (told_differ (same_shape t u) _ _ _ (v.says t u p.over q.over p.stands q.stands h k)) }
 

@@ -6,8 +6,8 @@ use Rattle.nll_spec.specs.Types.{tail_args, type_nodes, arg_nodes}
 use Rattle.nll_spec.specs.WellFormed.{same_shape, same_shapes}
 use Rattle.repr.specs.Reading.{rest}
 use Rattle.repr.specs.Stands.{TypeTo, ArgsTo, TypeAt}
-use Rattle.beside.specs.declared.Row.{Row}
-use Rattle.ty.specs.declared.shape.Same.{Same}
+use Rattle.repr.specs.declared.Row.{Row}
+use Rattle.beside.specs.declared.Both.{Both}
 
 -- ---- Two types, or two rows of arguments
 
@@ -20,16 +20,16 @@ abbrev pub shapes : Bool → ℕ → List ℕ → List ℕ → Pair
 shapes true left p q = same left p q
 shapes false left p q = differ
 
-abbrev pub shape_says : List ℕ → List ℕ → Option Same → Pair
+abbrev pub shape_says : List ℕ → List ℕ → Option Both → Pair
 shape_says a b (Some s) = same s.left (rest a s.a) (rest b s.b)
 shape_says a b None = differ
 
 -- no more nodes are left than there were
-abbrev pub Fewer : ℕ → Option Same → Type 0
+abbrev pub Fewer : ℕ → Option Both → Type 0
 Fewer left (Some s) = s.left ≤ left
 Fewer left None = Unit {0}
 
-pub record TypesSay (a : List ℕ) (x : ℕ) (b : List ℕ) (y left : ℕ) (r : Option Same) : Type 0 where
+pub record TypesSay (a : List ℕ) (x : ℕ) (b : List ℕ) (y left : ℕ) (r : Option Both) : Type 0 where
   pub says : (t u : Ty) (p q : List ℕ) → TypeTo (drop x a) t p → TypeTo (drop y b) u q → type_nodes t ≤ left → type_nodes u ≤ max_nodes → shape_says a b r ≡ shapes (same_shape t u) (left - type_nodes t) p q
   pub fewer : Fewer left r
 
@@ -41,16 +41,16 @@ pub record FirstAlike (of-a : List ℕ) (m : ℕ) (of-b : List ℕ) (n left l : 
   pub a_stand : ArgsTo of-a m more p
   pub b_stand : ArgsTo of-b n (tail_args h) q
 
-abbrev pub FirstIs : List ℕ → List ℕ → ℕ → ℕ → ℕ → Args → Args → List ℕ → List ℕ → Option Same → Type 0
+abbrev pub FirstIs : List ℕ → List ℕ → ℕ → ℕ → ℕ → Args → Args → List ℕ → List ℕ → Option Both → Type 0
 FirstIs a b m n left g h p q (Some s) = FirstAlike (rest a s.a) (m - 1) (rest b s.b) (n - 1) left s.left g h p q
 FirstIs a b m n left g h p q None = same_shapes g h ≡ false
 
-pub record FirstSays (a : List ℕ) (x : ℕ) (b : List ℕ) (row : Row) (left : ℕ) (r : Option Same) : Type 0 where
+pub record FirstSays (a : List ℕ) (x : ℕ) (b : List ℕ) (row : Row) (left : ℕ) (r : Option Both) : Type 0 where
   pub says : (m : ℕ) (g h : Args) (p q : List ℕ) → (m ≡ 0 → ⊥) → ArgsTo (drop x a) m g p → ArgsTo (rest b row.from) row.count h q → arg_nodes g ≤ left → arg_nodes h ≤ max_nodes
       → FirstIs a b m row.count left g h p q r
   pub fewer : Fewer left r
 
-pub record ArgumentsSay (a : List ℕ) (x : Row) (b : List ℕ) (y : Row) (left : ℕ) (r : Option Same) : Type 0 where
+pub record ArgumentsSay (a : List ℕ) (x : Row) (b : List ℕ) (y : Row) (left : ℕ) (r : Option Both) : Type 0 where
   pub says : (g h : Args) (p q : List ℕ) → ArgsTo (rest a x.from) x.count g p → ArgsTo (rest b y.from) y.count h q → arg_nodes g ≤ left → arg_nodes h ≤ max_nodes
       → shape_says a b r ≡ shapes (same_shapes g h) (left - arg_nodes g) p q
   pub fewer : Fewer left r

@@ -2,20 +2,12 @@
 ghost use Rattle.repr.specs.Reading.{borrow_kind_of};
 ghost use Rattle.ty.specs.Shape.{TypesSay, FirstSays, ArgumentsSay, SameShape, SameAsRef};
 
-use beside::{Heads, Pair, Row, after, beside, first_pair};
-use repr::{BorrowKind, Cursor, Node};
+use beside::{Both, Heads, Pair, after, beside, first_pair};
+use repr::{BorrowKind, Cursor, Node, Row};
 
-// Two types of one shape: the nodes that are left, and where each ends.
-#[derive(Clone, Copy)]
-struct Same {
-    left: usize,
-    a: Cursor,
-    b: Cursor,
-}
-
-// Two types, the first of at most `left` nodes, if they have one shape.
+// Where two types end, the first of at most `left` nodes, if they have one shape.
 #[cycle(same_arguments_same_first_same_types)]
-fn same_types(a: &[u8], x: Cursor, b: &[u8], y: Cursor, left: usize) -> Option<Same>
+fn same_types(a: &[u8], x: Cursor, b: &[u8], y: Cursor, left: usize) -> Option<Both>
     ensures { TypesSay a.now x.at b.now y.at left result }
 {
     if left == 0 {
@@ -23,7 +15,7 @@ fn same_types(a: &[u8], x: Cursor, b: &[u8], y: Cursor, left: usize) -> Option<S
     }
     let left = left - 1;
     match beside(x.type_node(a), y.type_node(b))? {
-        Heads::Units(a, b) => Some(Same { left, a, b }),
+        Heads::Units(a, b) => Some(Both { left, a, b }),
         Heads::Refs { a: p, b: q, .. } => same_types(a, p, b, q, left),
         Heads::Structs { a: g, b: h, .. } => same_arguments(a, g, b, h, left),
     }
@@ -31,14 +23,14 @@ fn same_types(a: &[u8], x: Cursor, b: &[u8], y: Cursor, left: usize) -> Option<S
 
 // The first arguments of two rows, and where the others begin; the first row has one.
 #[cycle(same_arguments_same_first_same_types)]
-fn same_first(a: &[u8], x: Cursor, b: &[u8], h: Row, left: usize) -> Option<Same>
+fn same_first(a: &[u8], x: Cursor, b: &[u8], h: Row, left: usize) -> Option<Both>
     ensures { FirstSays a.now x.at b.now h left result }
 {
     match first_pair(a, x, b, h)? {
-        Pair::Regions { a, b, .. } => Some(Same { left, a, b }),
+        Pair::Regions { a, b, .. } => Some(Both { left, a, b }),
         Pair::Units(a, b) => {
             let left = left.checked_sub(1)?;
-            Some(Same { left, a, b })
+            Some(Both { left, a, b })
         }
         Pair::Types(c, d) => same_types(a, c, b, d, left),
     }
@@ -46,11 +38,11 @@ fn same_first(a: &[u8], x: Cursor, b: &[u8], h: Row, left: usize) -> Option<Same
 
 // Two rows of arguments, the first of at most `left` nodes together.
 #[cycle(same_arguments_same_first_same_types)]
-fn same_arguments(a: &[u8], g: Row, b: &[u8], h: Row, left: usize) -> Option<Same>
+fn same_arguments(a: &[u8], g: Row, b: &[u8], h: Row, left: usize) -> Option<Both>
     ensures { ArgumentsSay a.now g b.now h left result }
 {
     let mut row = h;
-    let mut same = Same {
+    let mut same = Both {
         left,
         a: g.from,
         b: h.from,
@@ -60,7 +52,7 @@ fn same_arguments(a: &[u8], g: Row, b: &[u8], h: Row, left: usize) -> Option<Sam
         row = after(row, same.b);
     }
     let rest = row.from.arguments(b, row.count, 32).ok()?;
-    Some(Same {
+    Some(Both {
         b: rest.next,
         ..same
     })

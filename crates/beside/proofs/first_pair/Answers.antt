@@ -1,5 +1,5 @@
 -- `beside::first_pair` meets its contract. Assumes nothing.
-use Rattle.std.specs.Prelude.{Ok, Some}
+use Rattle.std.specs.Prelude.{Ok}
 use Rattle.repr.proofs.ReadLaws.{ok_some, ok_none}
 use mathlib.Core.Path.{ap, ◌∙◌}
 use Rattle.beside.proofs.BesideLaws as laws

@@ -21,7 +21,7 @@ returns-in_err-c c = rw c.from_residual-in_err-c.ensures (record { says = λ x w
 
 pub loop-preserved : goal.loop-preserved
 loop-preserved c =
-    let i : c.args.d.fields - (c.loop.counter + 1) ≡ c.args.d.fields - c.loop.counter - 1 = omega arith in
+    let i : c.args.d.fields.count - (c.loop.counter + 1) ≡ c.args.d.fields.count - c.loop.counter - 1 = omega arith in
     rw i (laws.seeking_more c.loop.invariant (λ z. omega arith) c.field.ensures (got c.ok.ensures.value c.in_ok-number.was) (laws.differ c.if-eq.ensures) c.ty.ensures (got c.ok-in-loop.ensures.value c.in_ok-c.was))
 
 pub returns : goal.returns

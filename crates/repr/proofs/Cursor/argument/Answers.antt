@@ -2,8 +2,7 @@
 use native.Mathlib.Omega.{arith}
 use Rattle.repr.proofs.ReadLaws.{step, stop, picked, unknown, passed_on}
 use Rattle.nll_spec.specs.Decode.{args, one_of}
-use mathlib.Core.Path.{sym, ◌∙◌, subst}
-use Rattle.repr.specs.Types.{ArgumentSays}
+use mathlib.Core.Path.{sym, ◌∙◌}
 use Rattle.repr.proofs.Cursor.argument.Goals as goal
 
 pub returns-in_err-tag : goal.returns-in_err-tag

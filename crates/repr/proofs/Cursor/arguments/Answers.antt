@@ -2,7 +2,7 @@
 use Rattle.repr.proofs.ReadLaws.{passed_on}
 use native.Mathlib.Omega.{arith}
 use mathlib.Core.Path.{refl}
-use Rattle.repr.proofs.TypeLaws.{along-refused, along-more, along-less, along-ended}
+use Rattle.repr.proofs.TypeLaws.{along-refused, along-more, along-ended}
 use Rattle.repr.proofs.Cursor.arguments.Goals as goal
 
 pub returns-in_err-first : goal.returns-in_err-first

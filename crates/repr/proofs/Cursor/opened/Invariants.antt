@@ -1,5 +1,4 @@
 -- `repr::Cursor::opened` meets its contract. The loop's invariant: up to c there are Refs. Assumes nothing.
-use Prim.Native.Nat.{◌+◌}
 use Rattle.repr.proofs.TypeLaws.{Down}
 use Rattle.repr.proofs.Cursor.opened.Given as goal
 

@@ -8,12 +8,12 @@ use Rattle.repr.proofs.Cursor.struct_decl.Goals as goal
 
 pub returns-in_err-end : goal.returns-in_err-end
 unfolding struct_decl
-returns-in_err-end c = rw (passed_on c.from_residual-in_err-end.ensures) (record { same = sym (counted_step _ _ _ _ (sym c.in_ok-parameters.ensures) ∙ end_halt _ _ _ (sym c.in_err-end.ensures)); declared = tt })
+returns-in_err-end c = rw (passed_on c.from_residual-in_err-end.ensures) (record { same = sym (counted_step _ _ _ _ (sym c.in_ok-count.ensures) ∙ end_halt _ _ _ (sym c.in_err-end.ensures)); declared = tt })
 
-pub returns-in_err-fields : goal.returns-in_err-fields
+pub returns-in_err-count-2 : goal.returns-in_err-count-2
 unfolding struct_decl
-returns-in_err-fields c = rw (passed_on c.from_residual-in_err-fields.ensures) (record { same = sym (counted_step _ _ _ _ (sym c.in_ok-parameters.ensures) ∙ end-refuse _ _ _ (sym c.in_ok-end.ensures) (λ ps. counted_stop _ _ _ _ (sym c.in_err-fields.ensures))); declared = tt })
+returns-in_err-count-2 c = rw (passed_on c.from_residual-in_err-count-2.ensures) (record { same = sym (counted_step _ _ _ _ (sym c.in_ok-count.ensures) ∙ end-refuse _ _ _ (sym c.in_ok-end.ensures) (λ ps. counted_stop _ _ _ _ (sym c.in_err-count-2.ensures))); declared = tt })
 
 pub returns : goal.returns
 unfolding struct_decl struct_of
-returns c = record { same = sym (counted_step _ _ _ _ (sym c.in_ok-parameters.ensures) ∙ end_same _ _ _ _ (sym c.in_ok-end.ensures) (λ ps. counted_step _ _ _ _ (sym c.in_ok-fields.ensures))); declared = end_readable _ _ (sym c.in_ok-end.ensures) }
+returns c = record { same = sym (counted_step _ _ _ _ (sym c.in_ok-count.ensures) ∙ end_same _ _ _ _ (sym c.in_ok-end.ensures) (λ ps. counted_step _ _ _ _ (sym c.in_ok-count-2.ensures))); declared = end_readable _ _ (sym c.in_ok-end.ensures) }

@@ -1,7 +1,7 @@
 use Prim.Native.Nat.{◌+◌, ◌-◌, ◌*◌, ◌≤◌}
 use Rattle.std.specs.Prelude.{Option}
 use Rattle.ty.specs.Shape.{ArgumentsSay}
-use Rattle.ty.specs.declared.shape.Same.{Same}
+use Rattle.beside.specs.declared.Both.{Both}
 use Rattle.ty.proofs.shape.+same_arguments_same_first_same_types.Given as goal
 
 abbrev pub decreases-same_arguments : goal.decreases-same_arguments
@@ -17,5 +17,5 @@ decreases-same_types l = 3 * l.left
 abbrev pub invariant-same_arguments-loop : goal.invariant-same_arguments-loop
 invariant-same_arguments-loop l = record {
   fewer : l.same.left ≤ l.left;
-  onward : (r : Option Same) → ArgumentsSay l.a (record { from = l.same.a; count = l.fn.g.count - l.counter }) l.b l.row l.same.left r → ArgumentsSay l.a l.fn.g l.b l.fn.h l.left r;
+  onward : (r : Option Both) → ArgumentsSay l.a (record { from = l.same.a; count = l.fn.g.count - l.counter }) l.b l.row l.same.left r → ArgumentsSay l.a l.fn.g l.b l.fn.h l.left r;
 }
