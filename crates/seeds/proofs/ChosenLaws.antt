@@ -97,21 +97,21 @@ chosen-type Nothing ss ds t g = refl
 -- ---- The first parameter
 
 module _ (s : List ℕ) (ps : Row) where
-  pub first-none : ps.count ≡ 0 → (ds : List Param) → Stands (items ps.count param) ds (rest s ps.at) → FirstIs s ds (Ok (false, ps))
+  pub first-none : ps.count ≡ 0 → (ds : List Param) → Stands (items ps.count param) ds (rest s ps.from) → FirstIs s ds (Ok (false, ps))
   unfolding items done
-  first-none z ds p = let e = (none_of param ps.count (rest s ps.at) z p.reads).0 in record { dangles = false; others = ps; is = refl; first = rw e; stand = record { over = rest s ps.at; reads = rw (z, e) } }
+  first-none z ds p = let e = (none_of param ps.count (rest s ps.from) z p.reads).0 in record { dangles = false; others = ps; is = refl; first = rw e; stand = record { over = rest s ps.from; reads = rw (z, e) } }
 
-  module _ {d : Result (StructParameter × Cursor) Refusal} (m : says parameter_of s d ≡ param (rest s ps.at)) (z : ps.count ≡ 0 → ⊥) where
-    pub first-refused : {k : Refusal} (q : Refusal) → d ≡ Err k → (ds : List Param) → Stands (items ps.count param) ds (rest s ps.at) → FirstIs s ds (Err q)
-    first-refused q e ds p = absurd (clash (sym (ap (says parameter_of s) e) ∙ m ∙ (first_of param ps.count (rest s ps.at) z p.reads).first))
+  module _ {d : Result (StructParameter × Cursor) Refusal} (m : says parameter_of s d ≡ param (rest s ps.from)) (z : ps.count ≡ 0 → ⊥) where
+    pub first-refused : {k : Refusal} (q : Refusal) → d ≡ Err k → (ds : List Param) → Stands (items ps.count param) ds (rest s ps.from) → FirstIs s ds (Err q)
+    first-refused q e ds p = absurd (clash (sym (ap (says parameter_of s) e) ∙ m ∙ (first_of param ps.count (rest s ps.from) z p.reads).first))
 
-    pub first-is : {p : StructParameter} {c : Cursor} → d ≡ Ok (p, c) → (ds : List Param) → Stands (items ps.count param) ds (rest s ps.at)
-        → FirstIs s ds (Ok (p.may_dangle, record { count = ps.count - 1; at = c }))
+    pub first-is : {p : StructParameter} {c : Cursor} → d ≡ Ok (p, c) → (ds : List Param) → Stands (items ps.count param) ds (rest s ps.from)
+        → FirstIs s ds (Ok (p.may_dangle, record { count = ps.count - 1; from = c }))
     first-is {p} {c} e ds q =
-        let w = first_of param ps.count (rest s ps.at) z q.reads in
+        let w = first_of param ps.count (rest s ps.from) z q.reads in
         let f = sym (ap (says parameter_of s) e) ∙ m ∙ w.first in
-        carry (λ (x : Param) o. (item : Param) (others : List Param) → ds ≡ item ∷ others → x ≡ item → Stands (items (ps.count - 1) param) others o → FirstIs s ds (Ok (p.may_dangle, record { count = ps.count - 1; at = c }))) f
-        (λ item others i k l. record { dangles = p.may_dangle; others = record { count = ps.count - 1; at = c }; is = refl; first = rw i (ap (λ (x : Param). x.may_dangle) k); stand = rw i l })
+        carry (λ (x : Param) o. (item : Param) (others : List Param) → ds ≡ item ∷ others → x ≡ item → Stands (items (ps.count - 1) param) others o → FirstIs s ds (Ok (p.may_dangle, record { count = ps.count - 1; from = c }))) f
+        (λ item others i k l. record { dangles = p.may_dangle; others = record { count = ps.count - 1; from = c }; is = refl; first = rw i (ap (λ (x : Param). x.may_dangle) k); stand = rw i l })
         w.item w.others w.same refl (record { over = q.over; reads = w.reads })
 
 -- ---- Answers

@@ -35,7 +35,7 @@ pub type_fits-returns-then-named-count : goal.type_fits-returns-then-named-count
 type_fits-returns-then-named-count t c = laws.count_unfit c.type_node.ensures (c.in_ok-next.was ∙ ap Ok c.in-Struct.is) c.struct_decl_at-named.ensures c.if-named-count.true
 
 pub type_fits-returns-else-named-count : goal.type_fits-returns-else-named-count
-type_fits-returns-else-named-count t c = laws.fit_struct c.type_node.ensures (c.in_ok-next.was ∙ ap Ok c.in-Struct.is) c.struct_decl_at-named.ensures c.if-named-count.false (omega arith) (rw (← c.if-named-count.false) (rw c.of.ensures at c.arguments_fit.ensures))
+type_fits-returns-else-named-count t c = laws.fit_struct c.type_node.ensures (c.in_ok-next.was ∙ ap Ok c.in-Struct.is) c.struct_decl_at-named.ensures c.if-named-count.false (omega arith) (rw (← c.if-named-count.false) c.arguments_fit.ensures)
 
 pub arguments_fit-returns-in_err-p : goal.arguments_fit-returns-in_err-p
 arguments_fit-returns-in_err-p t c = rw (passed_on c.from_residual.ensures) (c.loop.invariant.whole _ (laws.parameter_refused (omega arith) c.parameter.ensures c.in_err-p.was))

@@ -13,5 +13,5 @@ use Rattle.refusals.proofs.part_fits.struct_fits.Goals as goal
 pub returns : goal.returns
 returns c = λ j w.
     let v = c.struct_decl_at-d.ensures j w in
-    let a : Within c.args.input.now c.of-around.result j (struct_of j.structs c.args.name.0).params = rw c.of-around.ensures (around_fields w v) in
-    fields_tested _ v (only_test (along_passes _ _ _ (λ d r p. let q : (j : Job) (ps : List Param) → Within c.args.input.now c.of-around.result j ps → Passes field (field_fits j ps) c.args.input.now.bytes.now d.at r = search rules in q j _ a) c.each.ensures) c.is_ok.ensures.value)
+    let a : Within c.args.input.now c.struct_decl_at-d.result.parameters j (struct_of j.structs c.args.name.0).params = around_fields w v in
+    fields_tested _ v (only_test (along_passes _ _ _ (λ d r p. let q : (j : Job) (ps : List Param) → Within c.args.input.now c.struct_decl_at-d.result.parameters j ps → Passes field (field_fits j ps) c.args.input.now.bytes.now d.at r = search rules in q j _ a) c.each.ensures) c.is_ok.ensures.value)
