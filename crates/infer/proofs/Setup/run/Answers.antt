@@ -5,8 +5,8 @@ use Rattle.std.proofs.Common.{rules}
 use Rattle.infer.proofs.Setup.run.Goals as goal
 
 pub loop-i-init : goal.loop-i-init
-loop-i-init c = (search rules, search rules, first_runs c.args.list.now, draws_none)
+loop-i-init c = (first_runs c.args.list.now, draws_none)
 
 pub loop-i-preserved : goal.loop-i-preserved
 loop-i-preserved c = let l = c.loop-i.invariant in
-    (search rules, search rules, next_runs c.args.list.now c.loop-i.i l.2 c.get-c.ensures c.run_one.ensures.0, next_drawn c.args.list.now c.loop-i.i l.3 c.get-c.ensures c.run_one.ensures.1)
+    (next_runs c.args.list.now c.loop-i.i l.0 c.get-c.ensures c.run_one.ensures.0, next_drawn c.args.list.now c.loop-i.i l.1 c.get-c.ensures c.run_one.ensures.1)
