@@ -12,9 +12,9 @@ use lib.Bits.{bit_or}
 use lib.Dec.{eqb, ltb}
 use borrow.Author.Tests.{eqb-true, eq-eqb}
 use Rattle.nll_spec.specs.Output.{word_bits}
-use Rattle.bit_set.specs.Bits.{has, both_fit, or_word}
+use Rattle.bit_set.specs.Bits.{has, or_word}
 use Rattle.bit_set.proofs.BitLaws.{digit, digit_lt, digit_or, place}
-use Rattle.bit_set.proofs.RunLaws.{and_true_left, and_true_right, both_into, both_from}
+use Rattle.bit_set.proofs.RunLaws.{and_true_left, and_true_right}
 use Rattle.graph.specs.Tables.{Edge, row_end}
 use Rattle.dfs.proofs.ChainLaws.{up_to_le}
 use Rattle.dfs.specs.Walk.{in_code, Reach, here, step}
@@ -67,17 +67,6 @@ pub record Covering (chain ws : List ℕ) (from to width start k : ℕ) : Type 0
   pub held : (q : ℕ) → start ≤ q / word_bits → q / word_bits < k → has ws (word_bits * from + q) ≡ true → has ws (word_bits * to + q) ≡ true
 
 module _ (chain ws : List ℕ) (from to width start : ℕ) where
-  pub cover_start : (b : Bool) → b ≡ both_fit ws to ws from width → b ≡ true → Covering chain ws from to width start start
-  cover_start b e t =
-      let f = sym e ∙ t in
-      record {
-        up = omega arith;
-        into = both_into ws to ws from width f;
-        inside = both_from ws to ws from width f;
-        linked = λ q u v. absurd (omega (arith, u, v));
-        held = λ q u v. absurd (omega (arith, u, v));
-      }
-
   pub cover_more : (k : ℕ) (b : Bool) → Covering chain ws from to width start k → b ≡ is_covered chain ws from to k → b ≡ true → Covering chain ws from to width start (k + 1)
   cover_more k b c e t =
       let f = sym e ∙ t in

@@ -8,8 +8,8 @@ use native.Mathlib.Nat.{mul-le-mul_right, suc-mul}
 use native.Mathlib.Decide.{ℕ_discrete}
 use native.Mathlib.Omega.{arith}
 use lib.ListN.{length, get_or, set, length-set}
-use lib.Dec.{T, leb, ltb, eqb}
-use borrow.Author.Tests.{leb-true, ltb-true, eqb-true, le-leb, lt-ltb}
+use lib.Dec.{T, leb, ltb}
+use borrow.Author.Tests.{leb-true, ltb-true}
 use Rattle.nll_spec.specs.Lists.{Member, here, there}
 use Rattle.nll_spec.specs.Syntax.{Point, RegionName}
 use Rattle.nll_spec.specs.Graph.{Graph}
@@ -24,7 +24,7 @@ use Rattle.bit_set.specs.Bits.{has}
 use Rattle.graph.specs.Search.{Marked}
 use Rattle.graph.specs.Tables.{Edge}
 use Rattle.dfs.specs.Walk.{in_code, Reach}
-use Rattle.infer.specs.Search.{rule_of, Gets, Spread, adds_nothing, in_bounds, Covered}
+use Rattle.infer.specs.Search.{Gets, Spread, adds_nothing, in_bounds, Covered}
 use Rattle.infer.specs.Ran.{Setting, bit_at, sets_of, Met, Within, AllReady, Ran, Given, Names}
 use Rattle.infer.specs.declared.Setup.{Setup}
 use Rattle.infer.specs.declared.Shape.{Shape}
@@ -69,20 +69,6 @@ module _ (shape : Shape) (s t p : ℕ) where
         point = ltb-true _ _ e₁.1;
       }
 
-  bounds_test : Bounds shape s t p → in_bounds shape s t p ≡ true
-  bounds_test b =
-      rw (le-leb shape.width 32 b.narrow, le-leb shape.code shape.points b.ordered, le-leb shape.points 1024 b.few, lt-ltb s 128 b.sup, lt-ltb t 128 b.sub, lt-ltb p shape.code b.point)
-
--- the product of a region's number and the width
-pub start_fits : {shape : Shape} (s t p : ℕ) → Bounds shape s t p → (s * shape.width ≤ 127 * 32) × (t * shape.width ≤ 127 * 32)
-start_fits {shape} s t p b = (
-  omega (arith, mul-le-mul_right shape.width (small s b.sup), b.narrow),
-  omega (arith, mul-le-mul_right shape.width (small t b.sub), b.narrow),
-)
-  where
-    small : (x : ℕ) → x < 128 → x ≤ 127
-    small x l = omega arith
-
 -- ---- A constraint that is passed by
 
 one : (P : Outlives → Type 0) (c d : Outlives) → P c → Member d (c ∷ []) → P d
@@ -107,10 +93,6 @@ ran-same s last ws grew c met =
       met = λ ready d m. one (λ (x : Outlives). Met s (sets_of s ws) x ⊎ Marked grew x.sub) c d (met ready) m;
       within = λ sets w met. w;
     }
-
--- its inner set has no mark
-pub ran-quiet : (s : Setting) (last ws grew : List ℕ) (c : Outlives) → get_or last c.sub 0 ≡ 0 → get_or grew c.sub 0 ≡ 0 → Ran s last (c ∷ []) ws grew ws grew
-ran-quiet s last ws grew c el eg = ran-same s last ws grew c λ ready. ⊎_elim (λ k. inl k) (λ k. ⊎_elim (λ i. absurd (i el)) (λ i. inr i) k) (ready c here)
 
 -- its inner set does not hold its point
 pub ran_absent : (s : Setting) (last ws grew : List ℕ) (c : Outlives) → has ws (bit_at s.width c.sub c.point) ≡ false → Ran s last (c ∷ []) ws grew ws grew
@@ -186,19 +168,6 @@ module _ (s : Setting) (g : Setup) (ws grew : List ℕ) (given : Given s g ws gr
       ran-same s last ws grew c λ ready.
       inl (met_in ws (λ q h. h) (covered_nothing g ws (c.sub * s.width) (c.sup * s.width) c.point given.linked w))
 
-  -- the bounds hold
-  pub given_bounds : (a b : ℕ) → a ≡ c.sup → b ≡ c.sub → in_bounds g.shape a b c.point ≡ true
-  given_bounds a b ea eb =
-      bounds_test g.shape a b c.point
-      record {
-        narrow = omega (arith, given.width, given.narrow);
-        ordered = omega (arith, given.code, given.points, given.edges.ordered);
-        few = omega (arith, given.points, given.edges.few);
-        sup = omega (arith, names.sup, given.few);
-        sub = omega (arith, names.sub, given.few);
-        point = omega (arith, names.point, given.code);
-      }
-
   -- what was put into the outer set, in the setting's terms
   pub spread_got : (a b : ℕ) → a ≡ c.sup → b ≡ c.sub → (ws' : List ℕ) (r : Bool) → Spread (Gets g ws (b * g.shape.width) c.point) g.shape.points ws ws' (a * g.shape.width) r
       → Spread (Gets g ws (c.sub * s.width) c.point) g.shape.points ws ws' (c.sup * s.width) r
@@ -273,18 +242,6 @@ module _ (s : Setting) (g : Setup) (ws grew : List ℕ) (given : Given s g ws gr
             let w = x.grew e in
             inr (subst (λ (i : RegionName). (q : Point) × (q < s.graph.points) × (has ws (bit_at s.width i q) ≡ false) × (has ws' (bit_at s.width i q) ≡ true)) (sym z) (w.0, omega (arith, w.1, given.points), w.3, w.4))
 
--- ---- As the code goes
-
--- both tests of the marks of the inner set are true
-pub quiet_tests : (last grew : List ℕ) (t sub : ℕ) → t ≡ sub → (eqb (get_or last t 0) 0 && eqb (get_or grew t 0) 0) ≡ true → (get_or last sub 0 ≡ 0) × (get_or grew sub 0 ≡ 0)
-quiet_tests last grew t sub e h =
-    let w = both (eqb (get_or last t 0) 0) (eqb (get_or grew t 0) 0) h in
-    let at : (l : List ℕ) → get_or l sub 0 ≡ get_or l t 0 = λ l. ap (λ (i : ℕ). get_or l i 0) (sym e) in
-    (at last ∙ eqb-true _ _ w.0, at grew ∙ eqb-true _ _ w.1)
-
--- the inner set does not hold the point, or does
+-- the inner set does not hold the point, as the code tests it
 pub absent_test : (ws : List ℕ) (t sub width w p : ℕ) (b : Bool) → t ≡ sub → width ≡ w → b ≡ has ws (word_bits * (t * width) + p) → b ≡ false → has ws (bit_at w sub p) ≡ false
 absent_test ws t sub width w p b e f q n = rw (e, f) at (sym q ∙ n)
-
-pub here_test : (ws : List ℕ) (from code p : ℕ) (b : Bool) → p < code → b ≡ has ws (word_bits * from + p) → b ≡ true → in_code ws from code p ≡ true
-here_test ws from code p b l q y = rw (lt-ltb p code l) (sym q ∙ y)

@@ -27,7 +27,7 @@ use Rattle.graph.specs.Search.{Marked, is_marked}
 use Rattle.bit_set.specs.Missing.{missing}
 use Rattle.infer.specs.Ran.{Setting, bit_at, sets_at, sets_of, Words, Met, Ready, AllReady, Ran, Rounds, Quiet, Given, AllNamed, any_marked}
 use Rattle.infer.specs.declared.Setup.{Setup}
-use Rattle.bit_set.proofs.MissingLaws.{missing_le, missing_lt}
+use Rattle.bit_set.proofs.MissingLaws.{missing_lt}
 
 is-marked : (seen : List ℕ) (x : ℕ) → Marked seen x → is_marked seen x ≡ true
 is-marked seen x m = ap not (ne_eqb (get_or seen x 0) 0 m)
@@ -232,9 +232,6 @@ module _ (s : Setting) where
   pub ran-less : {last ws grew ws' grew' : List ℕ} {cs : List Outlives} → Ran s last cs ws grew ws' grew' → (r : RegionName) → get_or grew r 0 ≡ 0 → Marked grew' r → missing ws' < missing ws
   ran-less {last} {ws} {grew} {ws'} {grew'} ran r blank m =
       ⊎_elim (λ k. absurd (k blank)) (λ k. missing_lt ws ws' ran.as_long ran.kept (bit_at s.width r k.0) k.2 k.3) (ran.earned r m)
-
-  pub ran_le : {last ws grew ws' grew' : List ℕ} {cs : List Outlives} → Ran s last cs ws grew ws' grew' → missing ws' ≤ missing ws
-  ran_le {last} {ws} {grew} {ws'} ran = missing_le ws ws' ran.as_long ran.kept
 
 -- ---- The test for marks
 

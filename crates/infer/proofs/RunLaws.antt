@@ -6,7 +6,7 @@ use lib.ListN.{get_or}
 use Rattle.nll_spec.specs.Lists.{here}
 use Rattle.nll_spec.specs.Constraints.{Outlives}
 use Rattle.nll_spec.proofs.Members.{member_left, member_right}
-use Rattle.constraint_list.specs.Listed.{outlives_of, outlives_from, count_in, first_in, constraints_in, Draws}
+use Rattle.constraint_list.specs.Listed.{outlives_of, outlives_from, first_in, Draws}
 use Rattle.constraint_list.specs.declared.Constraint.{Constraint}
 use Rattle.constraint_list.proofs.ListLaws.{first-none, first_more, draws_append}
 use Rattle.infer.specs.Ran.{Setting, Given, Names, Ran, Runs, constraint}
@@ -44,12 +44,6 @@ module _ {g : Setup} {last : List ℕ} where
   next_runs t i {c} {ws} {grew} {ws₁} {grew₁} {ws₂} {grew₂} x e y =
       subst (λ (cs : List Outlives). Runs g last cs ws grew ws₂ grew₂) (next-first t i e) (runs_append x y)
 
-  pub all_run : (t : List ℕ) (i : ℕ) {ws grew ws' grew' : List ℕ} → i ≡ count_in t → Runs g last (first_in t i) ws grew ws' grew' → Runs g last (constraints_in t) ws grew ws' grew'
-  all_run t i {ws} {grew} {ws'} {grew'} e x = subst (λ (n : ℕ). Runs g last (first_in t n) ws grew ws' grew') e x
-
 -- the same of what is drawn
 pub next_drawn : (t : List ℕ) (i : ℕ) {c : Constraint} {ls ls₁ ls₂ : List ℕ} → Draws (first_in t i) ls ls₁ → outlives_of c ≡ outlives_from (get_or t (i + 1) 0) → Draws (outlives_of c ∷ []) ls₁ ls₂ → Draws (first_in t (i + 1)) ls ls₂
 next_drawn t i {c} {ls} {ls₁} {ls₂} x e y = subst (λ (cs : List Outlives). Draws cs ls ls₂) (next-first t i e) (draws_append x y)
-
-pub all-drawn : (t : List ℕ) (i : ℕ) {ls ls' : List ℕ} → i ≡ count_in t → Draws (first_in t i) ls ls' → Draws (constraints_in t) ls ls'
-all-drawn t i {ls} {ls'} e x = subst (λ (n : ℕ). Draws (first_in t n) ls ls') e x

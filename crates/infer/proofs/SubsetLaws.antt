@@ -1,18 +1,17 @@
 -- The laws of `is_subset`, `has_run` and `adds_nothing`: where nothing is put, what a constraint puts into its outer set is there. Assumes nothing.
-use mathlib.Core.Path.{◌≡◌, refl, sym, ap, ap₂, ◌∙◌}
+use mathlib.Core.Path.{◌≡◌, refl, sym, ap, ◌∙◌}
 use mathlib.Core.Logic.{inl, inr}
 use mathlib.Core.Bool.{Bool, true, false, not, ◌&&◌, ◌||◌, true≢false}
 use mathlib.Core.List.{List}
 use Prim.Native.Nat.{ℕ, zero, suc, ◌+◌, ◌-◌, ◌*◌, ◌≤◌, ◌<◌}
 use native.Mathlib.Decide.{ℕ_discrete}
-use native.Mathlib.Numerals.{add-one}
 use native.Mathlib.Omega.{arith}
-use lib.ListN.{length, get_or}
-use lib.Dec.{eqb, leb, ltb}
+use lib.ListN.{length}
+use lib.Dec.{ltb}
 use Rattle.nll_spec.specs.Regions.{EndRule, every_end, held_ends, passes_end}
 use Rattle.nll_spec.specs.Output.{word_bits}
-use Rattle.bit_set.specs.Bits.{has, or_word, or_grows, both_fit}
-use Rattle.bit_set.proofs.RunLaws.{and_true_left, and_true_right, fits_sub, both_into, both_from, both_fit_lem, joined_yes}
+use Rattle.bit_set.specs.Bits.{has, or_grows, both_fit}
+use Rattle.bit_set.proofs.RunLaws.{and_true_left, and_true_right, both_into, both_from, joined_yes}
 use Rattle.bit_set.proofs.SetLaws.{new-grows}
 use Rattle.infer.specs.Search.{rule_of, Gets, is_subset, has_run, has_ends, adds_nothing}
 use Rattle.infer.specs.declared.Setup.{Setup}
@@ -28,31 +27,6 @@ pub record Comparing (ws : List ℕ) (from to n : ℕ) (lacks : Bool) (k : ℕ) 
   pub flag : lacks ≡ or_grows ws to ws from k
 
 module _ (ws : List ℕ) (from to n : ℕ) where
-  pub fit-short : length ws < n → false ≡ both_fit ws to ws from n
-  fit-short l = go (both_fit ws to ws from n) refl
-    where
-      go : (b : Bool) → both_fit ws to ws from n ≡ b → false ≡ b
-      go false e = refl
-      go true e = absurd (omega (arith, both_into ws to ws from n e))
-
-  pub fit_tests : n ≤ length ws → (leb to (length ws - n) && leb from (length ws - n)) ≡ both_fit ws to ws from n
-  fit_tests l = ap₂ (λ (a b : Bool). a && b) (fits_sub (length ws) to n l) (fits_sub (length ws) from n l)
-
-  pub subset_out : (b : Bool) → b ≡ both_fit ws to ws from n → b ≡ false → false ≡ is_subset ws from to n
-  subset_out b e f = sym (ap (λ (x : Bool). x && not (or_grows ws to ws from n)) (sym e ∙ f))
-
-  pub subset_start : (b : Bool) → b ≡ both_fit ws to ws from n → b ≡ true → Comparing ws from to n false 0
-  subset_start b e t = let f = sym e ∙ t in record { turns = omega arith; into = both_into ws to ws from n f; inner = both_from ws to ws from n f; flag = refl }
-
-  pub subset_turn : (lacks : Bool) (k : ℕ) → Comparing ws from to n lacks k → k < n
-      → Comparing ws from to n (lacks || not (eqb (get_or ws (to + k) 0) (or_word ws to ws from k))) (k + 1)
-  subset_turn lacks k j l = record { turns = omega arith; into = j.into; inner = j.inner; flag = rw (add-one, j.flag) }
-
-  pub subset_end : (lacks : Bool) (k : ℕ) → Comparing ws from to n lacks k → n ≤ k → not lacks ≡ is_subset ws from to n
-  subset_end lacks k j l =
-      let e : k ≡ n = omega (arith, j.turns) in
-      ap not (j.flag ∙ ap (or_grows ws to ws from) e) ∙ sym (ap (λ (b : Bool). b && not (or_grows ws to ws from n)) (both_fit_lem ws to ws from n j.into j.inner))
-
   -- each number of the run from `from` is in the run from `to`
   pub subset_has : is_subset ws from to n ≡ true → (p : ℕ) → p < word_bits * n → has ws (word_bits * from + p) ≡ true → has ws (word_bits * to + p) ≡ true
   subset_has e p l h = go (has ws (word_bits * to + p)) refl
@@ -91,14 +65,6 @@ module _ (ws : List ℕ) (to a : ℕ) where
       go : Dec (x ≡ a + n) → (x < a + n → has ws (word_bits * to + x) ≡ true) → has ws (word_bits * to + x) ≡ true
       go (yes q) r = rw q (and_true_right (has_run ws to a n) (has ws (word_bits * to + (a + n))) e)
       go (no q) r = r (omega (arith, q))
-
--- the ends are tested only where the end rule asks for it
-module _ (g : Setup) (ws : List ℕ) (to : ℕ) where
-  pub ends_free : (b : Bool) → b ≡ passes_end (rule_of g.rule) false → not b ≡ true → true ≡ has_ends g ws to
-  ends_free b e n = sym (ap (λ (x : Bool). x || has_run ws to g.shape.code (g.shape.points - g.shape.code)) (ap not (sym e) ∙ n))
-
-  pub ends_asked : (b r : Bool) → b ≡ passes_end (rule_of g.rule) false → not b ≡ false → r ≡ has_run ws to g.shape.code (g.shape.points - g.shape.code) → r ≡ has_ends g ws to
-  ends_asked b r e n h = h ∙ sym (ap (λ (x : Bool). x || has_run ws to g.shape.code (g.shape.points - g.shape.code)) (ap not (sym e) ∙ n))
 
 -- an end that is passed on is in the outer set
 ends-has : (rule : EndRule) (ws : List ℕ) (to code points : ℕ) (held : Bool) → (not (passes_end rule false) || has_run ws to code (points - code)) ≡ true → (e : ℕ) → code ≤ e → e < points

@@ -1,6 +1,4 @@
 -- `infer::any_marked`. The loop's invariant: found is `any_marked` of the regions below i. Assumes nothing.
-use mathlib.Core.Path.{◌≡◌}
-use native.Mathlib.Omega.{arith}
 use Rattle.infer.proofs.RanLaws.{any-marked-none, any-marked-more}
 use Rattle.infer.proofs.any_marked.Goals as goal
 
@@ -9,7 +7,3 @@ loop-mark-init c = any-marked-none _
 
 pub loop-mark-preserved : goal.loop-mark-preserved
 loop-mark-preserved c = let l = c.loop-mark in rw l.invariant (any-marked-more c.args.grew.now l.mark-index)
-
-pub returns : goal.returns
-returns c = let e : c.loop-mark.mark-index ≡ 128 = omega arith in
-    rw (← e) c.loop-mark.invariant

@@ -5,31 +5,24 @@ use borrow.Author.Tests.{not-true, not-false}
 use native.Mathlib.Omega.{arith}
 use Rattle.regionck.proofs.RoundLaws.{sound_none}
 use Rattle.regionck.proofs.SolvedLaws.{kept-none, kept_more, going_start, going_more, going_done, going_out}
-use Rattle.std.proofs.Common.{rules}
 use Rattle.regionck.proofs.solve.Goals as goal
 
 pub loop-init : goal.loop-init
-loop-init c = (search rules, search rules, search rules, search rules, sound_none c.requires, kept-none c.clear-2.ensures.1, going_start (omega arith) c.clear.ensures)
+loop-init c = (sound_none c.requires, kept-none c.clear-2.ensures.1, going_start (omega arith) c.clear.ensures)
 
 pub round-last-requires : goal.round-last-requires
-round-last-requires c = (c.collect-to.ensures, c.loop.invariant.4)
-
-pub shape_of-recent-then-not-any_marked : goal.shape_of-recent-then-not-any_marked
-shape_of-recent-then-not-any_marked c = omega (arith, c.recent-in-loop-1, c.loop.invariant.1, c.recent-1)
-
-pub shape_of-before-then-not-any_marked : goal.shape_of-before-then-not-any_marked
-shape_of-before-then-not-any_marked c = omega (arith, c.before-in-loop-1, c.before-1, c.loop.invariant.3)
+round-last-requires c = (c.collect-to.ensures, c.loop.invariant.0)
 
 pub returns-then-not-any_marked : goal.returns-then-not-any_marked
 returns-then-not-any_marked c =
     let loop = c.loop in
-    going_done loop.invariant.6 loop.invariant.5 c.round-last.ensures.0 (sym c.any_marked.ensures ∙ not-true _ c.if-not-any_marked.true-raw)
+    going_done loop.invariant.2 loop.invariant.1 c.round-last.ensures.0 (sym c.any_marked.ensures ∙ not-true _ c.if-not-any_marked.true-raw)
 
 pub loop-preserved : goal.loop-preserved
 loop-preserved c =
     let loop = c.loop in
     let r = c.round-last.ensures in
-    (search rules, search rules, search rules, omega (arith, c.before-in-loop-1, c.before-1, loop.invariant.3), r.2, kept_more loop.invariant.5 r.1, going_more (omega arith) loop.invariant.6 loop.invariant.5 r.0 (sym c.any_marked.ensures ∙ not-false _ c.if-not-any_marked.false-raw) c.note.ensures)
+    (r.2, kept_more loop.invariant.1 r.1, going_more (omega arith) loop.invariant.2 loop.invariant.1 r.0 (sym c.any_marked.ensures ∙ not-false _ c.if-not-any_marked.false-raw) c.note.ensures)
 
 pub returns : goal.returns
-returns c = going_out (omega arith) c.loop.invariant.6
+returns c = going_out (omega arith) c.loop.invariant.2

@@ -1,13 +1,12 @@
 -- `rerun::revisit_near`. The loop's invariant: more of the job's constraints are run. Assumes nothing.
 use Rattle.rerun.proofs.RerunLaws.{more-none, more_then}
-use Rattle.std.proofs.Common.{rules}
 use Rattle.rerun.proofs.revisit_near.Goals as goal
 
 pub loop-p-init : goal.loop-p-init
-loop-p-init c = (search rules, search rules, more-none)
+loop-p-init c = more-none
 
 pub loop-p-preserved : goal.loop-p-preserved
-loop-p-preserved c = (search rules, search rules, more_then c.loop-p.invariant.2 c.revisit.ensures)
+loop-p-preserved c = more_then c.loop-p.invariant c.revisit.ensures
 
 pub returns : goal.returns
-returns c = c.loop-p.invariant.2
+returns c = c.loop-p.invariant

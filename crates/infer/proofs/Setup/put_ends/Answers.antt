@@ -20,6 +20,3 @@ loop-i-preserved c = let a = c.args in
       | then-passes_end w ↦ (omega arith, omega arith, run_yes f a.points.now code c.if-passes_end.points l.points l.i l.invariant.0 (w.points-is ∙ w.add.ensures.0) l.invariant.2 (sym e ∙ w.if-passes_end.true))
       | else-passes_end w ↦ (omega arith, omega arith, run_no f a.points.now code c.if-passes_end.points l.points l.i l.invariant.0 w.points-is l.invariant.2 (sym e ∙ w.if-passes_end.false))
     ]
-
-pub returns : goal.returns
-returns c = let e : c.loop-i.i ≡ c.args.self.now.shape.points = omega arith in rw (← e) c.loop-i.invariant.2

@@ -1,16 +1,12 @@
 -- `infer::Setup::run`. The loop's invariant: the first i constraints are run, and what is drawn is of them. Assumes nothing.
-use native.Mathlib.Omega.{arith}
 use Rattle.constraint_list.proofs.ListLaws.{draws_none}
-use Rattle.infer.proofs.RunLaws.{first_runs, next_runs, all_run, next_drawn, all-drawn}
+use Rattle.infer.proofs.RunLaws.{first_runs, next_runs, next_drawn}
 use Rattle.std.proofs.Common.{rules}
 use Rattle.infer.proofs.Setup.run.Goals as goal
 
 pub loop-i-init : goal.loop-i-init
-loop-i-init c = (search rules, search rules, first_runs c.args.list.now, draws_none)
+loop-i-init c = (first_runs c.args.list.now, draws_none)
 
 pub loop-i-preserved : goal.loop-i-preserved
 loop-i-preserved c = let l = c.loop-i.invariant in
-    (search rules, search rules, next_runs c.args.list.now c.loop-i.i l.2 c.get-c.ensures c.run_one.ensures.0, next_drawn c.args.list.now c.loop-i.i l.3 c.get-c.ensures c.run_one.ensures.1)
-
-pub returns : goal.returns
-returns c = (all_run c.args.list.now c.loop-i.i (omega arith) c.loop-i.invariant.2, all-drawn c.args.list.now c.loop-i.i (omega arith) c.loop-i.invariant.3)
+    (next_runs c.args.list.now c.loop-i.i l.0 c.get-c.ensures c.run_one.ensures.0, next_drawn c.args.list.now c.loop-i.i l.1 c.get-c.ensures c.run_one.ensures.1)

@@ -7,5 +7,4 @@ use Rattle.infer.proofs.Setup.run.Given as goal
 
 abbrev pub invariant-loop-i : goal.invariant-loop-i
 invariant-loop-i l =
-    (length l.words ≡ length l.initial.words) × (length l.recent ≡ length l.initial.recent)
-    × Runs l.self l.last (first_in l.list l.i) l.initial.words l.initial.grew l.words l.grew × Draws (first_in l.list l.i) l.initial.recent l.recent
+    Runs l.self l.last (first_in l.list l.i) l.initial.words l.initial.grew l.words l.grew × Draws (first_in l.list l.i) l.initial.recent l.recent

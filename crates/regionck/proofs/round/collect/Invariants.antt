@@ -1,8 +1,6 @@
 -- `regionck::round::collect` meets its contract. The loop's invariant: the list has the constraints of the points up to p. Assumes nothing.
-use mathlib.Core.Path.{◌≡◌}
-use lib.ListN.{length}
 use Rattle.rerun.specs.Rerun.{Holding}
 use Rattle.regionck.proofs.round.collect.Given as goal
 
 abbrev pub invariant-loop-p : goal.invariant-loop-p
-invariant-loop-p l = (length l.list ≡ length l.initial.list) × Holding l.setup l.list 0 l.p
+invariant-loop-p l = Holding l.setup l.list 0 l.p

@@ -2,20 +2,19 @@
 use native.Mathlib.Omega.{arith}
 use Rattle.rerun.proofs.RerunLaws.{own_same, own_then}
 use Rattle.regionck.proofs.RoundLaws.{below_code}
-use Rattle.std.proofs.Common.{rules}
 use Rattle.regionck.proofs.round.rest.Goals as goal
 
 pub loop-p-init : goal.loop-p-init
-loop-p-init c = (search rules, search rules, search rules, λ ws x. x, own_same, c.requires.1)
+loop-p-init c = (λ ws x. x, own_same, c.requires.1)
 
 pub visit-requires : goal.visit-requires
-visit-requires c = (omega arith, c.loop-p.invariant.5)
+visit-requires c = (omega arith, c.loop-p.invariant.2)
 
 pub loop-p-preserved : goal.loop-p-preserved
 loop-p-preserved c =
     let loop = c.loop-p in
     let visit = c.visit.ensures in
-    (search rules, search rules, search rules, λ ws x. visit.0 ws (loop.invariant.3 ws x), own_then loop.invariant.4 visit.1, visit.2)
+    (λ ws x. visit.0 ws (loop.invariant.0 ws x), own_then loop.invariant.1 visit.1, visit.2)
 
 pub returns : goal.returns
-returns c = (λ ws x. below_code c.loop-p.p (omega arith) (c.loop-p.invariant.3 ws x), c.loop-p.invariant.4, c.loop-p.invariant.5)
+returns c = (λ ws x. below_code c.loop-p.p (omega arith) (c.loop-p.invariant.0 ws x), c.loop-p.invariant.1, c.loop-p.invariant.2)
