@@ -1,6 +1,5 @@
 // What a search has seen, and what it still has to leave.
-ghost use Rattle.std.specs.Prelude.{◌≡◌, ◌<◌, ◌≤◌, replicate};
-ghost use Rattle.graph.specs.Search.{state, state_of, pushed, Popped};
+ghost use Rattle.std.specs.Prelude.{◌≤◌};
 
 // The marks of the numbers below N that were seen, and a stack of those that are still to be left.
 #[derive(Drop)]
@@ -8,9 +7,13 @@ pub struct Search<const N: usize> {
     pub seen: [u8; N],
     pub stack: [u16; N],
     pub depth: usize,
+    ghost room: { depth ≤ N },
 }
 
 impl<const N: usize> Search<N> {
+    ghost use Rattle.std.specs.Prelude.{◌≡◌, ◌<◌, replicate};
+    ghost use Rattle.graph.specs.Search.{state, state_of, pushed, Popped};
+
     // Nothing is seen.
     pub fn new() -> Search<N>
         requires { N ≤ 1024 }
@@ -35,7 +38,6 @@ impl<const N: usize> Search<N> {
 
     // Takes the last number off the stack.
     pub fn pop(&mut self) -> Option<usize>
-        requires { self.old.depth ≤ N }
         ensures { Popped (state_of self.old) result (state_of self.new) }
     {
         if self.depth == 0 {

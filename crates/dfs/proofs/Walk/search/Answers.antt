@@ -17,9 +17,6 @@ pub loop-q-init : goal.loop-q-init
 loop-q-init c = let w = c.args.self.now in
     rw (c.push.ensures ∙ ap (pushed _) c.new-search.ensures) (going_start w.chain.now w.graph.now.first w.graph.now.succ (in_code w.words.now w.from w.code) c.args.p (code-small w.words.now w.from w.code c.requires.0) c.requires.1)
 
-pub pop-requires : goal.pop-requires
-pop-requires c = omega (arith, c.loop-q.invariant.search.roomy.room)
-
 pub follow-end-requires : goal.follow-end-requires
 follow-end-requires c = let w = c.args.self.now in
     (c.requires.0, popped_small w.chain.now w.graph.now.first w.graph.now.succ (in_code w.words.now w.from w.code) c.args.p (code-small w.words.now w.from w.code c.requires.0) c.loop-q.invariant c.in-Some.ensures)

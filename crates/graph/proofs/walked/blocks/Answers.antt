@@ -12,9 +12,6 @@ visit-requires c = rw c.new-search.ensures roomy_none
 pub loop-b-init : goal.loop-b-init
 loop-b-init c = turned_none _ _ c.args.start.0 (c.visit.ensures ∙ ap (visited c.args.start.0) c.new-search.ensures)
 
-pub pop-requires : goal.pop-requires
-pop-requires c = omega (arith, c.loop-b.invariant.roomy.room)
-
 pub visit_next-requires : goal.visit_next-requires
 visit_next-requires c = (c.shape-d.ensures.fits, popped_roomy c.in-Some.ensures c.loop-b.invariant.roomy)
 
