@@ -1,12 +1,12 @@
 // Refusal 8: paths whose steps may not be taken.
-ghost use Rattle.std.specs.Prelude.{◌≡◌};
+ghost use Rattle.std.specs.Prelude.{◌≡◌, true};
 ghost use Rattle.nll_spec.specs.Lists.{every};
 ghost use Rattle.nll_spec.specs.Syntax.{Job};
 ghost use Rattle.nll_spec.specs.Decode.{items, path};
 ghost use Rattle.repr.specs.Reading.{path_of};
 ghost use Rattle.record.specs.Layout.{Holds};
 ghost use Rattle.refusals.specs.Tests.{Passes, Tested};
-ghost use Rattle.well_formed.specs.Tests.{path_taken, TypeSays};
+ghost use Rattle.well_formed.specs.Tests.{number_in, refusal_of, path_taken, TypeSays};
 
 use env::Step;
 use env::paths::{PathType, path_type};
@@ -23,18 +23,21 @@ pub fn type_of(input: &Record<'_>, p: Path, out: &mut [u8; 512]) -> Option<PathT
     path_type(input, p, out, &mut spare, &mut taken)
 }
 
-// Whether a path begins at a variable and steps through types of at most 32 nodes.
-pub fn path_fits(input: &Record<'_>, p: Path) -> bool
-    ensures { (j : Job) → Holds input.now j → result ≡ path_taken j (path_of input.now.bytes.now p) }
+// A path: it begins at a variable and steps through types of at most 32 nodes.
+pub fn path_fits(input: &Record<'_>, p: Path) -> Result<(), Refusal>
+    ensures { (j : Job) → Holds input.now j → number_in result ≡ refusal_of (path_taken j (path_of input.now.bytes.now p)) true }
 {
     if input.head.variables <= p.base.0 {
-        return false;
+        return Err(Refusal::Path);
     }
     if p.steps == 0 {
-        return true;
+        return Ok(());
     }
     let mut out = [0; 512];
-    type_of(input, p, &mut out).is_some()
+    match type_of(input, p, &mut out) {
+        Some(_) => Ok(()),
+        None => Err(Refusal::Path),
+    }
 }
 
 // Where a path ends, if it fits.
@@ -42,11 +45,8 @@ fn path_end(input: &Record<'_>, c: Cursor) -> Result<Cursor, Refusal>
     ensures { (j : Job) → Holds input.now j → Passes path (path_taken j) input.now.bytes.now c.at result }
 {
     let (p, next) = c.path(input.bytes)?;
-    if path_fits(input, p) {
-        Ok(next)
-    } else {
-        Err(Refusal::Path)
-    }
+    path_fits(input, p)?;
+    Ok(next)
 }
 
 // Whether so many paths fit.

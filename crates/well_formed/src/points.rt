@@ -13,23 +13,12 @@ use super::shapes::{Wanted, pair_refusal};
 use record::Record;
 use repr::{Action, Path, Reading, Refusal};
 
-// A path alone.
-fn path_refusal(input: &Record<'_>, p: Path) -> Result<(), Refusal>
-    ensures { (j : Job) → Holds input.now j → number_in result ≡ refusal_of (path_taken j (path_of input.now.bytes.now p)) true }
-{
-    if path_fits(input, p) {
-        Ok(())
-    } else {
-        Err(Refusal::Path)
-    }
-}
-
 // An action, but for the sources of an Init.
 fn own_refusal(input: &Record<'_>, a: Action) -> Result<(), Refusal>
     ensures { (j : Job) → Holds input.now j → number_in result ≡ refusal_of (own_taken j input.now.bytes.now a) (own_shape j input.now.bytes.now a) }
 {
     match a {
-        Action::Init { dest: p, .. } | Action::Use(p) | Action::Drop(p) => path_refusal(input, p),
+        Action::Init { dest: p, .. } | Action::Use(p) | Action::Drop(p) => path_fits(input, p),
         Action::Borrow {
             dest,
             kind,
