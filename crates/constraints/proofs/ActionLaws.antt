@@ -18,6 +18,7 @@ use Rattle.repr.specs.Reading.{path_of}
 use Rattle.repr.specs.declared.Path as repr
 use Rattle.record.specs.Layout.{Layout}
 use Rattle.record.specs.declared.Head.{Head}
+use Rattle.record.specs.declared.Offsets.{Offsets}
 use Rattle.env.proofs.ShortLaws.{short, all_short, coded-short}
 use Rattle.constraints.specs.Constraining.{Takes}
 
@@ -33,7 +34,7 @@ paths-fit j e = go (named j) (types_fit j) (paths_fit j) (shapes_fit j) e
     go true false c d e = absurd (omega arith)
     go false b c d e = absurd (omega arith)
 
-module _ {s t : List ℕ} {h : Head} {j : Job} (w : Layout s t h j) (accepted : refusal j ≡ 0) (p : Point) {a : Action} (e : action_at (graph_of j) p ≡ a) where
+module _ {s : List ℕ} {t : Offsets} {h : Head} {j : Job} (w : Layout s t h j) (accepted : refusal j ≡ 0) (p : Point) {a : Action} (e : action_at (graph_of j) p ≡ a) where
   names : T (action_named j a)
   names = subst (λ (x : Action). T (action_named j x)) e ((accepted-job j accepted).actions-named p)
 
@@ -49,7 +50,7 @@ takes : (s : List ℕ) (j : Job) (q : repr.Path) → T (path_named j (path_of s 
 takes s j q n f k =
     record { named = ltb→lt q.base.0 (length j.variables) n; fits = is_true (path_fits j (path_of s q)) f; short = omega (arith, leb→le (length (path_of s q).steps) max_steps k) }
 
-module _ {s t : List ℕ} {h : Head} {j : Job} (w : Layout s t h j) (accepted : refusal j ≡ 0) (p : Point) (d q : repr.Path) where
+module _ {s : List ℕ} {t : Offsets} {h : Head} {j : Job} (w : Layout s t h j) (accepted : refusal j ≡ 0) (p : Point) (d q : repr.Path) where
   pub assign_takes : action_at (graph_of j) p ≡ Assign (path_of s d) (path_of s q) → Takes s j d × Takes s j q
   unfolding action_named paths_of
   assign_takes e = (

@@ -1,4 +1,5 @@
 -- The constraints of an action: of a borrow, of an assignment, and of any other. Assumes nothing.
+use lib.ListN.{get_or}
 use mathlib.Core.Path.{◌≡◌, refl, sym, ap, ◌∙◌, subst}
 use mathlib.Core.List.{List, [], ◌++◌, append-nil}
 use Prim.Native.Nat.{ℕ, ◌+◌, ◌<◌}
@@ -23,8 +24,9 @@ use Rattle.repr.specs.declared.Action.{Action}
 use Rattle.repr.specs.declared.Action.TheVariants as actions
 use Rattle.record.specs.Layout.{Layout, Holds}
 use Rattle.record.specs.declared.Head.{Head}
-use Rattle.record.specs.Access.{entry_in, Acts}
+use Rattle.record.specs.Access.{Acts}
 use Rattle.record.specs.declared.Record.{Record}
+use Rattle.record.specs.declared.Offsets.{Offsets}
 use Rattle.repr.proofs.SpellLaws.{clash, carry, then}
 use Rattle.env.specs.Prefixes.{ShortestIn}
 use Rattle.env.specs.Paths.{PathResult, PathSays}
@@ -99,8 +101,8 @@ stays e = record { says = λ j p k n r. rw e r }
 
 module _ {pair : Pair} {ls : List ℕ} where
   pub pair_stepless : (x y : Place) {ls' : List ℕ} → (pair.p.steps ≡ 0) × (pair.q.steps ≡ 0)
-      → (x.bytes.now ≡ pair.input.now.bytes.now) × (x.at.at ≡ entry_in pair.input.now.layout.now 32 64 pair.p.base.0)
-      → (y.bytes.now ≡ pair.input.now.bytes.now) × (y.at.at ≡ entry_in pair.input.now.layout.now 32 64 pair.q.base.0)
+      → (x.bytes.now ≡ pair.input.now.bytes.now) × (x.at.at ≡ get_or pair.input.now.layout.now.variables pair.p.base.0 0)
+      → (y.bytes.now ≡ pair.input.now.bytes.now) × (y.at.at ≡ get_or pair.input.now.layout.now.variables pair.q.base.0 0)
       → TypesAdd pair x y ls ls' → PairAdds pair ls ls'
   pair_stepless x y z vp vq u =
       record {
@@ -121,7 +123,7 @@ module _ {input : Record} {at : Point} {ls : List ℕ} where
   pub point_far : 1024 < at → Constrains input at ls ls
   point_far f = record { adds = λ j l accepted h. absurd (omega (arith, f, h, code-count j, l.few)) }
 
-module _ {s t : List ℕ} {h : Head} {at p : Point} {r : Result (Action × Cursor) Refusal} (same : p ≡ at) (act : (j : Job) → Layout s t h j → p < code_count j.blocks → Acts s (action_at (graph_of j) p) r) (j : Job) (l : Layout s t h j) (k : at < (graph_of j).code) where
+module _ {s : List ℕ} {t : Offsets} {h : Head} {at p : Point} {r : Result (Action × Cursor) Refusal} (same : p ≡ at) (act : (j : Job) → Layout s t h j → p < code_count j.blocks → Acts s (action_at (graph_of j) p) r) (j : Job) (l : Layout s t h j) (k : at < (graph_of j).code) where
   acts : {x : Result (Action × Cursor) Refusal} → r ≡ x → Acts s (action_at (graph_of j) at) x
   acts e =
       subst (λ (x : Result (Action × Cursor) Refusal). Acts s (action_at (graph_of j) at) x) e

@@ -25,6 +25,7 @@ use Rattle.record.specs.Rows.{Standing}
 use Rattle.record.specs.Rows as rows
 use Rattle.record.specs.Layout.{Layout}
 use Rattle.record.specs.declared.Head.{Head}
+use Rattle.record.specs.declared.Offsets.{Offsets}
 use Rattle.record.proofs.LayoutLaws.{count_most}
 use Rattle.env.proofs.FieldLaws.{type-few}
 use Rattle.env.proofs.ShortLaws.{short, all_short}
@@ -123,7 +124,7 @@ steps-few ss t (f ∷ fs) l h = go (step_type ss t f) h (λ u. steps-few ss u fs
 
 -- ---- An action
 
-module _ {s t : List ℕ} {h : Head} {j : Job} (w : Layout s t h j) (accepted : refusal j ≡ 0) where
+module _ {s : List ℕ} {t : Offsets} {h : Head} {j : Job} (w : Layout s t h j) (accepted : refusal j ≡ 0) where
   path-few : (q : Path) → T (path_fits j q) → (at : Point) (v : Variance) (u : Ty) → length (relate at j.structs (path_type j q) v u) ≤ 256
   unfolding path_fits path_type
   path-few q f at v u =
@@ -149,6 +150,6 @@ module _ {s t : List ℕ} {h : Head} {j : Job} (w : Layout s t h j) (accepted : 
   action-few p (Drop q) f k = omega arith
   action-few p (StorageDead v) f k = omega arith
 
-pub few_constraints : {s t : List ℕ} {h : Head} {j : Job} → Layout s t h j → refusal j ≡ 0 → (p : Point) → p < (graph_of j).code
+pub few_constraints : {s : List ℕ} {t : Offsets} {h : Head} {j : Job} → Layout s t h j → refusal j ≡ 0 → (p : Point) → p < (graph_of j).code
     → length (constraints_at j p (action_at (graph_of j) p)) ≤ 264
 few_constraints {j = j} w accepted p l = action-few w accepted p (action_at (graph_of j) p) (fits w accepted p refl) (shorts w accepted p refl)

@@ -32,7 +32,7 @@ use Rattle.std.specs.Prelude.{Some, None}
 use Rattle.std.proofs.lemmas.List.{map-set, length-map}
 use Rattle.record.specs.Layout.{Holds}
 use Rattle.record.specs.declared.Record.{Record}
-use Rattle.record.specs.Access.{entry_in, Declared}
+use Rattle.record.specs.Access.{Declared}
 use Rattle.record.proofs.AccessLaws.{variable_at}
 use Rattle.repr.specs.Stands.{TypeAt}
 use Rattle.ty.specs.Written.{Given, Stood, StoodBy, WholeSays}
@@ -345,12 +345,12 @@ path-result j p s out kinds names (Some (path_types.Inside c)) w = record { fits
 path-result j p s out kinds names (Some (path_types.Written c)) w = record { fits = w.fits; stands = w.stands; few = w.few; leaves = w.leaves }
 path-result j p s out kinds names None w = w
 
-module _ {input : Record} (p : repr.Path) {c : ℕ} {kinds names : List ℕ} {out kinds' names' : List ℕ} {r : std.Option Along} (v : c ≡ entry_in input.layout.now 32 64 p.base.0)
+module _ {input : Record} (p : repr.Path) {c : ℕ} {kinds names : List ℕ} {out kinds' names' : List ℕ} {r : std.Option Along} (v : c ≡ get_or input.layout.now.variables p.base.0 0)
     (g : AlongSays input input.bytes.now c kinds names 0 p.from.at p.steps out kinds' names' r) where
   reaches : (j : Job) → Holds input j → p.base.0 < length j.variables → {x : std.Option Along} → r ≡ x → AlongIs j.structs (variable_type j p.base.0) (path_of input.bytes.now p).steps input.bytes.now input.bytes.now out kinds' names' x
   reaches j l o e =
       let w = variable_at l p.base.0 UnitTy o in
-      (along-is g e).says j l (variable_type j p.base.0) (path_of input.bytes.now p).steps (stage_start (rw v (type-stands w.reads)) (type-few (drop (entry_in input.layout.now 32 64 p.base.0) input.bytes.now) w.reads))
+      (along-is g e).says j l (variable_type j p.base.0) (path_of input.bytes.now p).steps (stage_start (rw v (type-stands w.reads)) (type-few (drop (get_or input.layout.now.variables p.base.0 0) input.bytes.now) w.reads))
 
   pub path_inside : {x : Cursor} {end : List ℕ} → r ≡ Some (along.Inside x) → PathSays input p end kinds' names' (Some (path_types.Inside x))
   path_inside {x} {end} e = record { says = λ j l o. path-result j (path_of input.bytes.now p) input.bytes.now end kinds' names' (Some (path_types.Inside x)) (reaches j l o e); sizes = g.sizes }
@@ -371,5 +371,5 @@ abbrev pub no_entries : List ℕ
 no_entries = 0 ∷ 0 ∷ 0 ∷ 0 ∷ 0 ∷ 0 ∷ 0 ∷ 0 ∷ []
 
 -- its type stands where its variable's does
-pub stepless : {input : Record} (p : repr.Path) (x : Cursor) → p.steps ≡ 0 → x.at ≡ entry_in input.layout.now 32 64 p.base.0 → PathSays input p [] no_entries no_entries (Some (path_types.Inside x))
+pub stepless : {input : Record} (p : repr.Path) (x : Cursor) → p.steps ≡ 0 → x.at ≡ get_or input.layout.now.variables p.base.0 0 → PathSays input p [] no_entries no_entries (Some (path_types.Inside x))
 stepless {input} p x z v = path_inside p v (along-end (onward input input.bytes.now x.at no_entries no_entries 0 p.from.at p.steps) (refl, refl) {to = []} x refl z) refl

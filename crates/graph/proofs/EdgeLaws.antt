@@ -5,7 +5,7 @@ use Prim.Native.Nat.{ℕ, zero, suc, ◌+◌, ◌≤◌, ◌<◌}
 use native.Mathlib.Omega.{arith}
 use native.Mathlib.Nat.{not-suc-le-zero, le_of_suc-le-suc}
 use native.Mathlib.Numerals.{add-one}
-use lib.ListN.{length, set, length-set}
+use lib.ListN.{get_or, length, set, length-set}
 use lib.Seq.{get_or-set_same}
 use lib.Dec.{T, eqb}
 use Rattle.nll_spec.specs.Lists.{contains}
@@ -16,8 +16,8 @@ use Rattle.nll_spec.proofs.Tests.{any-there, contains-here}
 use Rattle.nll_spec.proofs.GraphLaws.{block_at, no_block, first_of, actions_in, in_code, next-within, next-at-end, code-count, length-statements, successor_named, next_in_code}
 use Rattle.record.specs.declared.Head.{Head}
 use Rattle.record.specs.declared.Record.{Record}
+use Rattle.record.specs.declared.Offsets.{Offsets}
 use Rattle.record.proofs.AccessLaws.{block-at, first-at}
-use Rattle.record.specs.Access.{entry_in}
 use Rattle.graph.proofs.ShapeLaws.{few-blocks}
 use Rattle.graph.specs.declared.Shape.{Shape}
 use Rattle.graph.specs.declared.Place.{Place}
@@ -58,7 +58,7 @@ map_same g h [] e = refl
 map_same g h (n ∷ ns) e = rw (e n (contains-here n ns), map_same g h ns (λ c k. e c (any-there (eqb c) n ns k)))
 
 -- Block b of a job, which the answer d is about.
-module _ {s t : List ℕ} {h : Head} {j : Job} (w : Given s t h j) (b : BlockIndex) (l : b < length j.blocks) {d : Shape} (says : ShapeSays s (entry_in t 96 64 b) d) where
+module _ {s : List ℕ} {t : Offsets} {h : Head} {j : Job} (w : Given s t h j) (b : BlockIndex) (l : b < length j.blocks) {d : Shape} (says : ShapeSays s (get_or t.blocks b 0) d) where
   shaped : Shaped s (block_at j.blocks b) d
   shaped = says.shaped (block_at j.blocks b) (block-at w.layout b no_block l)
 
@@ -74,12 +74,12 @@ module _ {s t : List ℕ} {h : Head} {j : Job} (w : Given s t h j) (b : BlockInd
     next_chain i k = rw rows.point (next-within j b l i (omega (arith, shaped.many)))
 
     -- a successor's first point stands in the table of the record
-    first_entry : (c : ℕ) → T (contains (block_successors j b) c) → first_of j c ≡ entry_in t 160 64 c
+    first_entry : (c : ℕ) → T (contains (block_successors j b) c) → first_of j c ≡ get_or t.first c 0
     first_entry c k = sym (first-at w.layout c (successor_named j w.named b c l k))
 
-    next-end : next_of (graph_of j) (at.point + d.actions) ≡ map (entry_in t 160 64) (row_of s d)
+    next-end : next_of (graph_of j) (at.point + d.actions) ≡ map (λ (b : ℕ). get_or t.first b 0) (row_of s d)
     next-end =
-        rw (rows.point, shaped.many, shaped.row) (next-at-end j b l ∙ map_same (first_of j) (entry_in t 160 64) (block_successors j b) first_entry)
+        rw (rows.point, shaped.many, shaped.row) (next-at-end j b l ∙ map_same (first_of j) (λ (b : ℕ). get_or t.first b 0) (block_successors j b) first_entry)
 
     pub rows_more : {first₁ succ₁ first₂ succ₂ : List ℕ} → Chained at.point d.actions at.entry first succ first₁ succ₁
         → Ended s t d (at.point + d.actions) (at.entry + d.actions) first₁ succ₁ first₂ succ₂
@@ -94,7 +94,7 @@ module _ {s t : List ℕ} {h : Head} {j : Job} (w : Given s t h j) (b : BlockInd
 -- ---- What is returned
 
 module _ (input : Record) (b : BlockIndex) (at : Place) {first succ : List ℕ} (sized : Sized first succ) (within : Within at) where
-  module _ {d : Shape} (says : ShapeSays input.bytes.now (entry_in input.layout.now 96 64 b) d) where
+  module _ {d : Shape} (says : ShapeSays input.bytes.now (get_or input.layout.now.blocks b 0) d) where
     pub no_point_lem : 1024 ≤ at.point + d.actions → BlockRows input.bytes.now input.layout.now b at at first succ first succ
     no_point_lem h = record { sized = sized; within = within; rows = λ _ j w l rows. absurd (omega (arith, point-room w b l says rows)) }
 

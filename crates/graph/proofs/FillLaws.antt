@@ -8,11 +8,11 @@ use native.Mathlib.Decide.{ℕ_discrete}
 use lib.ListN.{length, get_or, take, drop, set, length-set, length-drop, length-map}
 use lib.Seq.{slice, get_or-set_same, get_or-set_other, take-suc-set, take-suc, take-append-le, take-take, drop_at, length-take-le, get_or-drop}
 use Rattle.nll_spec.specs.Syntax.{Point}
-use Rattle.record.specs.Access.{entry_in}
 use Rattle.graph.specs.Tables.{row_start, row_end}
 use Rattle.graph.specs.declared.Shape.{Shape}
 use Rattle.graph.specs.Shape.{InRecord}
 use Rattle.graph.specs.Filling.{Filled, Sized, Chained, Ended}
+use Rattle.record.specs.declared.Offsets.{Offsets}
 
 -- ---- One row more
 
@@ -109,11 +109,11 @@ module _ {g : ℕ → ℕ} {s : List ℕ} {from count k : ℕ} {succ₀ succ : L
       long : k + count ≡ k + length (map g (take count (drop from s)))
       long = rw (length-map, length-take-le count (drop from s) (simp length-drop (omega arith)))
 
-pub ending_all : {s t : List ℕ} {r : Shape} {i k p : ℕ} {first succ₀ succ : List ℕ} → Ending (entry_in t 160 64) s r.from i k succ₀ succ → i ≤ r.count → r.count ≤ i
+pub ending_all : {s : List ℕ} {t : Offsets} {r : Shape} {i k p : ℕ} {first succ₀ succ : List ℕ} → Ending (λ (b : ℕ). get_or t.first b 0) s r.from i k succ₀ succ → i ≤ r.count → r.count ≤ i
     → InRecord s r → p < 1024 → k + r.count ≤ 1536 → Sized first succ₀ → Ended s t r p k first succ₀ (set first (p + 1) (k + r.count)) succ
 ending_all {s} {t} {r} {i} {k} {p} {first} {succ₀} {succ} w a b d e l z =
     let x : i ≡ r.count = omega arith in
-    let v : Ending (entry_in t 160 64) s r.from r.count k succ₀ succ = subst (λ (m : ℕ). Ending (entry_in t 160 64) s r.from m k succ₀ succ) x w in
+    let v : Ending (λ (b : ℕ). get_or t.first b 0) s r.from r.count k succ₀ succ = subst (λ (m : ℕ). Ending (λ (b : ℕ). get_or t.first b 0) s r.from m k succ₀ succ) x w in
     record {
       sized = record { rows = length-set first _ _ ∙ z.rows; entries = v.size };
       filled = λ f h was. ending_filled v l z.entries e z.rows d.inside h was;

@@ -19,11 +19,11 @@ use Rattle.nll_spec.proofs.Least.{same_bool}
 use Rattle.nll_spec.proofs.GraphLaws.{block_at, no_block, first_of, actions_in, in_code, code-count, walked-point, point-walked, walked-is-code}
 use Rattle.record.specs.Layout.{Layout}
 use Rattle.record.specs.declared.Head.{Head}
+use Rattle.record.specs.declared.Offsets.{Offsets}
 use Rattle.record.proofs.AccessLaws.{block-at}
 use Rattle.bit_set.specs.Bits.{has, cleared}
 use Rattle.bit_set.proofs.BitLaws.{has_with, has_with_other, length_with}
 use Rattle.bit_set.proofs.SetLaws.{length-cleared, has-cleared}
-use Rattle.record.specs.Access.{entry_in}
 use Rattle.graph.proofs.ShapeLaws.{few-blocks}
 use Rattle.graph.specs.declared.Shape.{Shape}
 use Rattle.graph.specs.Shape.{Shaped, ShapeSays}
@@ -61,7 +61,7 @@ module _ (ws : List ℕ) (p : ℕ) where
 
 -- ---- One block
 
-module _ {s t seen : List ℕ} {h : Head} {j : Job} (w : Given s t h j) (marks : MarksWalked seen j) (b : BlockIndex) (l : b < length j.blocks) {d : Shape} (says : ShapeSays s (entry_in t 96 64 b) d) {p : ℕ} {ws : List ℕ} (was : WalkedBelow j b p ws) where
+module _ {s : List ℕ} {t : Offsets} {seen : List ℕ} {h : Head} {j : Job} (w : Given s t h j) (marks : MarksWalked seen j) (b : BlockIndex) (l : b < length j.blocks) {d : Shape} (says : ShapeSays s (get_or t.blocks b 0) d) {p : ℕ} {ws : List ℕ} (was : WalkedBelow j b p ws) where
   shaped : Shaped s (block_at j.blocks b) d
   shaped = says.shaped (block_at j.blocks b) (block-at w.layout b no_block l)
 
@@ -99,11 +99,11 @@ module _ {s t seen : List ℕ} {h : Head} {j : Job} (w : Given s t h j) (marks :
 
 -- ---- What is returned
 
-module _ (s t seen : List ℕ) (b : BlockIndex) (p : ℕ) {ws : List ℕ} (size : length ws ≡ 32) where
+module _ (s : List ℕ) (t : Offsets) (seen : List ℕ) (b : BlockIndex) (p : ℕ) {ws : List ℕ} (size : length ws ≡ 32) where
   pub points_none : p ≤ 1024 → 64 ≤ b → BlockPoints s t seen b p p ws ws
   points_none r h = record { size = size; within = r; points = λ _ j w m l was. absurd (omega (arith, few-blocks w.layout)) }
 
-  module _ {d : Shape} (says : ShapeSays s (entry_in t 96 64 b) d) where
+  module _ {d : Shape} (says : ShapeSays s (get_or t.blocks b 0) d) where
     pub points-over : p ≤ 1024 → 1024 < p + (d.actions + 1) → BlockPoints s t seen b p p ws ws
     points-over r h = record { size = size; within = r; points = λ _ j w m l was. absurd (omega (arith, points-room w m b l says was)) }
 
@@ -121,13 +121,13 @@ module _ (s t seen : List ℕ) (b : BlockIndex) (p : ℕ) {ws : List ℕ} (size 
 -- ---- The whole
 
 -- The set has the walked points of the first b blocks of every job of the record with these marks.
-pub record Pointed (s t seen : List ℕ) (h : Head) (b : BlockIndex) (p : ℕ) (ws : List ℕ) : Type 0 where
+pub record Pointed (s : List ℕ) (t : Offsets) (seen : List ℕ) (h : Head) (b : BlockIndex) (p : ℕ) (ws : List ℕ) : Type 0 where
   pub turns : b ≤ h.blocks
   pub size : length ws ≡ 32
   pub within : p ≤ 1024
   pub points : (j : Job) → Given s t h j → MarksWalked seen j → WalkedBelow j b p ws
 
-module _ (s t seen : List ℕ) (h : Head) where
+module _ (s : List ℕ) (t : Offsets) (seen : List ℕ) (h : Head) where
   pub pointed_none : (ws : List ℕ) {u : List ℕ} → length ws ≡ 32 → u ≡ cleared ws 0 32 → Pointed s t seen h 0 0 u
   pointed_none ws {u} z e =
       record {

@@ -16,6 +16,7 @@ use Rattle.repr.proofs.ItemLaws.{items-length}
 use Rattle.repr.specs.Stands.{Stands}
 use Rattle.record.specs.Layout.{Layout}
 use Rattle.record.specs.declared.Head.{Head}
+use Rattle.record.specs.declared.Offsets.{Offsets}
 use Rattle.record.proofs.LayoutLaws.{count_most}
 use Rattle.graph.specs.declared.Shape.{Shape}
 use Rattle.graph.specs.Shape.{Listed, Shaped, ShapeSays}
@@ -24,7 +25,7 @@ use Rattle.std.specs.Prelude.{Result, Ok, Err}
 use native.Mathlib.Decide.{dec_lt}
 
 -- A job of the record has at most 64 blocks.
-pub few-blocks : {s t : List ℕ} {h : Head} {j : Job} → Layout s t h j → length j.blocks ≤ 64
+pub few-blocks : {s : List ℕ} {t : Offsets} {h : Head} {j : Job} → Layout s t h j → length j.blocks ≤ 64
 few-blocks w = omega (arith, w.block_count, w.block_limit)
 
 -- ---- The row of successors, cut where the record ends

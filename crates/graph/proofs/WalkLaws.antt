@@ -16,8 +16,8 @@ use Rattle.nll_spec.proofs.Tests.{or_left, or_right, or_cases, and_intro, and_le
 use Rattle.nll_spec.proofs.Least.{Inside, held-inside, sized-least, least_ind, same_bool}
 use Rattle.nll_spec.proofs.GraphLaws.{block_at, no_block, walked_block, successor_named}
 use Rattle.record.specs.declared.Head.{Head}
+use Rattle.record.specs.declared.Offsets.{Offsets}
 use Rattle.record.proofs.AccessLaws.{block-at}
-use Rattle.record.specs.Access.{entry_in}
 use Rattle.graph.proofs.ShapeLaws.{few-blocks}
 use Rattle.graph.specs.declared.Shape.{Shape}
 use Rattle.graph.specs.Shape.{row_of, ShapeSays}
@@ -79,13 +79,13 @@ module _ (j : Job) where
 -- ---- The search
 
 -- A job of the record that starts at this block.
-pub record Starts (s t : List ℕ) (start : ℕ) (h : Head) (j : Job) : Type 0 where
+pub record Starts (s : List ℕ) (t : Offsets) (start : ℕ) (h : Head) (j : Job) : Type 0 where
   pub given : Given s t h j
   pub is : j.start ≡ start
   pub named : T (ltb j.start (length j.blocks))
 
 -- What holds of a job's search at each step.
-pub record Searching (s t : List ℕ) (start : ℕ) (st : State) : Type 0 where
+pub record Searching (s : List ℕ) (t : Offsets) (start : ℕ) (st : State) : Type 0 where
   pub walk : (h : Head) (j : Job) → Starts s t start h j → Walk (After j) (IsWalked j) (λ x. ⊥) st
   pub first : (h : Head) (j : Job) → Starts s t start h j → Marked st.seen start
 
@@ -93,7 +93,7 @@ pub record Searching (s t : List ℕ) (start : ℕ) (st : State) : Type 0 where
 abbrev pub nothing : State
 nothing = state (replicate 64 0) (replicate 64 0) 0
 
-searching_start : (s t : List ℕ) (start : ℕ) → Searching s t start (visited start nothing)
+searching_start : (s : List ℕ) (t : Offsets) (start : ℕ) → Searching s t start (visited start nothing)
 searching_start s t start =
     record {
       walk = λ h j g. (walk_visit (After j) (IsWalked j) roomy_none (walk_none (After j) (IsWalked j)) (walked h j g) (small h j g)).walk;
@@ -120,11 +120,11 @@ module _ {st u : State} {b : ℕ} (k : Popped st (Some b) u) where
   pub popped_visits : (d : List ℕ) {v : State} → v ≡ visits d u → v ≡ visits d (popped st)
   popped_visits d e = e ∙ ap (visits d) k.2
 
-  pub popped_says : (s t : List ℕ) (d : Shape) → ShapeSays s (entry_in t 96 64 b) d → ShapeSays s (entry_in t 96 64 (top_of st)) d
-  popped_says s t d w = subst (λ (x : ℕ). ShapeSays s (entry_in t 96 64 x) d) k.1 w
+  pub popped_says : (s blocks : List ℕ) (d : Shape) → ShapeSays s (get_or blocks b 0) d → ShapeSays s (get_or blocks (top_of st) 0) d
+  popped_says s blocks d w = subst (λ (x : ℕ). ShapeSays s (get_or blocks x 0) d) k.1 w
 
 -- the block on top is taken off, and its successors are visited
-module _ {s t : List ℕ} {start : ℕ} {st : State} (room : Roomy st) (deep : 0 < st.depth) {d : Shape} (says : ShapeSays s (entry_in t 96 64 (top_of st)) d) (w : Searching s t start st) where
+module _ {s : List ℕ} {t : Offsets} {start : ℕ} {st : State} (room : Roomy st) (deep : 0 < st.depth) {d : Shape} (says : ShapeSays s (get_or t.blocks (top_of st) 0) d) (w : Searching s t start st) where
   module _ (h : Head) (j : Job) (g : Starts s t start h j) where
     top_walked : IsWalked j (top_of st)
     top_walked = let x = w.walk h j g in x.sound (top_of st) (x.pushed (st.depth - 1) (omega arith))
@@ -153,7 +153,7 @@ marked_true seen b m = rw (ne_eqb (get_or seen b 0) 0 m) tt
 true_marked : (seen : List ℕ) (b : ℕ) → T (is_marked seen b) → Marked seen b
 true_marked seen b h e = rw (eq-eqb (get_or seen b 0) 0 e) at h
 
-searching_all : {s t : List ℕ} {start : ℕ} {st : State} → Searching s t start st → st.depth ≡ 0 → (h : Head) (j : Job) → Starts s t start h j → (b : ℕ) → is_marked st.seen b ≡ holds (walked_table j) 0 b
+searching_all : {s : List ℕ} {t : Offsets} {start : ℕ} {st : State} → Searching s t start st → st.depth ≡ 0 → (h : Head) (j : Job) → Starts s t start h j → (b : ℕ) → is_marked st.seen b ≡ holds (walked_table j) 0 b
 searching_all {s} {t} {start} {st} w z h j g b =
     same_bool (is_marked st.seen b) (holds (walked_table j) 0 b)
     (λ m. (w.walk h j g).sound b (true_marked st.seen b m))
@@ -162,25 +162,25 @@ searching_all {s} {t} {start} {st} w z h j g b =
 -- ---- The loop
 
 -- Turns lead from one state to another.
-pub record Turned (s t : List ℕ) (from st : State) : Type 0 where
+pub record Turned (s : List ℕ) (t : Offsets) (from st : State) : Type 0 where
   pub roomy : Roomy st
   pub on : (start : ℕ) → Searching s t start from → Searching s t start st
 
-pub turned_none : (s t : List ℕ) (start : ℕ) {st : State} → st ≡ visited start nothing → Turned s t st st
+pub turned_none : (s : List ℕ) (t : Offsets) (start : ℕ) {st : State} → st ≡ visited start nothing → Turned s t st st
 turned_none s t start e = record { roomy = subst Roomy (sym e) (visited-kept start roomy_none).roomy; on = λ _ w. w }
 
-module _ {s t : List ℕ} {from st : State} (w : Turned s t from st) (deep : 0 < st.depth) where
+module _ {s : List ℕ} {t : Offsets} {from st : State} (w : Turned s t from st) (deep : 0 < st.depth) where
   module _ (d : Shape) {u : State} (e : u ≡ visits (row_of s d) (popped st)) where
     pub turned_less : work u < work st
     turned_less = subst (λ (v : State). work v < work st) (sym e) (let k = (visits-kept (row_of s d) (roomy_pop w.roomy)).less in omega arith)
 
-    pub turned_more : ShapeSays s (entry_in t 96 64 (top_of st)) d → Turned s t from u
+    pub turned_more : ShapeSays s (get_or t.blocks (top_of st) 0) d → Turned s t from u
     turned_more says =
         subst (Turned s t from) (sym e)
         (record { roomy = (visits-kept (row_of s d) (roomy_pop w.roomy)).roomy; on = λ start x. searching_more w.roomy deep says (w.on start x) })
 
 -- the stack is empty
-pub turned_all : {s t : List ℕ} {from st u : State} {start : ℕ} → Turned s t from st → Popped st None u → from ≡ visited start nothing → WalkedBlocks s t start u.seen
+pub turned_all : {s : List ℕ} {t : Offsets} {from st u : State} {start : ℕ} → Turned s t from st → Popped st None u → from ≡ visited start nothing → WalkedBlocks s t start u.seen
 turned_all {s} {t} {from} {st} {start = start} w k e =
     rw k.1 record {
       size = w.roomy.marks;

@@ -6,8 +6,8 @@ use Rattle.nll_spec.specs.Decode.{point_count}
 use Rattle.nll_spec.specs.WellFormed.{successors_named}
 use Rattle.nll_spec.specs.Graph.{graph_of, next_of, first_point}
 use Rattle.record.specs.Layout.{Layout}
-use Rattle.record.specs.Access.{entry_in}
 use Rattle.record.specs.declared.Head.{Head}
+use Rattle.record.specs.declared.Offsets.{Offsets}
 use Rattle.graph.specs.Tables.{row_start, row_end}
 use Rattle.graph.specs.Shape.{row_of}
 use Rattle.graph.specs.declared.Shape.{Shape}
@@ -31,12 +31,12 @@ pub record Chained (p n k : ℕ) (first₀ succ₀ first succ : List ℕ) : Type
   pub filled : (f : Point → List Point) → ((i : ℕ) → i < n → f (p + i) ≡ suc (p + i) ∷ []) → Filled f first₀ succ₀ p k → Filled f first succ (p + n) (k + n)
 
 -- The row of point p, a block's end, is there: the first points of its successors.
-pub record Ended (s t : List ℕ) (r : Shape) (p k : ℕ) (first₀ succ₀ first succ : List ℕ) : Type 0 where
+pub record Ended (s : List ℕ) (t : Offsets) (r : Shape) (p k : ℕ) (first₀ succ₀ first succ : List ℕ) : Type 0 where
   pub sized : Sized first succ
-  pub filled : (f : Point → List Point) → f p ≡ map (entry_in t 160 64) (row_of s r) → Filled f first₀ succ₀ p k → Filled f first succ (p + 1) (k + r.count)
+  pub filled : (f : Point → List Point) → f p ≡ map (λ (b : ℕ). get_or t.first b 0) (row_of s r) → Filled f first₀ succ₀ p k → Filled f first succ (p + 1) (k + r.count)
 
 -- A job of the record that fits the tables.
-pub record Given (s t : List ℕ) (h : Head) (j : Job) : Type 0 where
+pub record Given (s : List ℕ) (t : Offsets) (h : Head) (j : Job) : Type 0 where
   pub layout : Layout s t h j
   pub named : T (successors_named j)
   pub points : point_count j ≤ 1024
@@ -53,7 +53,7 @@ pub record Within (at : Place) : Type 0 where
   pub entry : at.entry ≤ 1536
 
 -- The rows of block b are there, where those of the blocks before it were.
-pub record BlockRows (s t : List ℕ) (b : BlockIndex) (from at : Place) (first₀ succ₀ first succ : List ℕ) : Type 0 where
+pub record BlockRows (s : List ℕ) (t : Offsets) (b : BlockIndex) (from at : Place) (first₀ succ₀ first succ : List ℕ) : Type 0 where
   pub sized : Sized first succ
   pub within : Within at
   pub rows : (h : Head) (j : Job) → Given s t h j → b < length j.blocks → Rows j b from first₀ succ₀ → Rows j (b + 1) at first succ

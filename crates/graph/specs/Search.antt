@@ -4,6 +4,7 @@ use Rattle.nll_spec.specs.Syntax.{Job, Point, BlockIndex}
 use Rattle.nll_spec.specs.Fixpoint.{holds}
 use Rattle.nll_spec.specs.Graph.{graph_of, is_walked, walked_table, first_point}
 use Rattle.record.specs.declared.Head.{Head}
+use Rattle.record.specs.declared.Offsets.{Offsets}
 use Rattle.bit_set.specs.Bits.{has, with_bit}
 use Rattle.graph.specs.declared.search.Search.{Search}
 use Rattle.graph.specs.Filling.{Given}
@@ -64,7 +65,7 @@ pub record MarksWalked (seen : List ℕ) (j : Job) : Type 0 where
   pub same : (b : BlockIndex) → is_marked seen b ≡ holds (walked_table j) 0 b
 
 -- The marks are the walked blocks of every job of the record that starts at this block.
-pub record WalkedBlocks (s t : List ℕ) (start : BlockIndex) (seen : List ℕ) : Type 0 where
+pub record WalkedBlocks (s : List ℕ) (t : Offsets) (start : BlockIndex) (seen : List ℕ) : Type 0 where
   pub size : length seen ≡ 64
   pub marks : (h : Head) (j : Job) → Given s t h j → j.start ≡ start → T (ltb j.start (length j.blocks)) → MarksWalked seen j
 
@@ -85,7 +86,7 @@ pub record WalkedBelow (j : Job) (b : BlockIndex) (p : Point) (ws : List ℕ) : 
   pub points : (q : Point) → q < 1024 → has ws q ≡ (ltb q p && is_walked (graph_of j) q)
 
 -- The walked points of block b are in the set, where those of the blocks before it were.
-pub record BlockPoints (s t seen : List ℕ) (b : BlockIndex) (p next : Point) (ws₀ ws : List ℕ) : Type 0 where
+pub record BlockPoints (s : List ℕ) (t : Offsets) (seen : List ℕ) (b : BlockIndex) (p next : Point) (ws₀ ws : List ℕ) : Type 0 where
   pub size : length ws ≡ 32
   pub within : next ≤ 1024
   pub points : (h : Head) (j : Job) → Given s t h j → MarksWalked seen j → b < length j.blocks → WalkedBelow j b p ws₀ → WalkedBelow j (b + 1) next ws

@@ -1,5 +1,5 @@
 // What a block of the record has.
-ghost use Rattle.record.specs.Access.{entry_in};
+ghost use Rattle.std.specs.Prelude.{get_or};
 ghost use Rattle.graph.specs.Shape.{Listed, ShapeSays};
 
 use super::Shape;
@@ -29,7 +29,7 @@ fn listed(s: &[u8], d: BasicBlockData) -> Shape
 
 // What block b has. Where the record has no block, nothing.
 pub fn shape(input: &Record<'_>, b: BasicBlockIndex) -> Shape
-    ensures { ShapeSays input.now.bytes.now (entry_in input.now.layout.now 96 64 b.0) result }
+    ensures { ShapeSays input.now.bytes.now (get_or input.now.layout.now.blocks b.0 0) result }
 {
     match input.block_at(b).block(input.bytes) {
         Ok(d) => listed(input.bytes, d),

@@ -16,6 +16,7 @@ use Rattle.nll_spec.specs.Output.{verdict_bytes}
 use Rattle.nll_spec.specs.Listing.{ascii, spaced, line}
 use Rattle.record.specs.Layout.{DecodedSays, Verdict}
 use Rattle.record.specs.declared.Head.{Head}
+use Rattle.record.specs.declared.Offsets.{Offsets}
 use Rattle.repr.specs.declared.refusal.Refusal.{Refusal}
 use Rattle.std.specs.Prelude.{Result, Ok}
 use Rattle.listing.specs.Writing.{text_of, Puts}
@@ -159,7 +160,7 @@ pub record Filling (n : Counts) (ws bs : List ℕ) (from place : Place) (steps :
 
 -- ---- The counts of a record's job
 
-module _ {s t : List ℕ} {r : Result Head Refusal} (d : DecodedSays (decode.decode s) s t r) where
+module _ {s : List ℕ} {t : Offsets} {r : Result Head Refusal} (d : DecodedSays (decode.decode s) s t r) where
   pub count_job : {h : Head} {x : ℕ} → r ≡ Ok h → x ≡ h.declared → (j : Job) → decode.decode s ≡ decode.decoded j
       → Counted j (record { points = h.code + x; regions = h.regions; declared = h.declared })
   unfolding decode.point_count

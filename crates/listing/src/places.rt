@@ -6,6 +6,7 @@ ghost use Rattle.listing.specs.Places.{in_set, is_done, Counted, Follows, Steps,
 
 use super::writer::Text;
 use super::{Counts, Place};
+use record::{Offsets, read};
 
 // How many steps one text takes at most.
 const STEPS: usize = 4096;
@@ -152,8 +153,8 @@ impl Place {
 pub fn count(s: &[u8]) -> Counts
     ensures { (j : Job) → decode s.now ≡ decoded j → Counted j result }
 {
-    let mut layout = [0u16; 1280];
-    match record::read(s, &mut layout) {
+    let mut layout = Offsets::none();
+    match read(s, &mut layout) {
         Ok(h) => Counts {
             points: h.code + u16::from(h.declared),
             regions: h.regions,

@@ -1,4 +1,4 @@
--- What the table of an accepted job gives, by number: where each part stands. Assumes nothing.
+-- What the offsets of an accepted job give, by number: where each part stands. Assumes nothing.
 use mathlib.Core.Path.{◌≡◌, refl, sym, ap, subst, ◌∙◌}
 use mathlib.Core.Logic.{◌⊎◌, inl, inr}
 use mathlib.Core.Bool.{Bool, true, false, cond}
@@ -8,9 +8,9 @@ use native.Mathlib.Omega.{arith}
 use native.Mathlib.Numerals.{add-one}
 use native.Mathlib.Decide.{dec_lt}
 use lib.ListN.{length, get_or, take, drop, drop_of_length-le, get_or-eq_default}
-use lib.Seq.{get_or-take, get_or-drop, get_or-append-add}
+use lib.Seq.{get_or-take, get_or-append-add}
 use lib.Dec.{eqb}
-use borrow.Author.Tests.{eqb-true, eqb-false, lt-ltb}
+use borrow.Author.Tests.{eqb-true, eqb-false}
 use Rattle.std.proofs.Common.{rules}
 use Rattle.nll_spec.specs.Syntax.{Ty, StructDecl, Action, Noop, Field, Block, Job, RegionName, Point, BlockIndex}
 use Rattle.nll_spec.specs.Decode.{Reading, refused, read, Reader, done, byte, one_of, items, counted, max_outlived, param, field, struct_decl, type, block, action, code_count}
@@ -29,19 +29,17 @@ use Rattle.record.specs.Rows.{Standing, none, more}
 use Rattle.record.specs.Blocks.{block_end, firsts, Coded}
 use Rattle.record.specs.Blocks as blocks
 use Rattle.record.specs.Layout.{Layout}
-use Rattle.record.specs.Access.{entry_in, point_of, Declared, Acts, kind_of_tag, kind_of}
+use Rattle.record.specs.Access.{point_of, Declared, Acts, kind_of_tag, kind_of}
 use Rattle.record.specs.declared.ActionKind.{ActionKind}
 use Rattle.record.specs.declared.ActionKind.TheVariants as kinds
 use Rattle.record.specs.declared.Head.{Head}
+use Rattle.record.specs.declared.Offsets.{Offsets}
 use Rattle.record.proofs.RowLaws.{standing_length}
 use Rattle.record.proofs.KindLaws.{byte_kind, byte-refused}
 use Rattle.repr.specs.declared.refusal.Refusal.{Refusal}
 use Rattle.std.specs.Prelude.{Result, Ok, Err, Option, Some, None}
 
--- ---- The entry that the code reads
-
-entry-there : (t : List ℕ) (base many : ℕ) {i : ℕ} → i < many → get_or t (base + i) 0 ≡ entry_in t base many i
-entry-there t base many {i} h = rw (lt-ltb i many h)
+-- ---- The entry of a point
 
 -- what the answer says of the entry
 end_is : (o : ℕ) → point_of o ≡ None → o ≡ block_end
@@ -69,11 +67,8 @@ standing_at none i d h = absurd (omega arith)
 standing_at (more k r) zero d h = k
 standing_at (more k r) (suc i) d h = standing_at r i d (omega arith)
 
-window_at : (t : List ℕ) (base n i : ℕ) → i < n → get_or (take n (drop base t)) i 0 ≡ get_or t (base + i) 0
-window_at t base n i h = get_or-take n (drop base t) i 0 h ∙ get_or-drop base t i 0
-
-row_at : {A : Type 0} {m : Reader A} {s : List ℕ} (t : List ℕ) (base n many : ℕ) {xs : List A} → Standing m s (take n (drop base t)) xs → length xs ≡ n → n ≤ many → (i : ℕ) (d : A) → i < length xs → Stands m (get_or xs i d) (drop (entry_in t base many i) s)
-row_at {m = m} {s = s} t base n many {xs} r e l i d h = subst (λ (o : ℕ). Stands m (get_or xs i d) (drop o s)) (window_at t base n i (omega arith) ∙ entry-there t base many (omega arith)) (standing_at r i d h)
+row_at : {A : Type 0} {m : Reader A} {s : List ℕ} (os : List ℕ) (n : ℕ) {xs : List A} → Standing m s (take n os) xs → length xs ≡ n → (i : ℕ) (d : A) → i < length xs → Stands m (get_or xs i d) (drop (get_or os i 0) s)
+row_at {m = m} {s = s} os n {xs} r e i d h = subst (λ (o : ℕ). Stands m (get_or xs i d) (drop o s)) (get_or-take n os i 0 (omega arith)) (standing_at r i d h)
 
 -- ---- Points
 
@@ -173,58 +168,58 @@ struct_parts {s} {at} {r} {d} {x} m e h = go (items d.fields.count field (rest s
 
 -- ---- The parts of an accepted job, by number
 
-module _ {s t : List ℕ} {h : Head} {j : Job} (w : Layout s t h j) where
-  pub struct_at : (i : ℕ) (d : StructDecl) → i < length j.structs → Stands struct_decl (get_or j.structs i d) (drop (entry_in t 0 16 i) s)
-  struct_at = row_at t 0 h.structs 16 w.structs w.struct_count w.struct_limit
+module _ {s : List ℕ} {t : Offsets} {h : Head} {j : Job} (w : Layout s t h j) where
+  pub struct_at : (i : ℕ) (d : StructDecl) → i < length j.structs → Stands struct_decl (get_or j.structs i d) (drop (get_or t.structs i 0) s)
+  struct_at = row_at t.structs h.structs w.structs w.struct_count
 
-  pub outlives-at : (i : ℕ) (d : List RegionName) → i < length j.outlives → Stands (counted max_outlived byte) (get_or j.outlives i d) (drop (entry_in t 16 16 i) s)
-  outlives-at = row_at t 16 h.declared 16 w.outlives w.declared_count w.declared_limit
+  pub outlives-at : (i : ℕ) (d : List RegionName) → i < length j.outlives → Stands (counted max_outlived byte) (get_or j.outlives i d) (drop (get_or t.outlives i 0) s)
+  outlives-at = row_at t.outlives h.declared w.outlives w.declared_count
 
-  pub variable_at : (i : ℕ) (d : Ty) → i < length j.variables → Stands type (get_or j.variables i d) (drop (entry_in t 32 64 i) s)
-  variable_at = row_at t 32 h.variables 64 w.variables w.variable_count w.variable_limit
+  pub variable_at : (i : ℕ) (d : Ty) → i < length j.variables → Stands type (get_or j.variables i d) (drop (get_or t.variables i 0) s)
+  variable_at = row_at t.variables h.variables w.variables w.variable_count
 
-  pub block-at : (i : ℕ) (d : Block) → i < length j.blocks → Stands block (get_or j.blocks i d) (drop (entry_in t 96 64 i) s)
-  block-at = row_at t 96 h.blocks 64 w.blocks.stands w.block_count w.block_limit
+  pub block-at : (i : ℕ) (d : Block) → i < length j.blocks → Stands block (get_or j.blocks i d) (drop (get_or t.blocks i 0) s)
+  block-at = row_at t.blocks h.blocks w.blocks.stands w.block_count
 
-  pub first-at : (b : BlockIndex) → b < length j.blocks → entry_in t 160 64 b ≡ first_point j.blocks 0 b
+  pub first-at : (b : BlockIndex) → b < length j.blocks → get_or t.first b 0 ≡ first_point j.blocks 0 b
   first-at b l =
-      sym (window_at t 160 h.blocks b (omega (arith, w.block_count)) ∙ entry-there t 160 64 (omega (arith, w.block_count, w.block_limit)))
+      sym (get_or-take h.blocks t.first b 0 (omega (arith, w.block_count)))
       ∙ ap (λ (x : List ℕ). get_or x b 0) w.blocks.first
       ∙ firsts_at j.blocks 0 b l
 
   -- what stands at a point of the blocks
-  point-is : (p : Point) → p < code_count j.blocks → AtPoint s (entry_in t 256 1024 p) (action_at (graph_of j) p)
+  point-is : (p : Point) → p < code_count j.blocks → AtPoint s (get_or t.points p 0) (action_at (graph_of j) p)
   unfolding graph_of statements_of
   point-is p l =
-      let e = ap (λ (x : List ℕ). get_or x p 0) (sym (w.blocks.points w.few)) ∙ window_at t 256 (code_count j.blocks) p l ∙ entry-there t 256 1024 (omega (arith, w.few)) in
+      let e = ap (λ (x : List ℕ). get_or x p 0) (sym (w.blocks.points w.few)) ∙ get_or-take (code_count j.blocks) t.points p 0 l in
       subst (λ (o : ℕ). AtPoint s o (action_at (graph_of j) p)) e (coded-point w.blocks.coded j.blocks 0 0 p l)
 
-  module _ {p : Point} (l : p < code_count j.blocks) {d : Option Cursor} (same : d ≡ point_of (entry_in t 256 1024 p)) where
+  module _ {p : Point} (l : p < code_count j.blocks) {d : Option Cursor} (same : d ≡ point_of (get_or t.points p 0)) where
     pub acts_end : (c : Cursor) → d ≡ None → Acts s (action_at (graph_of j) p) (Ok (actions.Noop, c))
     acts_end c e = go (point-is p l)
       where
-        last : entry_in t 256 1024 p ≡ block_end
-        last = end_is (entry_in t 256 1024 p) (sym same ∙ e)
+        last : get_or t.points p 0 ≡ block_end
+        last = end_is (get_or t.points p 0) (sym same ∙ e)
 
-        go : AtPoint s (entry_in t 256 1024 p) (action_at (graph_of j) p) → Acts s (action_at (graph_of j) p) (Ok (actions.Noop, c))
+        go : AtPoint s (get_or t.points p 0) (action_at (graph_of j) p) → Acts s (action_at (graph_of j) p) (Ok (actions.Noop, c))
         go (inl k) = record { over = rest s c; reads = ap (λ (a : Action). read a (rest s c)) (sym k.1) }
-        go (inr k) = absurd (omega (arith, action-below s (entry_in t 256 1024 p) w.short k, last))
+        go (inr k) = absurd (omega (arith, action-below s (get_or t.points p 0) w.short k, last))
 
     pub kind_end : d ≡ None → kinds.Noop ≡ kind_of (action_at (graph_of j) p)
     kind_end e = go (point-is p l)
       where
-        go : AtPoint s (entry_in t 256 1024 p) (action_at (graph_of j) p) → kinds.Noop ≡ kind_of (action_at (graph_of j) p)
+        go : AtPoint s (get_or t.points p 0) (action_at (graph_of j) p) → kinds.Noop ≡ kind_of (action_at (graph_of j) p)
         go (inl k) = ap kind_of (sym k.1)
-        go (inr k) = absurd (omega (arith, action-below s (entry_in t 256 1024 p) w.short k, end_is (entry_in t 256 1024 p) (sym same ∙ e)))
+        go (inr k) = absurd (omega (arith, action-below s (get_or t.points p 0) w.short k, end_is (get_or t.points p 0) (sym same ∙ e)))
 
     module _ {c : Cursor} (e : d ≡ Some c) where
       action-there : Stands action (action_at (graph_of j) p) (drop c.at s)
       action-there = go (point-is p l)
         where
-          at : (entry_in t 256 1024 p ≡ block_end → ⊥) × (entry_in t 256 1024 p ≡ c.at)
-          at = action-is (entry_in t 256 1024 p) (sym same ∙ e)
+          at : (get_or t.points p 0 ≡ block_end → ⊥) × (get_or t.points p 0 ≡ c.at)
+          at = action-is (get_or t.points p 0) (sym same ∙ e)
 
-          go : AtPoint s (entry_in t 256 1024 p) (action_at (graph_of j) p) → Stands action (action_at (graph_of j) p) (drop c.at s)
+          go : AtPoint s (get_or t.points p 0) (action_at (graph_of j) p) → Stands action (action_at (graph_of j) p) (drop c.at s)
           go (inl k) = absurd (at.0 k.0)
           go (inr k) = subst (λ (o : ℕ). Stands action (action_at (graph_of j) p) (drop o s)) at.1 k
 
@@ -238,7 +233,7 @@ module _ {s t : List ℕ} {h : Head} {j : Job} (w : Layout s t h j) where
       kind_refused i e = absurd (byte-refused s action-there i e)
 
   -- the struct of a name
-  module _ {name x : ℕ} (there : x ≡ entry_in t 0 16 name) where
+  module _ {name x : ℕ} (there : x ≡ get_or t.structs name 0) where
     pub struct_past : {c : Cursor} → h.structs ≤ name → Declared s (struct_of j.structs name) (record { parameters = record { from = c; count = 0 }; fields = record { from = c; count = 0 } })
     unfolding items done
     struct_past {c} l =

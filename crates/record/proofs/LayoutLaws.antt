@@ -5,8 +5,8 @@ use mathlib.Core.List.{List, [], ◌∷◌}
 use Prim.Native.Nat.{ℕ, ◌+◌, ◌-◌, ◌*◌, ◌≤◌, ◌<◌}
 use native.Mathlib.Omega.{arith}
 use native.Mathlib.Decide.{dec_lt}
-use lib.ListN.{length, get_or, take, drop, length-drop, drop_of_length-le}
-use lib.Seq.{length-take-le, drop-cons}
+use lib.ListN.{length, get_or, drop, drop_of_length-le}
+use lib.Seq.{drop-cons}
 use lib.Dec.{leb, eqb}
 use borrow.Author.Tests.{lt-ltb, le-ltb, le-leb, lt-leb, eq-eqb, ne_eqb, leb-true}
 use Rattle.nll_spec.specs.Decode.{Reading, refused, read, Reader, done, refuse, ◌>>=◌, byte, count, items, counted, struct_decl, type, block}
@@ -16,18 +16,18 @@ use Rattle.nll_spec.specs.Decode as decode
 use Rattle.repr.specs.Reading.{rest}
 use Rattle.repr.specs.declared.Cursor.{Cursor}
 use Rattle.repr.proofs.ReadLaws.{step, stop, clash}
-use Rattle.record.specs.Rows.{Standing, Row}
+use Rattle.repr.proofs.ItemLaws.{items-length}
+use Rattle.record.specs.Rows.{Row}
 use Rattle.record.specs.Blocks.{Blocks, BlocksResult}
 use Rattle.record.specs.Layout.{DecodedSays, InRange, counts_says, CountsSay, parts_of, head_of, Parts, PartsSay}
 use Rattle.record.specs.Layout.{verdict_of}
 use Rattle.record.specs.declared.Counts.{Counts}
-use Rattle.record.proofs.RowLaws.{standing_length}
-use Rattle.record.proofs.BlockLaws.{window_kept}
 use Rattle.repr.specs.declared.refusal.Refusal.{Refusal}
 use Rattle.repr.specs.Refusals.{number_of}
 use Rattle.repr.specs.declared.refusal.Refusal.TheVariants.{Size}
 use Rattle.record.specs.declared.Code.{Code}
 use Rattle.record.specs.declared.Head.{Head}
+use Rattle.record.specs.declared.Offsets.{Offsets}
 use Rattle.std.specs.Prelude.{Result, Ok, Err}
 
 -- ---- Counts
@@ -47,23 +47,8 @@ count_most low high {n} bs {over} e = go (byte bs) refl
 
 -- ---- The rows
 
-window_length : (t : List ℕ) (base n : ℕ) → base + n ≤ length t → length (take n (drop base t)) ≡ n
-window_length t base n h = length-take-le n (drop base t) (simp length-drop (omega arith))
-
-module _ {n : Counts} {s : List ℕ} {c₁ c₂ c₃ c₄ : ℕ} {t₁ t₂ t₃ : List ℕ} (t₄ : List ℕ) (fit : InRange n) (size : length t₄ ≡ 1280) (short : length s ≤ 65535) (structs : Row struct_decl s c₁ c₂ n.structs 0 t₁) (k₂ : take 16 t₂ ≡ take 16 t₁) (outlives : Row (counted max_outlived byte) s c₂ c₃ n.declared 16 t₂) (k₃ : take 32 t₃ ≡ take 32 t₂) (variables : Row type s c₃ c₄ n.variables 32 t₃) (k₄ : take 96 t₄ ≡ take 96 t₃) where
-  structs-stand : Standing struct_decl s (take n.structs (drop 0 t₄)) structs.found
-  structs-stand =
-      rw (window_kept t₃ t₄ 0 n.structs 96 (omega (arith, fit.structs)) k₄
-      ∙ window_kept t₂ t₃ 0 n.structs 32 (omega (arith, fit.structs)) k₃
-      ∙ window_kept t₁ t₂ 0 n.structs 16 (omega (arith, fit.structs)) k₂) structs.stands
-
-  outlives-stand : Standing (counted max_outlived byte) s (take n.declared (drop 16 t₄)) outlives.found
-  outlives-stand = rw (window_kept t₃ t₄ 16 n.declared 96 (omega (arith, fit.declared)) k₄ ∙ window_kept t₂ t₃ 16 n.declared 32 (omega (arith, fit.declared)) k₃) outlives.stands
-
-  variables-stand : Standing type s (take n.variables (drop 32 t₄)) variables.found
-  variables-stand = rw (window_kept t₃ t₄ 32 n.variables 96 (omega (arith, fit.variables)) k₄) variables.stands
-
-  ended_parts : {c₅ : Cursor} {points loans : ℕ} → Blocks s c₄ c₅.at n.blocks points loans t₄ → Parts n s c₁ c₅.at points loans t₄
+module _ {n : Counts} {s : List ℕ} {c₁ c₂ c₃ c₄ : ℕ} {a₁ a₂ a₃ : List ℕ} (t : Offsets) (fit : InRange n) (short : length s ≤ 65535) (structs : Row struct_decl s c₁ c₂ n.structs a₁) (k₁ : t.structs ≡ a₁) (outlives : Row (counted max_outlived byte) s c₂ c₃ n.declared a₂) (k₂ : t.outlives ≡ a₂) (variables : Row type s c₃ c₄ n.variables a₃) (k₃ : t.variables ≡ a₃) where
+  ended_parts : {c₅ : Cursor} {points loans : ℕ} → Blocks s c₄ c₅.at n.blocks points loans t → Parts n s c₁ c₅.at points loans t
   unfolding parts_of done borrow_count
   ended_parts b = record {
     job = record { structs = structs.found; regions = n.regions; outlives = outlives.found; variables = variables.found; start = 0; blocks = b.found };
@@ -71,18 +56,18 @@ module _ {n : Counts} {s : List ℕ} {c₁ c₂ c₃ c₄ : ℕ} {t₁ t₂ t₃
     lends = b.lends;
     most = b.most;
     counts = b.counts;
-    declared = standing_length outlives-stand ∙ window_length t₄ 16 n.declared (omega (arith, fit.declared));
+    declared = items-length _ _ _ outlives.reads;
     layout = λ few. record {
-      structs = structs-stand;
-      outlives = outlives-stand;
-      variables = variables-stand;
+      structs = rw k₁ structs.stands;
+      outlives = rw k₂ outlives.stands;
+      variables = rw k₃ variables.stands;
       blocks = b.placed;
       regions = refl;
       code = b.counts;
-      struct_count = standing_length structs-stand ∙ window_length t₄ 0 n.structs (omega (arith, fit.structs));
-      declared_count = standing_length outlives-stand ∙ window_length t₄ 16 n.declared (omega (arith, fit.declared));
-      variable_count = standing_length variables-stand ∙ window_length t₄ 32 n.variables (omega (arith, fit.variables));
-      block_count = standing_length b.placed.stands ∙ window_length t₄ 96 n.blocks (omega (arith, fit.blocks));
+      struct_count = items-length _ _ _ structs.reads;
+      declared_count = items-length _ _ _ outlives.reads;
+      variable_count = items-length _ _ _ variables.reads;
+      block_count = items-length _ _ _ b.reads;
       struct_limit = fit.structs;
       region_limit = fit.regions;
       declared_limit = fit.declared;
@@ -90,19 +75,18 @@ module _ {n : Counts} {s : List ℕ} {c₁ c₂ c₃ c₄ : ℕ} {t₁ t₂ t₃
       block_limit = fit.blocks;
       few = omega (arith, b.counts);
       short = short;
-      size = size;
       start = refl;
     };
   }
 
-  pub parts_end : (c : Cursor) → c.at ≡ c₄ → (r : Result Code Refusal) → BlocksResult s c n.blocks t₄ r → PartsSay n s c₁ t₄ r
+  pub parts_end : (c : Cursor) → c.at ≡ c₄ → (r : Result Code Refusal) → BlocksResult s c n.blocks t r → PartsSay n s c₁ t r
   unfolding parts_of
-  parts_end c e (Ok r) b = record { result = ended_parts (subst (λ (x : ℕ). Blocks s x r.next.at n.blocks r.points r.loans t₄) e b) }
+  parts_end c e (Ok r) b = record { result = ended_parts (subst (λ (x : ℕ). Blocks s x r.next.at n.blocks r.points r.loans t) e b) }
   parts_end c e (Err k) b = record { result = step _ _ _ structs.reads ∙ step _ _ _ outlives.reads ∙ step _ _ _ variables.reads ∙ stop _ _ _ (subst (λ (x : ℕ). items n.blocks block (drop x s) ≡ refused (number_of k)) e b) }
 
 -- ---- What follows the length
 
-module _ {s t : List ℕ} where
+module _ {s : List ℕ} {t : Offsets} where
   -- what is known of a reading is known of the job
   pub says_as : {d e : decode.Decoded} {r q : Result Head Refusal} → d ≡ e → r ≡ q → DecodedSays e s t q → DecodedSays d s t r
   says_as {d} {e} {r} {q} i j h = subst (λ (x : decode.Decoded). DecodedSays x s t r) (sym i) (subst (λ (x : Result Head Refusal). DecodedSays e s t x) (sym j) h)
@@ -115,11 +99,11 @@ pub job-counts : {s : List ℕ} {r x : Result (Counts × Cursor) Refusal} → Co
 job-counts {s} {r} {x} h e = counted-job (drop 3 s) ∙ sym (h.same parts_of) ∙ ap (counts_says parts_of s) e
 
 -- a refusal of the job is one of the record
-pub job-refused : {s t : List ℕ} (bs : List ℕ) {k : Refusal} → job bs ≡ refused (number_of k) → DecodedSays (whole (job bs)) s t (Err k)
+pub job-refused : {s : List ℕ} {t : Offsets} (bs : List ℕ) {k : Refusal} → job bs ≡ refused (number_of k) → DecodedSays (whole (job bs)) s t (Err k)
 unfolding whole
 job-refused bs e = record { says = ap whole e }
 
-module _ {n : Counts} {s : List ℕ} {from : ℕ} {t : List ℕ} (next : Cursor) {points loans : ℕ} (p : Parts n s from next.at points loans t) where
+module _ {n : Counts} {s : List ℕ} {from : ℕ} {t : Offsets} (next : Cursor) {points loans : ℕ} (p : Parts n s from next.at points loans t) where
   points-are : point_count p.job ≡ points + n.declared
   unfolding point_count
   points-are = omega (arith, p.counts, p.declared)

@@ -1,4 +1,4 @@
--- Reading a row item by item, with an entry of the table for each. Assumes nothing.
+-- Reading a row item by item, with an entry for each. Assumes nothing.
 use mathlib.Core.Path.{◌≡◌, refl, ap, ◌∙◌}
 use mathlib.Core.List.{List, [], ◌∷◌, ◌++◌, append_assoc, append-nil}
 use Prim.Native.Nat.{ℕ, zero, suc, ◌+◌, ◌-◌, ◌≤◌, ◌<◌, min}
@@ -6,8 +6,7 @@ use native.Mathlib.Omega.{arith}
 use native.Mathlib.Nat.{sub-zero}
 use native.Mathlib.Numerals.{sub-one}
 use native.Mathlib.Decide.{dec_lt}
-use lib.ListN.{length, take, drop, set, length-set, length-drop, drop_of_length-le}
-use lib.Seq.{take-set-le, drop-set-add}
+use lib.ListN.{length, take, drop, set, length-set, drop_of_length-le}
 use Rattle.std.proofs.lemmas.List.{take_more_set}
 use Rattle.nll_spec.specs.Decode.{Reading, refused, read, Reader, done, ◌>>=◌, items}
 use Rattle.repr.specs.Reading.{ended, end_says, bytes_say}
@@ -86,10 +85,6 @@ pub standing_length : {A : Type 0} {m : Reader A} {s os : List ℕ} {xs : List A
 standing_length none = refl
 standing_length (more k r) = ap suc (standing_length r)
 
--- one entry more of a window
-pub window_more : (t : List ℕ) (base i o : ℕ) → base + i < length t → take (i + 1) (drop base (set t (base + i) o)) ≡ take i (drop base t) ++ o ∷ []
-window_more t base i o h = let l : i < length (drop base t) = simp length-drop (omega arith) in rw drop-set-add (take_more_set (drop base t) i o l)
-
 -- where some bytes end
 pub bytes-end : (s : List ℕ) (c : Cursor) (n : ℕ) (r : Result Cursor Refusal) → end_says s r ≡ ended (bytes_say s c n r)
 bytes-end s c n (Ok next) = refl
@@ -97,38 +92,32 @@ bytes-end s c n (Err k) = refl
 
 -- ---- A row
 
--- i of n parts were read up to c, with their entries from base on. What stands below base is as it was.
-pub record Rowing {A : Type 0} (m : Reader A) (s : List ℕ) (from c : Cursor) (n i base : ℕ) (old t : List ℕ) : Type 0 where
+-- i of n parts were read up to c, with their entries.
+pub record Rowing {A : Type 0} (m : Reader A) (s : List ℕ) (from c : Cursor) (n i : ℕ) (old t : List ℕ) : Type 0 where
   pub found : List A
   pub going : Going m s from c n i found
-  pub stands : Standing m s (take i (drop base t)) found
-  pub size : length t ≡ 1280
-  pub kept : take base t ≡ take base old
+  pub stands : Standing m s (take i t) found
+  pub size : length t ≡ length old
 
-pub rowing_start : {A : Type 0} (m : Reader A) (s : List ℕ) (c : Cursor) (n base : ℕ) (t : List ℕ) → length t ≡ 1280 → Rowing m s c c n 0 base t t
-rowing_start m s c n base t h = record { found = []; going = going_start m s c n; stands = none; size = h; kept = refl }
+pub rowing_start : {A : Type 0} (m : Reader A) (s : List ℕ) (c : Cursor) (n : ℕ) (t : List ℕ) → Rowing m s c c n 0 t t
+rowing_start m s c n t = record { found = []; going = going_start m s c n; stands = none; size = refl }
 
-module _ {A : Type 0} {m : Reader A} {s : List ℕ} {from c : Cursor} {n i base : ℕ} {old t : List ℕ} (w : Rowing m s from c n i base old t) (h : i < n) (fits : base + n ≤ 1280) (o : ℕ) where
-  written : take base (set t (base + i) o) ≡ take base old
-  written = take-set-le base t (base + i) o (omega arith) ∙ w.kept
-
-  pub rowing_more : {next : Cursor} → length s ≤ 65535 → o ≡ min c.at 65535 → ended (m (drop c.at s)) ≡ read tt (drop next.at s) → Rowing m s from next n (i + 1) base old (set t (base + i) o)
+module _ {A : Type 0} {m : Reader A} {s : List ℕ} {from c : Cursor} {n i : ℕ} {old t : List ℕ} (w : Rowing m s from c n i old t) (h : i < n) (fits : n ≤ length old) (o : ℕ) where
+  pub rowing_more : {next : Cursor} → length s ≤ 65535 → o ≡ min c.at 65535 → ended (m (drop c.at s)) ≡ read tt (drop next.at s) → Rowing m s from next n (i + 1) old (set t i o)
   rowing_more {next} l e f =
       let r = end_readable m (drop c.at s) f in
       let k : m (drop c.at s) ≡ read r.item (drop next.at s) = r.reads ∙ rw (end-over m (drop c.at s) r.reads f) in
-      let b : base + i < length t = omega (arith, w.size) in
       record {
         found = w.found ++ r.item ∷ [];
         going = going_more w.going h k;
-        stands = rw (window_more t base i o b) (standing_more o w.stands (record { over = drop next.at s; reads = rw (e, offset_drop s c.at l) k }));
-        size = length-set t (base + i) o ∙ w.size;
-        kept = written;
+        stands = rw (take_more_set t i o (omega (arith, w.size))) (standing_more o w.stands (record { over = drop next.at s; reads = rw (e, offset_drop s c.at l) k }));
+        size = length-set t i o ∙ w.size;
       }
 
-  pub rowing_stop : {k : ℕ} → ended (m (drop c.at s)) ≡ refused k → (length (set t (base + i) o) ≡ 1280) × (take base (set t (base + i) o) ≡ take base old) × (items n m (drop from.at s) ≡ refused k)
-  rowing_stop f = (length-set t (base + i) o ∙ w.size, written, going_stop w.going h (end_refused m (drop c.at s) f))
+  pub rowing_stop : {k : ℕ} → ended (m (drop c.at s)) ≡ refused k → (length (set t i o) ≡ length old) × (items n m (drop from.at s) ≡ refused k)
+  rowing_stop f = (length-set t i o ∙ w.size, going_stop w.going h (end_refused m (drop c.at s) f))
 
-pub rowing_end : {A : Type 0} {m : Reader A} {s : List ℕ} {from c : Cursor} {n i base : ℕ} {old t : List ℕ} → Rowing m s from c n i base old t → n ≤ i → Row m s from.at c.at n base t
-rowing_end {n = n} {i} {base} {t = t} w h =
+pub rowing_end : {A : Type 0} {m : Reader A} {s : List ℕ} {from c : Cursor} {n i : ℕ} {old t : List ℕ} → Rowing m s from c n i old t → n ≤ i → Row m s from.at c.at n t
+rowing_end {n = n} {i} {t = t} w h =
     let e : n ≡ i = (let l = w.going.within in omega arith) in
     record { found = w.found; reads = going_end w.going h; stands = rw e w.stands }

@@ -1,5 +1,5 @@
--- What the table gives by number: where a part lies, what a struct declares, what a point does.
-use Rattle.std.specs.Prelude.{◌≡◌, cond, List, [], ◌∷◌, ℕ, ◌+◌, get_or, ltb, eqb, Option, Some, None, Result}
+-- What the offsets give by number: where a part lies, what a struct declares, what a point does.
+use Rattle.std.specs.Prelude.{◌≡◌, cond, List, [], ◌∷◌, ℕ, get_or, eqb, Option, Some, None, Result}
 use Rattle.nll_spec.specs.Syntax as syntax
 use Rattle.nll_spec.specs.Decode.{read, items, param, field}
 use Rattle.repr.specs.Reading.{rest}
@@ -12,10 +12,6 @@ use Rattle.repr.specs.declared.Action.{Action}
 use Rattle.record.specs.declared.ActionKind.{ActionKind}
 use Rattle.record.specs.declared.ActionKind.TheVariants as kinds
 use Rattle.repr.specs.declared.refusal.Refusal.{Refusal}
-
--- entry i of the row of so many entries from `base` on; 0 where the row has none
-abbrev pub entry_in : List ℕ → ℕ → ℕ → ℕ → ℕ
-entry_in t base many i = cond (ltb i many) (get_or t (base + i) 0) 0
 
 -- where a point's action lies; none at a block's end
 abbrev pub point_of : ℕ → Option Cursor

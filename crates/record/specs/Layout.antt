@@ -1,5 +1,5 @@
 -- The whole record: what it is, and where each part of its job lies.
-use Rattle.std.specs.Prelude.{◌≡◌, cond, ◌&&◌, List, ℕ, ◌+◌, ◌≤◌, length, take, drop, ltb, leb, Result, Ok, Err}
+use Rattle.std.specs.Prelude.{◌≡◌, cond, ◌&&◌, List, ℕ, ◌+◌, ◌≤◌, length, take, drop, replicate, ltb, leb, Result, Ok, Err}
 use Rattle.nll_spec.specs.Syntax.{Job}
 use Rattle.nll_spec.specs.Decode.{Reading, refused, read, Reader, done, ◌>>=◌, byte, count, items, counted, struct_decl, type, block, code_count}
 use Rattle.nll_spec.specs.Decode.{point_count, borrow_count, max_structs, max_regions, max_declared, max_variables, max_blocks, max_outlived, max_points, max_loans}
@@ -14,16 +14,16 @@ use Rattle.repr.specs.declared.refusal.Refusal.{Refusal}
 use Rattle.repr.specs.Refusals.{number_of}
 use Rattle.repr.specs.declared.refusal.Refusal.TheVariants.{Form, Size}
 use Rattle.record.specs.declared.Code.{Code}
+use Rattle.record.specs.declared.Offsets.{Offsets}
 use Rattle.record.specs.declared.Record.{Record}
 
 -- ---- Where each part of a job lies
 
--- The job j of the record s, with the head h and the table t. From entry 0 on stand the offsets of the structs, from 16 on those of the outlives
--- lists, from 32 on those of the variables' types; `blocks` says what stands from 96 on. The counts are within their limits.
-pub record Layout (s t : List ℕ) (h : Head) (j : Job) : Type 0 where
-  pub structs : Standing struct_decl s (take h.structs (drop 0 t)) j.structs
-  pub outlives : Standing (counted max_outlived byte) s (take h.declared (drop 16 t)) j.outlives
-  pub variables : Standing type s (take h.variables (drop 32 t)) j.variables
+-- The job j of the record s, with the head h and the offsets t of its parts. The counts are within their limits.
+pub record Layout (s : List ℕ) (t : Offsets) (h : Head) (j : Job) : Type 0 where
+  pub structs : Standing struct_decl s (take h.structs t.structs) j.structs
+  pub outlives : Standing (counted max_outlived byte) s (take h.declared t.outlives) j.outlives
+  pub variables : Standing type s (take h.variables t.variables) j.variables
   pub blocks : Placed s h.blocks j.blocks t
   pub regions : h.regions ≡ j.regions
   pub code : h.code ≡ code_count j.blocks
@@ -38,8 +38,11 @@ pub record Layout (s t : List ℕ) (h : Head) (j : Job) : Type 0 where
   pub block_limit : h.blocks ≤ 64
   pub few : code_count j.blocks ≤ 1024
   pub short : length s ≤ 65535
-  pub size : length t ≡ 1280
   pub start : j.start ≡ 0
+
+-- all offsets 0
+abbrev pub no_offsets : Offsets
+no_offsets = record { structs = replicate 16 0; outlives = replicate 16 0; variables = replicate 64 0; blocks = replicate 64 0; first = replicate 64 0; points = replicate 1024 0 }
 
 -- The record r has the job j.
 abbrev pub Holds : Record → Job → Type 0
@@ -48,19 +51,19 @@ Holds r j = Layout r.bytes.now r.layout.now r.head j
 -- ---- What a record is
 
 -- a job within the limits of points and loans, and where it lies
-pub record Accepted (d : decode.Decoded) (s t : List ℕ) (h : Head) : Type 0 where
+pub record Accepted (d : decode.Decoded) (s : List ℕ) (t : Offsets) (h : Head) : Type 0 where
   pub job : Job
   pub is : d ≡ decode.decoded job
   pub points : point_count job ≤ 1024
   pub loans : borrow_count job ≤ 128
   pub layout : Layout s t h job
 
-abbrev pub Verdict : decode.Decoded → List ℕ → List ℕ → Result Head Refusal → Type 0
+abbrev pub Verdict : decode.Decoded → List ℕ → Offsets → Result Head Refusal → Type 0
 Verdict d s t (Err k) = d ≡ decode.rejected (number_of k)
 Verdict d s t (Ok h) = Accepted d s t h
 
--- The answer is the definition's: the number of the refusal, or the head of the job, with the table t.
-pub record DecodedSays (d : decode.Decoded) (s t : List ℕ) (r : Result Head Refusal) : Type 0 where
+-- The answer is the definition's: the number of the refusal, or the head of the job, with the offsets t.
+pub record DecodedSays (d : decode.Decoded) (s : List ℕ) (t : Offsets) (r : Result Head Refusal) : Type 0 where
   pub says : Verdict d s t r
 
 -- ---- The five counts, and what follows them
@@ -110,7 +113,7 @@ parts_of structs regions declared variables blocks = do
 abbrev pub head_of : Counts → ℕ → Head
 head_of n points = record { structs = n.structs; regions = n.regions; declared = n.declared; variables = n.variables; blocks = n.blocks; code = points }
 
-pub record Parts (n : Counts) (s : List ℕ) (from next points loans : ℕ) (t : List ℕ) : Type 0 where
+pub record Parts (n : Counts) (s : List ℕ) (from next points loans : ℕ) (t : Offsets) : Type 0 where
   pub job : Job
   pub reads : parts_of n.structs n.regions n.declared n.variables n.blocks (drop from s) ≡ read job (drop next s)
   pub lends : loans ≡ borrow_count job
@@ -119,11 +122,11 @@ pub record Parts (n : Counts) (s : List ℕ) (from next points loans : ℕ) (t :
   pub declared : length job.outlives ≡ n.declared
   pub layout : points ≤ 1024 → Layout s t (head_of n points) job
 
-abbrev pub PartsResult : Counts → List ℕ → ℕ → List ℕ → Result Code Refusal → Type 0
+abbrev pub PartsResult : Counts → List ℕ → ℕ → Offsets → Result Code Refusal → Type 0
 PartsResult n s from t (Ok c) = Parts n s from c.next.at c.points c.loans t
 PartsResult n s from t (Err k) = parts_of n.structs n.regions n.declared n.variables n.blocks (drop from s) ≡ refused (number_of k)
 
-pub record PartsSay (n : Counts) (s : List ℕ) (from : ℕ) (t : List ℕ) (r : Result Code Refusal) : Type 0 where
+pub record PartsSay (n : Counts) (s : List ℕ) (from : ℕ) (t : Offsets) (r : Result Code Refusal) : Type 0 where
   pub result : PartsResult n s from t r
 
 -- what a record of this size is, by what was read of it

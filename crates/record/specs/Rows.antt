@@ -1,4 +1,4 @@
--- A row of parts, with an entry of the table for each.
+-- A row of parts, with an entry for each.
 use Rattle.std.specs.Prelude.{◌≡◌, List, [], ◌∷◌, ℕ, length, take, drop, Result, Ok, Err}
 use Rattle.std.specs.Borrow.{Bor}
 use Rattle.nll_spec.specs.Syntax.{StructDecl, Ty, RegionName}
@@ -35,18 +35,17 @@ reader Variable = type
 abbrev pub Ends : Part → (Cursor → Bor (List ℕ) → Result Cursor Refusal → Type 0) → Type 0
 Ends part answers = (c : Cursor) (s : Bor (List ℕ)) (r : Result Cursor Refusal) → answers c s r → end_says s.now r ≡ ended (reader part (drop c.at s.now))
 
--- n items that m reads from one place of s to another, with their offsets from entry `base` of the table t on.
-pub record Row {A : Type 0} (m : Reader A) (s : List ℕ) (from next : ℕ) (n base : ℕ) (t : List ℕ) : Type 0 where
+-- n items that m reads from one place of s to another, with their offsets at the head of the entries t.
+pub record Row {A : Type 0} (m : Reader A) (s : List ℕ) (from next n : ℕ) (t : List ℕ) : Type 0 where
   pub found : List A
   pub reads : items n m (drop from s) ≡ read found (drop next s)
-  pub stands : Standing m s (take n (drop base t)) found
+  pub stands : Standing m s (take n t) found
 
-abbrev pub RowResult : {A : Type 0} → Reader A → List ℕ → Cursor → ℕ → ℕ → List ℕ → Result Cursor Refusal → Type 0
-RowResult m s from n base t (Ok next) = Row m s from.at next.at n base t
-RowResult m s from n base t (Err k) = items n m (drop from.at s) ≡ refused (number_of k)
+abbrev pub RowResult : {A : Type 0} → Reader A → List ℕ → Cursor → ℕ → List ℕ → Result Cursor Refusal → Type 0
+RowResult m s from n t (Ok next) = Row m s from.at next.at n t
+RowResult m s from n t (Err k) = items n m (drop from.at s) ≡ refused (number_of k)
 
--- The answer of reading a row, with the table before and after. Entries below the row's are kept.
-pub record RowSays (part : Part) (s : List ℕ) (from : Cursor) (n base : ℕ) (before after : List ℕ) (r : Result Cursor Refusal) : Type 0 where
-  pub size : length after ≡ 1280
-  pub kept : take base after ≡ take base before
-  pub result : RowResult (reader part) s from n base after r
+-- The answer of reading a row, with its entries before and after.
+pub record RowSays (part : Part) (s : List ℕ) (from : Cursor) (n : ℕ) (before after : List ℕ) (r : Result Cursor Refusal) : Type 0 where
+  pub size : length after ≡ length before
+  pub result : RowResult (reader part) s from n after r

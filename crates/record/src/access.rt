@@ -1,13 +1,13 @@
 // Where a part of a job that was read lies, by its number. A number that names nothing is at 0.
-ghost use Rattle.std.specs.Prelude.{◌≡◌, ◌+◌, ◌<◌, ◌≤◌};
+ghost use Rattle.std.specs.Prelude.{◌≡◌, ◌<◌, get_or};
 ghost use Rattle.nll_spec.specs.Syntax.{Job};
 ghost use Rattle.nll_spec.specs.Decode.{code_count};
 ghost use Rattle.nll_spec.specs.Types.{struct_of};
 ghost use Rattle.nll_spec.specs.Graph.{graph_of, action_at};
 ghost use Rattle.record.specs.Layout.{Holds};
-ghost use Rattle.record.specs.Access.{entry_in, point_of, Declared, Acts, kind_of_tag, kind_of};
+ghost use Rattle.record.specs.Access.{point_of, Declared, Acts, kind_of_tag, kind_of};
 
-use super::{ActionKind, BLOCKS, END, FIRST, OUTLIVES, POINTS, Record, STRUCTS, VARIABLES};
+use super::{ActionKind, END, Record};
 use repr::{
     Action, BasicBlockIndex, Cursor, Reading, RegionName, Row, StructDecl, StructName, Variable,
 };
@@ -28,64 +28,63 @@ fn kind(tag: u8) -> ActionKind
     }
 }
 
-impl<'a> Record<'a> {
-    // Entry i of the row of so many entries from base on.
-    fn entry(&self, base: usize, many: usize, i: u8) -> u16
-        requires { base + many ≤ 1280 }
-        ensures { result ≡ entry_in self.now.layout.now base many i }
-    {
-        let k = usize::from(i);
-        if k < many { self.layout[base + k] } else { 0 }
-    }
+// Entry i of some entries.
+fn entry(entries: &[u16], i: usize) -> u16
+    ensures { result ≡ get_or entries.now i 0 }
+{
+    entries.get(i).copied().unwrap_or(0)
+}
 
+// Where the part of entry i lies.
+fn place(entries: &[u16], i: u8) -> Cursor
+    ensures { result.at ≡ get_or entries.now i 0 }
+{
+    let at = usize::from(entry(entries, usize::from(i)));
+    Cursor { at }
+}
+
+impl<'a> Record<'a> {
     pub fn struct_at(&self, name: StructName) -> Cursor
-        ensures { result.at ≡ entry_in self.now.layout.now 0 16 name.0 }
+        ensures { result.at ≡ get_or self.now.layout.now.structs name.0 0 }
     {
-        let at = usize::from(self.entry(STRUCTS, 16, name.0));
-        Cursor { at }
+        place(&self.layout.structs, name.0)
     }
 
     pub fn outlives_at(&self, name: RegionName) -> Cursor
-        ensures { result.at ≡ entry_in self.now.layout.now 16 16 name.0 }
+        ensures { result.at ≡ get_or self.now.layout.now.outlives name.0 0 }
     {
-        let at = usize::from(self.entry(OUTLIVES, 16, name.0));
-        Cursor { at }
+        place(&self.layout.outlives, name.0)
     }
 
     pub fn variable_at(&self, v: Variable) -> Cursor
-        ensures { result.at ≡ entry_in self.now.layout.now 32 64 v.0 }
+        ensures { result.at ≡ get_or self.now.layout.now.variables v.0 0 }
     {
-        let at = usize::from(self.entry(VARIABLES, 64, v.0));
-        Cursor { at }
+        place(&self.layout.variables, v.0)
     }
 
     pub fn block_at(&self, b: BasicBlockIndex) -> Cursor
-        ensures { result.at ≡ entry_in self.now.layout.now 96 64 b.0 }
+        ensures { result.at ≡ get_or self.now.layout.now.blocks b.0 0 }
     {
-        let at = usize::from(self.entry(BLOCKS, 64, b.0));
-        Cursor { at }
+        place(&self.layout.blocks, b.0)
     }
 
     // The first point of a block.
     pub fn first_point(&self, b: BasicBlockIndex) -> u16
-        ensures { result ≡ entry_in self.now.layout.now 160 64 b.0 }
+        ensures { result ≡ get_or self.now.layout.now.first b.0 0 }
     {
-        self.entry(FIRST, 64, b.0)
+        entry(&self.layout.first, usize::from(b.0))
     }
 
-    // Where the action of a point of the blocks lies; none at a block's end. A point that the table has no entry for is at 0.
+    // Where the action of a point of the blocks lies; none at a block's end. A point that has no entry is at 0.
     pub fn point_at(&self, p: usize) -> Option<Cursor>
-        ensures { result ≡ point_of (entry_in self.now.layout.now 256 1024 p) }
+        ensures { result ≡ point_of (get_or self.now.layout.now.points p 0) }
     {
-        if 1024 <= p {
-            return Some(Cursor { at: 0 });
+        match entry(&self.layout.points, p) {
+            END => None,
+            at => Some(Cursor {
+                at: usize::from(at),
+            }),
         }
-        let at = self.layout[POINTS + p];
-        if at == END {
-            return None;
-        }
-        let at = usize::from(at);
-        Some(Cursor { at })
     }
 
     // The struct of a name. One that is not there has no parameters and no fields.

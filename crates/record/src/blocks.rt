@@ -1,17 +1,17 @@
 // Blocks: where each lies, its first point, and where the action of each point lies.
-ghost use Rattle.std.specs.Prelude.{◌≡◌, ◌≤◌, length};
-ghost use Rattle.record.specs.Blocks.{point_kept, ActionSays, ActionsSay, BlocksSay};
+ghost use Rattle.std.specs.Prelude.{◌≡◌, ◌≤◌, length, set};
+ghost use Rattle.record.specs.Blocks.{ActionSays, ActionsSay, BlocksSay};
 
 use super::rows::offset;
-use super::{BLOCKS, Code, END, FIRST, POINTS};
+use super::{Code, END, Offsets};
 use repr::{Cursor, Reading, Refusal};
 
-// Keeps a point's entry, where the table has one for it.
-fn keep(layout: &mut [u16; 1280], point: usize, entry: u16)
-    ensures { layout.new ≡ point_kept layout.old point entry }
+// Keeps a point's entry, where there is one for it.
+fn keep(points: &mut [u16; 1024], point: usize, entry: u16)
+    ensures { points.new ≡ set points.old point entry }
 {
     if point < 1024 {
-        layout[POINTS + point] = entry;
+        points[point] = entry;
     }
 }
 
@@ -30,26 +30,26 @@ fn actions(
     s: &[u8],
     count: u8,
     first: usize,
-    layout: &mut [u16; 1280],
+    points: &mut [u16; 1024],
 ) -> Reading<usize>
     requires { (first ≤ 16384) × (length s.now ≤ 65535) }
-    ensures { ActionsSay s.now from count first layout.old layout.new result }
+    ensures { ActionsSay s.now from count first points.old points.new result }
 {
     let many = usize::from(count);
     let mut c = from;
     let mut loans = 0;
     for i in 0..many {
-        keep(layout, first + i, offset(c));
+        keep(points, first + i, offset(c));
         let (more, next) = action_end(c, s)?;
         c = next;
         loans += more;
     }
-    keep(layout, first + many, END);
+    keep(points, first + many, END);
     Ok((loans, c))
 }
 
 // Keeps where so many blocks lie, their first points and their actions. Answers where they end, and how many points and loans they have.
-pub fn blocks(from: Cursor, s: &[u8], count: u8, layout: &mut [u16; 1280]) -> Result<Code, Refusal>
+pub fn blocks(from: Cursor, s: &[u8], count: u8, layout: &mut Offsets) -> Result<Code, Refusal>
     requires { (count ≤ 64) × (length s.now ≤ 65535) }
     ensures { BlocksSay s.now from count layout.old layout.new result }
 {
@@ -57,10 +57,10 @@ pub fn blocks(from: Cursor, s: &[u8], count: u8, layout: &mut [u16; 1280]) -> Re
     let mut points = 0;
     let mut loans = 0;
     for b in 0..usize::from(count) {
-        layout[BLOCKS + b] = offset(c);
-        layout[FIRST + b] = points as u16;
+        layout.blocks[b] = offset(c);
+        layout.first[b] = points as u16;
         let d = c.block(s)?;
-        let (more, next) = actions(d.code, s, d.actions, points, layout)?;
+        let (more, next) = actions(d.code, s, d.actions, points, &mut layout.points)?;
         c = next;
         points += usize::from(d.actions) + 1;
         loans += more;

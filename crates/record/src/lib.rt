@@ -1,5 +1,5 @@
 #![tactic(auto)]
-// The whole record: the refusals from `Refusal::Version` to `Refusal::Size`, and a table of where each part of the job lies.
+// The whole record: the refusals from `Refusal::Version` to `Refusal::Size`, and where each part of the job lies.
 mod access;
 mod blocks;
 mod rows;
@@ -7,26 +7,41 @@ mod tables;
 
 ghost use Rattle.std.specs.Prelude.{◌≡◌, ◌≤◌, length, drop};
 ghost use Rattle.nll_spec.specs.Decode.{job, whole, decode};
-ghost use Rattle.record.specs.Layout.{DecodedSays};
+ghost use Rattle.record.specs.Layout.{DecodedSays, no_offsets};
 
 use repr::{Cursor, Refusal};
 use tables::{counts, parts, verdict};
 
-// ---- The table of offsets. From POINTS on it has an entry for each point of the blocks: the offset of its action, or END for a block's end.
-
-pub const STRUCTS: usize = 0;
-
-pub const OUTLIVES: usize = 16;
-
-pub const VARIABLES: usize = 32;
-
-pub const BLOCKS: usize = 96;
-
-pub const FIRST: usize = 160;
-
-pub const POINTS: usize = 256;
-
+// The entry of a block's end among the points: no action has this offset.
 pub const END: u16 = 65535;
+
+// Where each part of a job lies in its record. `first` has the first point of each block; `points` has an entry for each point of the blocks:
+// the offset of its action, or END for a block's end. An `Option<u16>` in place of END would double that table.
+#[derive(Clone, Copy)]
+pub struct Offsets {
+    pub structs: [u16; 16],
+    pub outlives: [u16; 16],
+    pub variables: [u16; 64],
+    pub blocks: [u16; 64],
+    pub first: [u16; 64],
+    pub points: [u16; 1024],
+}
+
+impl Offsets {
+    // The offsets before anything is read: all 0.
+    pub fn none() -> Offsets
+        ensures { result ≡ no_offsets }
+    {
+        Offsets {
+            structs: [0; 16],
+            outlives: [0; 16],
+            variables: [0; 64],
+            blocks: [0; 64],
+            first: [0; 64],
+            points: [0; 1024],
+        }
+    }
+}
 
 // How many parts there are of each kind; `code` counts the points of all blocks.
 #[derive(Clone, Copy)]
@@ -43,7 +58,7 @@ pub struct Head {
 #[derive(Clone, Copy)]
 pub struct Record<'a> {
     pub bytes: &'a [u8],
-    pub layout: &'a [u16; 1280],
+    pub layout: &'a Offsets,
     pub head: Head,
 }
 
@@ -79,7 +94,7 @@ pub struct Code {
 }
 
 // What follows the record's length.
-fn job(s: &[u8], layout: &mut [u16; 1280]) -> Result<Head, Refusal>
+fn job(s: &[u8], layout: &mut Offsets) -> Result<Head, Refusal>
     requires { length s.now ≤ 65535 }
     ensures { DecodedSays (whole (job (drop 3 s.now))) s.now layout.new result }
 {
@@ -88,8 +103,8 @@ fn job(s: &[u8], layout: &mut [u16; 1280]) -> Result<Head, Refusal>
     verdict(n, s.len(), code)
 }
 
-// The refusal of a record, from `Refusal::Version` to `Refusal::Size`, or the head of its job, with the table of where each part lies. A record that is refused leaves anything in the table.
-pub fn read(s: &[u8], layout: &mut [u16; 1280]) -> Result<Head, Refusal>
+// The refusal of a record, from `Refusal::Version` to `Refusal::Size`, or the head of its job, with where each part lies. A record that is refused leaves anything in `layout`.
+pub fn read(s: &[u8], layout: &mut Offsets) -> Result<Head, Refusal>
     ensures { DecodedSays (decode s.now) s.now layout.new result }
 {
     if s.len() < 1 {

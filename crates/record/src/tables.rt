@@ -4,7 +4,7 @@ ghost use Rattle.record.specs.Layout.{InRange, CountsSay, PartsSay, verdict_of};
 
 use super::blocks::blocks;
 use super::rows::{outlives_end, row};
-use super::{Code, Counts, Head, OUTLIVES, STRUCTS, VARIABLES};
+use super::{Code, Counts, Head, Offsets};
 use repr::{Cursor, Reading, Refusal};
 
 // The five counts: structs, regions, declared regions, variables, blocks.
@@ -27,13 +27,13 @@ pub fn counts(c: Cursor, s: &[u8]) -> Reading<Counts>
 }
 
 // The parts that are counted.
-pub fn parts(n: Counts, c: Cursor, s: &[u8], layout: &mut [u16; 1280]) -> Result<Code, Refusal>
+pub fn parts(n: Counts, c: Cursor, s: &[u8], layout: &mut Offsets) -> Result<Code, Refusal>
     requires { InRange n × (length s.now ≤ 65535) }
     ensures { PartsSay n s.now c.at layout.new result }
 {
-    let second = row(Cursor::struct_end, c, s, n.structs, STRUCTS, layout)?;
-    let third = row(outlives_end, second, s, n.declared, OUTLIVES, layout)?;
-    let last = row(Cursor::ty, third, s, n.variables, VARIABLES, layout)?;
+    let second = row(Cursor::struct_end, c, s, n.structs, &mut layout.structs)?;
+    let third = row(outlives_end, second, s, n.declared, &mut layout.outlives)?;
+    let last = row(Cursor::ty, third, s, n.variables, &mut layout.variables)?;
     blocks(last, s, n.blocks, layout)
 }
 

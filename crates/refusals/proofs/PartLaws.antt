@@ -25,6 +25,7 @@ use Rattle.repr.specs.declared.BasicBlockData.{BasicBlockData}
 use Rattle.repr.proofs.ReadLaws.{told, step, bytes-at, bytes-short}
 use Rattle.record.specs.Layout.{Layout}
 use Rattle.record.specs.declared.Head.{Head}
+use Rattle.record.specs.declared.Offsets.{Offsets}
 use Rattle.repr.proofs.SpellLaws.{clash, carry, then}
 use Rattle.refusals.specs.Tests.{Sized, pass, pass_says, Passes, Tested, all_below, own_named, block_named, blocks_named}
 
@@ -194,7 +195,7 @@ blocks_apart j =
     every_both (λ b. all_below (length j.blocks) b.successors) (λ b. every (action_named j) b.actions) j.blocks
     ∙ ap (λ (z : Bool). successors_named j && z) (sym (every-gather (action_named j) (λ b. b.actions) j.blocks))
 
-pub named-is : {s t : List ℕ} {h : Head} {j : Job} → Layout s t h j → named j ≡ leb h.declared h.regions && structs_named j && outlived_named j && variables_named j && ltb 0 h.blocks && blocks_named j
+pub named-is : {s : List ℕ} {t : Offsets} {h : Head} {j : Job} → Layout s t h j → named j ≡ leb h.declared h.regions && structs_named j && outlived_named j && variables_named j && ltb 0 h.blocks && blocks_named j
 unfolding named
 named-is {h = h} {j = j} w =
     go (structs_named j) (outlived_named j) (variables_named j) (successors_named j) (actions_named j)

@@ -14,8 +14,9 @@ use Rattle.repr.specs.declared.refusal.Refusal.{Refusal}
 use Rattle.std.specs.Prelude.{Result, Ok, Err, is_ok}
 use Rattle.repr.specs.Stands.{Stands}
 use Rattle.record.specs.Layout.{Layout}
-use Rattle.record.specs.Access.{entry_in, Declared}
+use Rattle.record.specs.Access.{Declared}
 use Rattle.record.specs.declared.Head.{Head}
+use Rattle.record.specs.declared.Offsets.{Offsets}
 use Rattle.record.proofs.AccessLaws.{outlives-at, variable_at, block-at}
 use Rattle.repr.proofs.ItemLaws.{first_of, none_of}
 use Rattle.refusals.specs.Tests.{Sized, over, fails, pass, pass_says, Passes, Tested, ItemTested, no_block}
@@ -124,12 +125,12 @@ module _ {S F : Type 0} {steps : S → Option ℕ → S → Type 0} {g : Mut F (
       go true h = every_passes f xs x (λ k l. let m : k < n = omega arith in let i : k < length ns = rw (length-range_with_len 0 n) m in rw (at k m) at (h k 0 (omega arith) i) m)
       go false h = let m : h.0 < n = rw (length-range_with_len 0 n) at h.1 in one_fails f xs x h.0 (omega arith) (rw (at h.0 m) at (h.2 0) m)
 
--- Items, each standing where its entry of the table says: of a row of so many entries from `base` on.
-pub record TableRow {A : Type 0} (m : Reader A) (s t : List ℕ) (base many n : ℕ) (xs : List A) (x : A) : Type 0 where
-  pub stands : (i : ℕ) → i < length xs → Stands m (get_or xs i x) (drop (entry_in t base many i) s)
+-- Items, each standing where its entry says.
+pub record PartsAt {A : Type 0} (m : Reader A) (s entries : List ℕ) (n : ℕ) (xs : List A) (x : A) : Type 0 where
+  pub stands : (i : ℕ) → i < length xs → Stands m (get_or xs i x) (drop (get_or entries i 0) s)
   pub count : length xs ≡ n
 
-pub row-item : {A : Type 0} {m : Reader A} {f : A → Bool} {s t : List ℕ} {base many n : ℕ} {xs : List A} {x : A} {i at : ℕ} {r : Bool} → TableRow m s t base many n xs x → i < n → at ≡ entry_in t base many i → Tested m f s at r → ItemTested f xs x i r
+pub row-item : {A : Type 0} {m : Reader A} {f : A → Bool} {s entries : List ℕ} {n : ℕ} {xs : List A} {x : A} {i at : ℕ} {r : Bool} → PartsAt m s entries n xs x → i < n → at ≡ get_or entries i 0 → Tested m f s at r → ItemTested f xs x i r
 row-item {xs = xs} {x = x} {i = i} w h e v = let c = w.count in let k = w.stands i (omega arith) in record { says = v.says (get_or xs i x) k.over (rw e k.reads) }
 
 -- the fields of a struct
@@ -138,14 +139,14 @@ fields_tested f {x = x} w v = let k = w.fields in v.says x.fields k.over k.reads
 
 -- ---- The rows of a job
 
-module _ {s t : List ℕ} {h : Head} {j : Job} (w : Layout s t h j) where
-  pub outlives-row : TableRow (counted max_outlived byte) s t 16 16 h.declared j.outlives []
+module _ {s : List ℕ} {t : Offsets} {h : Head} {j : Job} (w : Layout s t h j) where
+  pub outlives-row : PartsAt (counted max_outlived byte) s t.outlives h.declared j.outlives []
   outlives-row = record { stands = λ i l. outlives-at w i _ l; count = w.declared_count }
 
-  pub variables-row : TableRow type s t 32 64 h.variables j.variables UnitTy
+  pub variables-row : PartsAt type s t.variables h.variables j.variables UnitTy
   variables-row = record { stands = λ i l. variable_at w i _ l; count = w.variable_count }
 
-  pub blocks-row : TableRow block s t 96 64 h.blocks j.blocks no_block
+  pub blocks-row : PartsAt block s t.blocks h.blocks j.blocks no_block
   blocks-row = record { stands = λ i l. block-at w i _ l; count = w.block_count }
 
   pub sized : Sized h j

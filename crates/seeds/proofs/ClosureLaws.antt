@@ -36,7 +36,6 @@ use Rattle.repr.specs.declared.Cursor.{Cursor}
 use Rattle.repr.proofs.ReadLaws.{step}
 use Rattle.repr.specs.Stands.{Stands}
 use Rattle.record.specs.Layout.{Holds}
-use Rattle.record.specs.Access.{entry_in}
 use Rattle.record.specs.declared.Record.{Record}
 use Rattle.record.proofs.AccessLaws.{outlives-at}
 use Rattle.repr.proofs.SpellLaws.{clash, then}
@@ -121,7 +120,7 @@ module _ (ws : List ℕ) (k : ℕ) (hk : k < length ws) (small : k < word_bits) 
 
 -- ---- What is listed
 
-module _ (input : Record) (at r : ℕ) (i : at ≡ entry_in input.layout.now 16 16 r) where
+module _ (input : Record) (at r : ℕ) (i : at ≡ get_or input.layout.now.outlives r 0) where
   row-stands : {j : Job} → Holds input j → r < length j.outlives → Stands (counted max_outlived byte) (get_or j.outlives r []) (drop at input.bytes.now)
   row-stands w l = rw i (outlives-at w r [] l)
 

@@ -6,7 +6,7 @@ use Prim.Native.Nat.{ℕ, ◌+◌, ◌*◌, ◌/◌, ◌%◌, ◌^◌, ◌≤◌
 use native.Mathlib.Nat.{zero-div}
 use native.Mathlib.Omega.{arith}
 use native.Mathlib.Numerals.{add-one}
-use lib.ListN.{length, replicate, get_or-replicate, length-replicate}
+use lib.ListN.{get_or, length, replicate, get_or-replicate, length-replicate}
 use lib.Dec.{eqb, leb}
 use Rattle.nll_spec.specs.Lists.{contains}
 use Rattle.nll_spec.specs.Syntax.{Ty, UnitTy, Job}
@@ -17,7 +17,6 @@ use Rattle.repr.specs.Reading.{rest}
 use Rattle.repr.specs.declared.Cursor.{Cursor}
 use Rattle.repr.specs.Stands.{Stands}
 use Rattle.record.specs.Layout.{Holds}
-use Rattle.record.specs.Access.{entry_in}
 use Rattle.record.specs.declared.Record.{Record}
 use Rattle.record.proofs.AccessLaws.{variable_at}
 use Rattle.bit_set.specs.Bits.{has}
@@ -37,7 +36,7 @@ use Rattle.seeds.proofs.RowLaws.{adds_none, adds_same, adds_then, room-kept}
 zeros_empty : (n i : ℕ) → i / word_bits < n → has (replicate n 0) i ≡ false
 zeros_empty n i h = ap (λ (w : ℕ). eqb (digit w (i % word_bits)) 1) (get_or-replicate n (i / word_bits) 0 0 h) ∙ ap (λ (x : ℕ). eqb (x % 2) 1) (zero-div (2 ^ (i % word_bits)))
 
-pub live_adds : (input : Record) {w v : ℕ} (which : Which) (live names before after : List ℕ) (at : Cursor) → at.at ≡ entry_in input.layout.now 32 64 v
+pub live_adds : (input : Record) {w v : ℕ} (which : Which) (live names before after : List ℕ) (at : Cursor) → at.at ≡ get_or input.layout.now.variables v 0
     → ((j : Job) (ty : Ty) → Holds input j → Stands type ty (rest input.bytes.now at) → names ≡ add_all (replicate 4 0) 0 (chosen which j.structs ty))
     → (v < 64 → 64 * w ≤ length live → Room input.head w before → Adds w input.head.regions (spreads input.head.declared names w live v) before after)
     → (j : Job) → Holds input j → v < length j.variables → 64 * w ≤ length live → Room input.head w before → Adds w input.head.regions (takes j which w live v) before after

@@ -8,6 +8,7 @@ use Rattle.nll_spec.specs.WellFormed.{refusal}
 use Rattle.nll_spec.specs.Output.{judge_job, judge}
 use Rattle.record.specs.Layout.{Layout, Verdict, DecodedSays}
 use Rattle.record.specs.declared.Head.{Head}
+use Rattle.record.specs.declared.Offsets.{Offsets}
 use Rattle.repr.specs.declared.refusal.Refusal.{Refusal}
 use Rattle.well_formed.proofs.PointLaws.{some_number}
 use Rattle.repr.specs.Refusals.{number_of}
@@ -30,7 +31,7 @@ judge-decoded : (s : List ℕ) {j : Job} → decode.decode s ≡ decode.decoded 
 unfolding judge
 judge-decoded s e = ap (λ (x : decode.Decoded). elim x [ decode.rejected n ↦ decode.rejected n | decode.decoded j ↦ judge_job j ]) e
 
-module _ {s t : List ℕ} {d : Result Head Refusal} (v : DecodedSays (decode.decode s) s t d) where
+module _ {s : List ℕ} {t : Offsets} {d : Result Head Refusal} (v : DecodedSays (decode.decode s) s t d) where
   verdict_at_lem : {x : Result Head Refusal} → d ≡ x → Verdict (decode.decode s) s t x
   verdict_at_lem e = subst (Verdict (decode.decode s) s t) e v.says
 

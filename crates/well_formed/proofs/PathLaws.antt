@@ -4,7 +4,7 @@ use mathlib.Core.Bool.{Bool, true, false, ◌&&◌, and-true, and-false, and_com
 use mathlib.Core.List.{List, []}
 use Prim.Native.Nat.{ℕ, ◌<◌}
 use native.Mathlib.Omega.{arith}
-use lib.ListN.{length}
+use lib.ListN.{get_or, length}
 use borrow.Author.Tests.{lt-ltb}
 use Rattle.nll_spec.specs.Lists.{every}
 use Rattle.nll_spec.specs.Syntax as syntax
@@ -20,8 +20,9 @@ use Rattle.repr.specs.declared.Action.{Action}
 use Rattle.repr.specs.declared.Action.TheVariants.{Noop, Init, Borrow, Assign, Constraint, Use, Drop, StorageDead}
 use Rattle.record.specs.Layout.{Layout, Holds}
 use Rattle.record.specs.declared.Head.{Head}
-use Rattle.record.specs.Access.{entry_in, Acts}
+use Rattle.record.specs.Access.{Acts}
 use Rattle.record.specs.declared.Record.{Record}
+use Rattle.record.specs.declared.Offsets.{Offsets}
 use Rattle.repr.proofs.SpellLaws.{carry, then}
 use Rattle.refusals.specs.Tests.{Tested}
 use Rattle.env.specs.Paths.{PathIs}
@@ -41,21 +42,21 @@ pub record Typed (input : Record) (p : Path) (bytes : List ℕ) (at : ℕ) : Typ
   pub names : List ℕ
   pub is : (j : Job) → Holds input j → PathIs j (path_of input.bytes.now p) bytes at kinds names
 
-in_job : {s t : List ℕ} {h : Head} {j : Job} {v : ℕ} → Layout s t h j → v < h.variables → v < length j.variables
+in_job : {s : List ℕ} {t : Offsets} {h : Head} {j : Job} {v : ℕ} → Layout s t h j → v < h.variables → v < length j.variables
 in_job w l = let n = w.variable_count in omega arith
 
-named-is : {s t : List ℕ} {h : Head} {j : Job} {b : Bool} (p : Path) → Layout s t h j → p.base.0 < h.variables → path_fits j (path_of s p) ≡ b → path_taken j (path_of s p) ≡ b
+named-is : {s : List ℕ} {t : Offsets} {h : Head} {j : Job} {b : Bool} (p : Path) → Layout s t h j → p.base.0 < h.variables → path_fits j (path_of s p) ≡ b → path_taken j (path_of s p) ≡ b
 named-is {j = j} p w l e = rw (lt-ltb p.base.0 (length j.variables) (in_job w l), e)
 
 module _ {input : Record} {p : Path} where
   pub typed_taken : {bytes : List ℕ} {at : ℕ} → Typed input p bytes at → (j : Job) → Holds input j → path_taken j (path_of input.bytes.now p) ≡ true
   typed_taken v j w = named-is p w v.named (v.is j w).fits
 
-pub stepless_typed : {input : Record} (p : Path) → p.base.0 < input.head.variables → (c : Cursor) → p.steps ≡ 0 → c.at ≡ entry_in input.layout.now 32 64 p.base.0 → Typed input p input.bytes.now c.at
+pub stepless_typed : {input : Record} (p : Path) → p.base.0 < input.head.variables → (c : Cursor) → p.steps ≡ 0 → c.at ≡ get_or input.layout.now.variables p.base.0 0 → Typed input p input.bytes.now c.at
 stepless_typed {input} p l c z e = record { named = l; kinds = no_entries; names = no_entries; is = λ j w. (stepless {input = input} p c z e).says j w (in_job w l) }
 
 pub stepless_taken : (input : Record) (p : Path) → p.base.0 < input.head.variables → p.steps ≡ 0 → (j : Job) → Holds input j → true ≡ path_taken j (path_of input.bytes.now p)
-stepless_taken input p l z j w = sym (typed_taken (stepless_typed {input = input} p l (record { at = entry_in input.layout.now 32 64 p.base.0 }) z refl) j w)
+stepless_taken input p l z j w = sym (typed_taken (stepless_typed {input = input} p l (record { at = get_or input.layout.now.variables p.base.0 0 }) z refl) j w)
 
 -- ---- The paths of an action
 

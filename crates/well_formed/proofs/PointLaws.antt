@@ -17,6 +17,7 @@ use Rattle.nll_spec.proofs.Tests.{is_true, and_left, and_right}
 use Rattle.nll_spec.proofs.GraphLaws.{length-statements}
 use Rattle.record.specs.Layout.{Layout}
 use Rattle.record.specs.declared.Head.{Head}
+use Rattle.record.specs.declared.Offsets.{Offsets}
 use Rattle.refusals.proofs.PartLaws.{every_append, every_both}
 use Rattle.well_formed.specs.Tests.{refusal_of, number_in, action_taken}
 use Rattle.repr.specs.declared.refusal.Refusal.{Refusal}
@@ -54,7 +55,7 @@ point_tested : (f : Action → Bool) (j : Job) (p : Point) {r : Bool} → r ≡ 
 unfolding graph_of
 point_tested f j p e = e
 
-module _ {s t : List ℕ} {h : Head} {j : Job} (w : Layout s t h j) {code : ℕ} (e : code ≡ h.code) where
+module _ {s : List ℕ} {t : Offsets} {h : Head} {j : Job} (w : Layout s t h j) {code : ℕ} (e : code ≡ h.code) where
   pub points-counted : length (statements_of j) ≡ code
   unfolding statements_of
   points-counted = length-statements j.blocks 0 0 j.blocks ∙ sym (e ∙ w.code)

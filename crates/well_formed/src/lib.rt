@@ -12,7 +12,7 @@ ghost use Rattle.record.specs.Layout.{Holds, DecodedSays};
 ghost use Rattle.well_formed.specs.Tests.{number_in};
 
 use points::points_refusal;
-use record::{Head, Record, read};
+use record::{Head, Offsets, Record, read};
 use refusals::{named, types_fit};
 use repr::Refusal;
 
@@ -30,8 +30,8 @@ pub fn refusal(input: &Record<'_>) -> Result<(), Refusal>
     points_refusal(input)
 }
 
-// The refusal of a record, 1 to 9, or the head of its job, with the table of where each part lies. A record that is refused leaves anything in the table.
-pub fn judge(s: &[u8], layout: &mut [u16; 1280]) -> Result<Head, Refusal>
+// The refusal of a record, 1 to 9, or the head of its job, with where each part lies. A record that is refused leaves anything in `layout`.
+pub fn judge(s: &[u8], layout: &mut Offsets) -> Result<Head, Refusal>
     ensures { DecodedSays (output.judge s.now) s.now layout.new result }
 {
     let head = read(s, layout)?;

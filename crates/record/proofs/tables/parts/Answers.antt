@@ -19,4 +19,4 @@ unfolding parts_of
 returns-in_err-last c = rw (passed_on c.from_residual-in_err-last.ensures) (record { result = step _ _ _ (c.in_ok-second.ensures Struct (λ _ _ _ e. e.1)).result.reads ∙ step _ _ _ (c.in_ok-third.ensures Outlives (λ _ _ _ e. e.1)).result.reads ∙ stop _ _ _ (c.in_err-last.ensures Variable (λ _ _ _ e. e.1)).result })
 
 pub returns : goal.returns
-returns c = parts_end _ c.requires.0 c.blocks-2.ensures.size c.requires.1 (c.in_ok-second.ensures Struct (λ _ _ _ e. e.1)).result (c.row-2.ensures Outlives (λ _ _ _ e. e.1)).kept (c.in_ok-third.ensures Outlives (λ _ _ _ e. e.1)).result (c.row-3.ensures Variable (λ _ _ _ e. e.1)).kept (c.in_ok-last.ensures Variable (λ _ _ _ e. e.1)).result c.blocks-2.ensures.kept _ refl c.blocks-2.result c.blocks-2.ensures.result
+returns c = parts_end _ c.requires.0 c.requires.1 (c.in_ok-second.ensures Struct (λ _ _ _ e. e.1)).result c.blocks-2.ensures.structs (c.in_ok-third.ensures Outlives (λ _ _ _ e. e.1)).result c.blocks-2.ensures.outlives (c.in_ok-last.ensures Variable (λ _ _ _ e. e.1)).result c.blocks-2.ensures.variables _ refl c.blocks-2.result c.blocks-2.ensures.result
