@@ -18,13 +18,13 @@ use Rattle.record.specs.Layout.{DecodedSays, Verdict}
 use Rattle.record.specs.declared.Head.{Head}
 use Rattle.repr.specs.declared.refusal.Refusal.{Refusal}
 use Rattle.std.specs.Prelude.{Result, Ok}
-use Rattle.listing.specs.Writing.{text_of, Puts}
+use Rattle.buffer.specs.Appending.{Appends}
+use Rattle.buffer.proofs.AppendLaws.{appends_none}
 use Rattle.listing.specs.Places.{Counted, in_set, point_text, access_text, grown_text, text_from, region_text, grown_from, access_from, region_from, rest, left, Follows, Steps}
 use Rattle.listing.specs.declared.Counts.{Counts}
-use Rattle.listing.specs.declared.writer.Text.{Text}
 use Rattle.listing.specs.declared.Place.{Place}
 use Rattle.listing.specs.declared.Place.TheVariants.{Points, Region, Within, Access, Grown, Done}
-use Rattle.listing.proofs.WriteLaws.{join, puts_none, spaced-room, pair_room, line-room, line-room_three}
+use Rattle.listing.proofs.WriteLaws.{join, spaced-room, pair_room, line-room, line-room_three}
 
 -- ---- The text of numbers, one by one
 
@@ -49,25 +49,25 @@ module _ (f : ℕ → List ℕ) (i n : ℕ) where
 -- ---- A step that puts nothing, and one that puts a text
 
 module _ {n : Counts} {ws bs : List ℕ} {from next : Place} where
-  quiet : {t : Text} → rest n ws bs from ≡ rest n ws bs next → left n next ≤ left n from - 1 → Steps n ws bs from t next t
-  quiet {t} e l = record { bytes = []; puts = puts_none t; short = omega arith; goes = e; less = l }
+  quiet : {t : List ℕ} → rest n ws bs from ≡ rest n ws bs next → left n next ≤ left n from - 1 → Steps n ws bs from t next t
+  quiet {t} e l = record { bytes = []; puts = appends_none t; short = omega arith; goes = e; less = l }
 
-  loud : {bytes : List ℕ} {old new : Text} → Puts bytes old new → length bytes ≤ 32 → rest n ws bs from ≡ bytes ++ rest n ws bs next → left n next ≤ left n from - 1
+  loud : {bytes : List ℕ} {old new : List ℕ} → Appends bytes old new → length bytes ≤ 32 → rest n ws bs from ≡ bytes ++ rest n ws bs next → left n next ≤ left n from - 1
       → Steps n ws bs from old next new
   loud {bytes} p s e l = record { bytes = bytes; puts = p; short = s; goes = e; less = l }
 
 -- ---- The steps at each place
 
 module _ (n : Counts) (ws bs : List ℕ) where
-  pub at_points : n.points ≤ 65535 → {old new : Text} → Puts (line "points" (n.points ∷ [])) old new → Steps n ws bs Points old (Region 0) new
+  pub at_points : n.points ≤ 65535 → {old new : List ℕ} → Appends (line "points" (n.points ∷ [])) old new → Steps n ws bs Points old (Region 0) new
   unfolding ascii
   at_points h p = loud p (omega (arith, line-room "points" n.points h)) refl (omega arith)
 
-  pub region_over : (r : ℕ) → n.regions ≤ r → {t : Text} → Steps n ws bs (Region r) t (Access 0) t
+  pub region_over : (r : ℕ) → n.regions ≤ r → {t : List ℕ} → Steps n ws bs (Region r) t (Access 0) t
   unfolding region_from
   region_over r h = quiet (text-over (region_text ws n.points) r n.regions (access_from n ws bs 0) h) (omega arith)
 
-  pub region_line : (r : ℕ) → r < n.regions → n.points ≤ 65535 → r ≤ 255 → {old new : Text} → Puts (ascii "region" ++ spaced r) old new → Steps n ws bs (Region r) old (Within r 0) new
+  pub region_line : (r : ℕ) → r < n.regions → n.points ≤ 65535 → r ≤ 255 → {old new : List ℕ} → Appends (ascii "region" ++ spaced r) old new → Steps n ws bs (Region r) old (Within r 0) new
   unfolding region_from region_text ascii
   region_line r h k l p =
       loud p (omega (arith, pair_room (ascii "region") r (omega arith)))
@@ -76,33 +76,33 @@ module _ (n : Counts) (ws bs : List ℕ) where
       (omega arith)
 
   module _ (r p : ℕ) where
-    pub within_over : n.points ≤ p → {next : Place} {old new : Text} → Puts (10 ∷ []) old new → Follows n r next → Steps n ws bs (Within r p) old next new
+    pub within_over : n.points ≤ p → {next : Place} {old new : List ℕ} → Appends (10 ∷ []) old new → Follows n r next → Steps n ws bs (Within r p) old next new
     within_over h q f =
         loud q (omega arith)
         (text-over (point_text ws n.points r) p n.points (10 ∷ region_from n ws bs (r + 1)) h ∙ ap (λ (l : List ℕ). 10 ∷ l) (sym (f.goes ws bs)))
         (omega (arith, f.less))
 
     module _ (h : p < n.points) {x : Bool} (e : x ≡ in_set ws n.points r p) where
-      pub within_in : x ≡ true → p ≤ 65535 → {old new : Text} → Puts (spaced p) old new → Steps n ws bs (Within r p) old (Within r (p + 1)) new
+      pub within_in : x ≡ true → p ≤ 65535 → {old new : List ℕ} → Appends (spaced p) old new → Steps n ws bs (Within r p) old (Within r (p + 1)) new
       unfolding point_text
       within_in t k q =
           loud q (omega (arith, spaced-room p k))
           (text_then (point_text ws n.points r) p n.points (spaced p) (10 ∷ region_from n ws bs (r + 1)) h (ap (λ (b : Bool). cond b (spaced p) []) (sym e ∙ t)))
           (omega arith)
 
-      pub within_out : x ≡ false → {t : Text} → Steps n ws bs (Within r p) t (Within r (p + 1)) t
+      pub within_out : x ≡ false → {t : List ℕ} → Steps n ws bs (Within r p) t (Within r (p + 1)) t
       unfolding point_text
       within_out t =
           quiet (text_then (point_text ws n.points r) p n.points [] (10 ∷ region_from n ws bs (r + 1)) h (ap (λ (b : Bool). cond b (spaced p) []) (sym e ∙ t)))
           (omega arith)
 
   module _ (p : ℕ) where
-    pub access_over : n.points ≤ p → {t : Text} → Steps n ws bs (Access p) t (Grown 0) t
+    pub access_over : n.points ≤ p → {t : List ℕ} → Steps n ws bs (Access p) t (Grown 0) t
     unfolding access_from
     access_over h = quiet (text-over (access_text bs) p n.points (grown_from n ws bs 0) h) (omega arith)
 
     module _ (h : p < n.points) {kind : ℕ} (ek : kind ≡ get_or bs (2 * p) 0) where
-      pub access_none : kind ≡ 0 → {t : Text} → Steps n ws bs (Access p) t (Access (p + 1)) t
+      pub access_none : kind ≡ 0 → {t : List ℕ} → Steps n ws bs (Access p) t (Access (p + 1)) t
       unfolding access_from access_text
       access_none z =
           quiet (text_then (access_text bs) p n.points [] (grown_from n ws bs 0) h (ap (λ (x : ℕ). cond (eqb x 0) [] (line_of x)) (sym ek) ∙ rw (eq-eqb kind 0 z)))
@@ -111,8 +111,8 @@ module _ (n : Counts) (ws bs : List ℕ) where
           line_of : ℕ → List ℕ
           line_of x = line "access" (p ∷ x ∷ get_or bs (verdict_bytes * p + 1) 0 ∷ [])
 
-      pub access_fault : (kind ≡ 0 → ⊥) → p ≤ 65535 → kind ≤ 255 → {operand : ℕ} → operand ≡ get_or bs (2 * p + 1) 0 → operand ≤ 255 → {old new : Text}
-          → Puts (line "access" (p ∷ kind ∷ operand ∷ [])) old new → Steps n ws bs (Access p) old (Access (p + 1)) new
+      pub access_fault : (kind ≡ 0 → ⊥) → p ≤ 65535 → kind ≤ 255 → {operand : ℕ} → operand ≡ get_or bs (2 * p + 1) 0 → operand ≤ 255 → {old new : List ℕ}
+          → Appends (line "access" (p ∷ kind ∷ operand ∷ [])) old new → Steps n ws bs (Access p) old (Access (p + 1)) new
       unfolding access_from access_text ascii
       access_fault nz k l {operand} eo m q =
           loud q (omega (arith, line-room_three "access" p kind operand k (omega arith) (omega arith)))
@@ -121,7 +121,7 @@ module _ (n : Counts) (ws bs : List ℕ) where
           (omega arith)
 
   module _ (r : ℕ) where
-    pub grown_over : n.declared ≤ r → {t : Text} → Steps n ws bs (Grown r) t Done t
+    pub grown_over : n.declared ≤ r → {t : List ℕ} → Steps n ws bs (Grown r) t Done t
     unfolding grown_from
     grown_over h = quiet (text-end (grown_text bs n.points) r n.declared h) (omega arith)
 
@@ -132,15 +132,15 @@ module _ (n : Counts) (ws bs : List ℕ) where
           text-more (grown_text bs n.points) r n.declared h
           ∙ ap (λ (b : Bool). cond b [] (line "grown" (r ∷ [])) ++ text_from (grown_text bs n.points) (r + 1) n.declared) (ap (λ (x : ℕ). eqb x 0) (sym eb) ∙ e)
 
-      pub grown_none : byte ≡ 0 → {t : Text} → Steps n ws bs (Grown r) t (Grown (r + 1)) t
+      pub grown_none : byte ≡ 0 → {t : List ℕ} → Steps n ws bs (Grown r) t (Grown (r + 1)) t
       grown_none z = quiet (grown_is (eq-eqb byte 0 z)) (omega arith)
 
-      pub grown_line : (byte ≡ 0 → ⊥) → r ≤ 255 → {old new : Text} → Puts (line "grown" (r ∷ [])) old new → Steps n ws bs (Grown r) old (Grown (r + 1)) new
+      pub grown_line : (byte ≡ 0 → ⊥) → r ≤ 255 → {old new : List ℕ} → Appends (line "grown" (r ∷ [])) old new → Steps n ws bs (Grown r) old (Grown (r + 1)) new
       unfolding ascii
       grown_line nz l q = loud q (omega (arith, line-room "grown" r (omega arith))) (grown_is (ne_eqb byte 0 nz)) (omega arith)
 
 -- a step at the place that was found
-pub steps_as : {n : Counts} {ws bs : List ℕ} {from found next : Place} {old new : Text} → from ≡ found → Steps n ws bs found old next new → Steps n ws bs from old next new
+pub steps_as : {n : Counts} {ws bs : List ℕ} {from found next : Place} {old new : List ℕ} → from ≡ found → Steps n ws bs found old next new → Steps n ws bs from old next new
 steps_as e s = rw e s
 
 -- ---- After a region's line
@@ -152,9 +152,9 @@ follows_over n r h = record { goes = λ ws bs. sym (text-over (region_text ws n.
 -- ---- A chunk
 
 -- So many steps from `from` on made the text, and came to `place`.
-pub record Filling (n : Counts) (ws bs : List ℕ) (from place : Place) (steps : ℕ) (text : Text) : Type 0 where
-  pub short : text.used ≤ 32 * steps
-  pub goes : rest n ws bs from ≡ text_of text ++ rest n ws bs place
+pub record Filling (n : Counts) (ws bs : List ℕ) (from place : Place) (steps : ℕ) (text : List ℕ) : Type 0 where
+  pub short : length text ≤ 32 * steps
+  pub goes : rest n ws bs from ≡ text ++ rest n ws bs place
   pub less : left n place ≤ left n from - steps
 
 -- ---- The counts of a record's job

@@ -1,10 +1,10 @@
 // The lines of an answer: each step puts what comes next at a place of the listing.
-ghost use Rattle.std.specs.Prelude.{◌≡◌, ◌+◌, ◌≤◌, get_or};
+ghost use Rattle.std.specs.Prelude.{◌≡◌, ◌+◌, ◌≤◌, length, get_or};
 ghost use Rattle.nll_spec.specs.Syntax.{Job};
 ghost use Rattle.nll_spec.specs.Decode.{decode, decoded};
 ghost use Rattle.listing.specs.Places.{in_set, is_done, Counted, Follows, Steps, Fills};
 
-use super::writer::Text;
+use super::writer::{Text, line, spaced};
 use super::{Counts, Place};
 
 // How many steps one text takes at most.
@@ -47,35 +47,35 @@ impl Answer<'_> {
 
     // At the beginning of a region's line.
     fn at_region(&self, r: u8, text: &mut Text) -> Place
-        requires { text.old.used + 32 ≤ 4096 }
+        requires { length text.old + 32 ≤ 4096 }
         ensures { Steps self.now.counts self.now.words.now self.now.bytes.now (Place.Region r) text.old result text.new }
     {
         if r >= self.counts.regions {
             return Place::Access(0);
         }
-        text.word(b"region");
-        text.spaced(u16::from(r));
+        text.put(b"region");
+        spaced(text, u16::from(r));
         Place::Within(r, 0)
     }
 
     // Within a region's line.
     fn within(&self, r: u8, p: u16, text: &mut Text) -> Place
-        requires { text.old.used + 32 ≤ 4096 }
+        requires { length text.old + 32 ≤ 4096 }
         ensures { Steps self.now.counts self.now.words.now self.now.bytes.now (Place.Within r p) text.old result text.new }
     {
         if p >= self.counts.points {
-            text.byte(b'\n');
+            text.push(b'\n');
             return self.after_region(r);
         }
         if self.in_set(r, p) {
-            text.spaced(p);
+            spaced(text, p);
         }
         Place::Within(r, p + 1)
     }
 
     // At a point's line.
     fn at_access(&self, p: u16, text: &mut Text) -> Place
-        requires { text.old.used + 32 ≤ 4096 }
+        requires { length text.old + 32 ≤ 4096 }
         ensures { Steps self.now.counts self.now.words.now self.now.bytes.now (Place.Access p) text.old result text.new }
     {
         if p >= self.counts.points {
@@ -85,14 +85,14 @@ impl Answer<'_> {
         let kind = self.byte(at);
         if kind != 0 {
             let operand = self.byte(at + 1);
-            text.line(b"access", &[p, u16::from(kind), u16::from(operand)]);
+            line(text, b"access", &[p, u16::from(kind), u16::from(operand)]);
         }
         Place::Access(p + 1)
     }
 
     // At a declared region's line.
     fn at_grown(&self, r: u8, text: &mut Text) -> Place
-        requires { text.old.used + 32 ≤ 4096 }
+        requires { length text.old + 32 ≤ 4096 }
         ensures { Steps self.now.counts self.now.words.now self.now.bytes.now (Place.Grown r) text.old result text.new }
     {
         if r >= self.counts.declared {
@@ -100,19 +100,19 @@ impl Answer<'_> {
         }
         let at = 2 * usize::from(self.counts.points) + usize::from(r);
         if self.byte(at) != 0 {
-            text.line(b"grown", &[u16::from(r)]);
+            line(text, b"grown", &[u16::from(r)]);
         }
         Place::Grown(r + 1)
     }
 
     // Puts what comes next at a place.
     fn step(&self, from: Place, text: &mut Text) -> Place
-        requires { text.old.used + 32 ≤ 4096 }
+        requires { length text.old + 32 ≤ 4096 }
         ensures { Steps self.now.counts self.now.words.now self.now.bytes.now from text.old result text.new }
     {
         match from {
             Place::Points => {
-                text.line(b"points", &[self.counts.points]);
+                line(text, b"points", &[self.counts.points]);
                 Place::Region(0)
             }
             Place::Region(r) => self.at_region(r, text),
