@@ -2,7 +2,6 @@
 ghost use Rattle.std.specs.Prelude.{◌≡◌, ◌+◌, ◌≤◌, length, get_or};
 ghost use Rattle.nll_spec.specs.Syntax.{Job};
 ghost use Rattle.nll_spec.specs.Decode.{decode, decoded};
-ghost use Rattle.listing.specs.Places.{in_set, is_done, Counted, Follows, Steps, Fills};
 
 use super::writer::{Text, line, spaced};
 use super::{Counts, Place};
@@ -19,6 +18,8 @@ pub struct Answer<'a> {
 }
 
 impl Answer<'_> {
+    ghost use Rattle.listing.specs.Places.{in_set, Follows, Steps, Fills};
+
     // Whether point p is in region r's set.
     fn in_set(&self, r: u8, p: u16) -> bool
         ensures { result ≡ in_set self.now.words.now self.now.counts.points r p }
@@ -48,7 +49,7 @@ impl Answer<'_> {
     // At the beginning of a region's line.
     fn at_region(&self, r: u8, text: &mut Text) -> Place
         requires { length text.old + 32 ≤ 4096 }
-        ensures { Steps self.now.counts self.now.words.now self.now.bytes.now (Place.Region r) text.old result text.new }
+        ensures { Steps self.now (Place.Region r) text.old result text.new }
     {
         if r >= self.counts.regions {
             return Place::Access(0);
@@ -61,7 +62,7 @@ impl Answer<'_> {
     // Within a region's line.
     fn within(&self, r: u8, p: u16, text: &mut Text) -> Place
         requires { length text.old + 32 ≤ 4096 }
-        ensures { Steps self.now.counts self.now.words.now self.now.bytes.now (Place.Within r p) text.old result text.new }
+        ensures { Steps self.now (Place.Within r p) text.old result text.new }
     {
         if p >= self.counts.points {
             text.push(b'\n');
@@ -76,7 +77,7 @@ impl Answer<'_> {
     // At a point's line.
     fn at_access(&self, p: u16, text: &mut Text) -> Place
         requires { length text.old + 32 ≤ 4096 }
-        ensures { Steps self.now.counts self.now.words.now self.now.bytes.now (Place.Access p) text.old result text.new }
+        ensures { Steps self.now (Place.Access p) text.old result text.new }
     {
         if p >= self.counts.points {
             return Place::Grown(0);
@@ -93,7 +94,7 @@ impl Answer<'_> {
     // At a declared region's line.
     fn at_grown(&self, r: u8, text: &mut Text) -> Place
         requires { length text.old + 32 ≤ 4096 }
-        ensures { Steps self.now.counts self.now.words.now self.now.bytes.now (Place.Grown r) text.old result text.new }
+        ensures { Steps self.now (Place.Grown r) text.old result text.new }
     {
         if r >= self.counts.declared {
             return Place::Done;
@@ -108,7 +109,7 @@ impl Answer<'_> {
     // Puts what comes next at a place.
     fn step(&self, from: Place, text: &mut Text) -> Place
         requires { length text.old + 32 ≤ 4096 }
-        ensures { Steps self.now.counts self.now.words.now self.now.bytes.now from text.old result text.new }
+        ensures { Steps self.now from text.old result text.new }
     {
         match from {
             Place::Points => {
@@ -125,7 +126,7 @@ impl Answer<'_> {
 
     // Makes a text of what comes next at a place, until it has room for fewer than 32 bytes or 4,096 steps were made, and answers the place that follows.
     pub fn fill(&self, from: Place, text: &mut Text) -> Place
-        ensures { Fills self.now.counts self.now.words.now self.now.bytes.now from result text.new }
+        ensures { Fills self.now from result text.new }
     {
         text.clear();
         let mut place = from;
@@ -140,6 +141,8 @@ impl Answer<'_> {
 }
 
 impl Place {
+    ghost use Rattle.listing.specs.Places.{is_done};
+
     // Whether nothing comes at the place any more.
     pub fn is_done(self) -> bool
         ensures { result ≡ is_done self }
@@ -147,6 +150,8 @@ impl Place {
         matches!(self, Place::Done)
     }
 }
+
+ghost use Rattle.listing.specs.Places.{Counted};
 
 // How many points, regions and declared regions a record's job has. What is no job has none.
 pub fn count(s: &[u8]) -> Counts

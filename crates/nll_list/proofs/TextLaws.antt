@@ -13,9 +13,10 @@ use Rattle.repr.specs.declared.refusal.Refusal.{Refusal}
 use Rattle.repr.specs.declared.refusal.Refusal.TheVariants as refusals
 use Rattle.nll.specs.Analysis.{AnalyseSays}
 use Rattle.listing.specs.Reading.{Feeds}
-use Rattle.listing.specs.Places.{Counted, rest, Fills}
+use Rattle.listing.specs.Places.{Counted, rest, rest_of, Fills}
 use Rattle.listing.specs.declared.reader.Hex.{Hex}
 use Rattle.listing.specs.declared.Counts.{Counts}
+use Rattle.listing.specs.declared.places.Answer.{Answer}
 use Rattle.listing.specs.declared.Place.{Place}
 use Rattle.listing.specs.declared.Place.TheVariants.{Points, Done}
 use Rattle.listing.proofs.WriteLaws.{line-room}
@@ -30,20 +31,19 @@ read_more piece m f = record { text = m.text ++ piece; reads = f m.text m.reads 
 -- ---- The chunks
 
 -- What was printed so far, and then all from `place` on, is all from `from` on after the first text.
-pub record Printing (n : Counts) (ws bs first : List ℕ) (from place : Place) : Type 0 where
+pub record Printing (a : Answer) (first : List ℕ) (from place : Place) : Type 0 where
   pub printed : List ℕ
-  pub goes : first ++ rest n ws bs from ≡ printed ++ rest n ws bs place
+  pub goes : first ++ rest_of a from ≡ printed ++ rest_of a place
 
-module _ (n : Counts) (ws bs : List ℕ) where
-  pub printing_none : (first : List ℕ) (from : Place) → Printing n ws bs first from from
-  printing_none first from = record { printed = first; goes = refl }
+pub printing_none : (a : Answer) (first : List ℕ) (from : Place) → Printing a first from from
+printing_none a first from = record { printed = first; goes = refl }
 
-  pub printing_more : {first : List ℕ} {from place next : Place} {new : List ℕ} → Printing n ws bs first from place → Fills n ws bs place next new → Printing n ws bs first from next
-  printing_more {first} {from} {place} {next} {new} p f =
-      record {
-        printed = p.printed ++ new;
-        goes = p.goes ∙ ap (λ (l : List ℕ). p.printed ++ l) f.goes ∙ sym (append_assoc p.printed new (rest n ws bs next));
-      }
+pub printing_more : {a : Answer} {first : List ℕ} {from place next : Place} {new : List ℕ} → Printing a first from place → Fills a place next new → Printing a first from next
+printing_more {a} {next = next} {new = new} p f =
+    record {
+      printed = p.printed ++ new;
+      goes = p.goes ∙ ap (λ (l : List ℕ). p.printed ++ l) f.goes ∙ sym (append_assoc p.printed new (rest_of a next));
+    }
 
 -- ---- The beginning
 

@@ -6,10 +6,9 @@ use Rattle.listing.proofs.PlaceLaws.{region_over, region_line}
 use Rattle.listing.proofs.places.Answer.at_region.Goals as goal
 
 pub returns-then-r-self : goal.returns-then-r-self
-returns-then-r-self c = let s = c.args.self.now in region_over s.counts s.words.now s.bytes.now c.args.r c.if-r-self.true
+returns-then-r-self c = region_over c.args.self.now c.args.r c.if-r-self.true
 
 pub returns : goal.returns
 unfolding ascii
 returns c =
-    let s = c.args.self.now in
-    region_line s.counts s.words.now s.bytes.now c.args.r c.if-r-self.false (omega arith) (omega arith) (rw c.from.ensures at (appends_then c.put.ensures c.spaced.ensures))
+    region_line c.args.self.now c.args.r c.if-r-self.false (omega arith) (omega arith) (rw c.from.ensures at (appends_then c.put.ensures c.spaced.ensures))
