@@ -6,11 +6,10 @@ use mathlib.Core.List.{List, [], ◌∷◌, ◌++◌, append_assoc, append-nil}
 use mathlib.Core.Logic.{◌⊎◌, inl, inr}
 use mathlib.Core.Option.{Option, none, some}
 use Prim.Native.Nat.{ℕ, ◌+◌, ◌-◌, ◌*◌, ◌<◌, ◌≤◌}
-use native.Mathlib.Numerals.{add-one}
 use native.Mathlib.Omega.{arith}
 use native.Mathlib.Decide.{dec_lt}
-use lib.ListN.{length, take, set, length-append}
-use lib.Seq.{take_all, take-append-le, take-suc-set, length-take-le}
+use lib.ListN.{length, take, length-append}
+use lib.Seq.{take_all, take-append-le, length-take-le}
 use lib.Dec.{ltb, leb, eqb}
 use borrow.Author.Tests.{lt-ltb, le-ltb, le-leb, lt-leb, ne_eqb}
 use Rattle.nll_spec.specs.Decode.{Decoded, rejected, decoded, decode_body, decode}
@@ -113,27 +112,19 @@ after-after xs bs none = refl
 after-after xs bs (some cs) = ap some (sym (append_assoc xs bs cs))
 
 -- one byte more is kept, or there was no room for it
-module _ (bytes kept : List ℕ) (n byte : ℕ) (size : length kept ≡ room) (count : n ≡ length (take room bytes)) (same : take n kept ≡ take room bytes) where
-  abbrev More : ℕ → List ℕ → Type 0
-  More n' kept' = (n' ≡ length (take room (bytes ++ (byte ∷ [])))) × (take n' kept' ≡ take room (bytes ++ (byte ∷ [])))
-
-  kept_more : More (cond (ltb n room) (n + 1) n) (cond (ltb n room) (set kept n byte) kept)
+module _ (bytes kept : List ℕ) (byte : ℕ) (same : kept ≡ take room bytes) where
+  kept_more : cond (ltb (length kept) room) (kept ++ (byte ∷ [])) kept ≡ take room (bytes ++ (byte ∷ []))
   kept_more = go (dec_lt (length bytes) room)
     where
-      go : Dec (length bytes < room) → More (cond (ltb n room) (n + 1) n) (cond (ltb n room) (set kept n byte) kept)
+      go : Dec (length bytes < room) → cond (ltb (length kept) room) (kept ++ (byte ∷ [])) kept ≡ take room (bytes ++ (byte ∷ []))
       go (yes l) =
-          let all : take room bytes ≡ bytes = take_all room bytes (omega arith) in
-          let is : n ≡ length bytes = count ∙ ap length all in
-          let long : length (bytes ++ (byte ∷ [])) ≡ n + 1 = length-append bytes (byte ∷ []) ∙ omega arith in
-          let more : take room (bytes ++ (byte ∷ [])) ≡ bytes ++ (byte ∷ []) = take_all room (bytes ++ (byte ∷ [])) (omega arith) in
-          rw (lt-ltb n room (omega arith)) (
-            sym long ∙ ap length (sym more),
-            ap (λ (k : ℕ). take k (set kept n byte)) (add-one n) ∙ take-suc-set kept n byte (omega arith) ∙ ap (λ (l : List ℕ). l ++ (byte ∷ [])) (same ∙ all) ∙ sym more,
-          )
+          let all : kept ≡ bytes = same ∙ take_all room bytes (omega (arith, l)) in
+          rw
+          (lt-ltb (length kept) room (omega (arith, l, ap length all)))
+          (ap (λ (x : List ℕ). x ++ (byte ∷ [])) all ∙ sym (take_all room (bytes ++ (byte ∷ [])) (omega (arith, l, length-append bytes (byte ∷ [])))))
       go (no no_room) =
-          let is : n ≡ room = count ∙ length-take-le room bytes (omega (arith, no_room)) in
-          let less : take room (bytes ++ (byte ∷ [])) ≡ take room bytes = take-append-le room bytes (byte ∷ []) (omega (arith, no_room)) in
-          rw (le-ltb n room (omega arith)) (count ∙ ap length (sym less), same ∙ sym less)
+          let long : length (take room bytes) ≡ room = length-take-le room bytes (omega (arith, no_room)) in
+          rw (le-ltb (length kept) room (omega (arith, ap length same, long))) (same ∙ sym (take-append-le room bytes (byte ∷ []) (omega (arith, no_room))))
 
 module _ {text : List ℕ} {h : Hex} (m : Reads text h) (c : ℕ) where
   -- the meaning of the text with c, by what c's place gives
@@ -141,7 +132,7 @@ module _ {text : List ℕ} {h : Hex} (m : Reads text h) (c : ℕ) where
   onward rest e = ap (bytes_from none) (append_assoc text (c ∷ []) rest) ∙ m.means (c ∷ rest) ∙ e
 
   pub read_skip : is_skipped c ≡ true → Reads (text ++ (c ∷ [])) h
-  read_skip e = record { bytes = m.bytes; means = λ rest. onward rest (skip h.digits rest); count = m.count; same = m.same }
+  read_skip e = record { bytes = m.bytes; means = λ rest. onward rest (skip h.digits rest); same = m.same }
     where
       skip : (d : Digits) (rest : List ℕ) → bytes_after d m.bytes (c ∷ rest) ≡ bytes_after d m.bytes rest
       skip Paired rest = ap (after m.bytes) (from_skip c rest none e)
@@ -149,9 +140,9 @@ module _ {text : List ℕ} {h : Hex} (m : Reads text h) (c : ℕ) where
       skip Other rest = refl
 
   -- only the digits change
-  module _ {h' : Hex} (count : h'.count ≡ h.count) (kept : h'.kept ≡ h.kept) where
+  module _ {h' : Hex} (kept : h'.kept ≡ h.kept) where
     changed : ((rest : List ℕ) → bytes_after h.digits m.bytes (c ∷ rest) ≡ bytes_after h'.digits m.bytes rest) → Reads (text ++ (c ∷ [])) h'
-    changed e = record { bytes = m.bytes; means = λ rest. onward rest (e rest); count = count ∙ m.count; same = rw (count, kept) m.same }
+    changed e = record { bytes = m.bytes; means = λ rest. onward rest (e rest); same = kept ∙ m.same }
 
     pub read_more : h.digits ≡ Other → h'.digits ≡ Other → Reads (text ++ (c ∷ [])) h'
     read_more e e' = changed (λ rest. rw (e, e') refl)
@@ -167,18 +158,14 @@ module _ {text : List ℕ} {h : Hex} (m : Reads text h) (c : ℕ) where
     pub read_first : is_skipped c ≡ false → {d : ℕ} → some d ≡ digit c → h.digits ≡ Paired → h'.digits ≡ Half d → Reads (text ++ (c ∷ [])) h'
     read_first e {d} v p p' = changed (λ rest. rw (p, p') (ap (after m.bytes) (from_first c rest d e (sym v))))
 
-  pub read_second : is_skipped c ≡ false → {d low : ℕ} → some low ≡ digit c → h.digits ≡ Half d → length h.kept ≡ room → {h' k : Hex} → Kept (d * 16 + low) h k
-      → h'.digits ≡ Paired → h'.count ≡ k.count → h'.kept ≡ k.kept → Reads (text ++ (c ∷ [])) h'
-  read_second e {d} {low} v p size {h'} {k} w p' count kept =
+  pub read_second : is_skipped c ≡ false → {d low : ℕ} → some low ≡ digit c → h.digits ≡ Half d → {h' k : Hex} → Kept (d * 16 + low) h k
+      → h'.digits ≡ Paired → h'.kept ≡ k.kept → Reads (text ++ (c ∷ [])) h'
+  read_second e {d} {low} v p {h'} {k} w p' kept =
       record {
         bytes = m.bytes ++ ((d * 16 + low) ∷ []);
         means = λ rest. onward rest (rw (p, p') (ap (after m.bytes) (from_second c rest d low e (sym v)) ∙ after-after m.bytes ((d * 16 + low) ∷ []) (bytes_from none rest)));
-        count = rw (count, w.count) more.0;
-        same = rw (count, kept, w.count, w.same) more.1;
+        same = kept ∙ w.same ∙ kept_more m.bytes h.kept (d * 16 + low) m.same;
       }
-    where
-      more : More m.bytes h.kept h.count (d * 16 + low) size m.count m.same (cond (ltb h.count room) (h.count + 1) h.count) (cond (ltb h.count room) (set h.kept h.count (d * 16 + low)) h.kept)
-      more = kept_more m.bytes h.kept h.count (d * 16 + low) size m.count m.same
 
 -- ---- The end
 
@@ -193,7 +180,7 @@ module _ {text : List ℕ} {h : Hex} (m : Reads text h) where
       let all : bytes_from none text ≡ bytes_after d m.bytes [] = ap (bytes_from none) (sym (append-nil text)) ∙ m.means [] ∙ ap (λ (x : Digits). bytes_after x m.bytes []) e in
       ap (λ (o : Option (List ℕ)). take room (or_empty o)) (sym all)
 
-  pub end_whole : h.digits ≡ Paired → take h.count h.kept ≡ hex_record text
+  pub end_whole : h.digits ≡ Paired → h.kept ≡ hex_record text
   unfolding bytes_from or_empty
   end_whole e = m.same ∙ ap (take room) (sym (append-nil m.bytes)) ∙ record_by Paired e
 

@@ -14,30 +14,16 @@ use lib.Dec.{ltb}
 use borrow.Author.Tests.{lt-ltb, le-ltb}
 use Rattle.nll_spec.specs.Lists.{gather}
 use Rattle.nll_spec.specs.Listing.{ascii, digits_of, spaced, line}
-use Rattle.listing.specs.Writing.{text_of, Puts}
-use Rattle.listing.specs.declared.writer.Text.{Text}
+use Rattle.buffer.specs.Appending.{Appends}
+use Rattle.buffer.proofs.AppendLaws.{appends_then}
 
 -- ---- Texts one after the other
 
 pub join : (u v w x : List ℕ) → ((u ++ v) ++ w) ++ x ≡ u ++ (v ++ (w ++ x))
 join u v w x = append_assoc (u ++ v) w x ∙ append_assoc u v (w ++ x)
 
-pub puts_none : (t : Text) → Puts [] t t
-puts_none t = record { ends = omega arith; same = sym (append-nil (text_of t)) }
-
-pub puts_then : {a b : List ℕ} {old between new : Text} → Puts a old between → Puts b between new → Puts (a ++ b) old new
-puts_then {a} {b} {old} p q =
-    record {
-      ends = q.ends ∙ ap (λ (k : ℕ). k + length b) p.ends ∙ omega (arith, length-append a b);
-      same = q.same ∙ ap (λ (l : List ℕ). l ++ b) p.same ∙ append_assoc (text_of old) a b;
-    }
-
-pub puts_as : {a b : List ℕ} {old new : Text} → a ≡ b → Puts a old new → Puts b old new
+pub puts_as : {a b : List ℕ} {old new : List ℕ} → a ≡ b → Appends a old new → Appends b old new
 puts_as e p = rw (sym e) p
-
--- a text put into an empty one
-pub puts_first : {a : List ℕ} {old new : Text} → old.used ≡ 0 → Puts a old new → text_of new ≡ a
-puts_first {a} {old} e p = p.same ∙ ap (λ (k : ℕ). take k old.bytes ++ a) e
 
 -- ---- Decimal digits
 
@@ -90,12 +76,12 @@ decimal_short (suc k) n h = go (λ m. decimal_short k (n / 10) (omega (arith, rw
 pub decimal_room : (n : ℕ) → n ≤ 65535 → length (digits_of (suc n) n) ≤ 5
 decimal_room n h = decimal_short 4 n (omega arith)
 
-pub number_last : (n : ℕ) → n < 10 → {d : ℕ} {old new : Text} → d ≡ 48 + n % 10 → Puts (d ∷ []) old new → Puts (digits_of (suc n) n) old new
+pub number_last : (n : ℕ) → n < 10 → {d : ℕ} {old new : List ℕ} → d ≡ 48 + n % 10 → Appends (d ∷ []) old new → Appends (digits_of (suc n) n) old new
 number_last n h e p = puts_as (ap (λ (x : ℕ). x ∷ []) (e ∙ omega arith) ∙ sym (decimal_last n h)) p
 
-pub number_more : (n : ℕ) → 10 ≤ n → {d : ℕ} {old between new : Text} → d ≡ 48 + n % 10 → Puts (digits_of (suc (n / 10)) (n / 10)) old between → Puts (d ∷ []) between new
-    → Puts (digits_of (suc n) n) old new
-number_more n h e p q = puts_as (ap (λ (x : ℕ). digits_of (suc (n / 10)) (n / 10) ++ (x ∷ [])) e ∙ sym (decimal_more n h)) (puts_then p q)
+pub number_more : (n : ℕ) → 10 ≤ n → {d : ℕ} {old between new : List ℕ} → d ≡ 48 + n % 10 → Appends (digits_of (suc (n / 10)) (n / 10)) old between → Appends (d ∷ []) between new
+    → Appends (digits_of (suc n) n) old new
+number_more n h e p q = puts_as (ap (λ (x : ℕ). digits_of (suc (n / 10)) (n / 10) ++ (x ∷ [])) e ∙ sym (decimal_more n h)) (appends_then p q)
 
 -- ---- Lines
 
@@ -131,10 +117,10 @@ line-room_three word a b d h k l =
     )
 
 -- so many numbers after a word
-pub gather_turn : (word ns : List ℕ) (i : ℕ) {old between new : Text} → i < length ns → Puts (word ++ gather spaced (take i ns)) old between
-    → Puts (spaced (get_or ns i 0)) between new → Puts (word ++ gather spaced (take (i + 1) ns)) old new
+pub gather_turn : (word ns : List ℕ) (i : ℕ) {old between new : List ℕ} → i < length ns → Appends (word ++ gather spaced (take i ns)) old between
+    → Appends (spaced (get_or ns i 0)) between new → Appends (word ++ gather spaced (take (i + 1) ns)) old new
 gather_turn word ns i l p q =
-    rw (add-one i) (puts_as (append_assoc word (gather spaced (take i ns)) (spaced (get_or ns i 0)) ∙ ap (λ (x : List ℕ). word ++ x) (more ns i l)) (puts_then p q))
+    rw (add-one i) (puts_as (append_assoc word (gather spaced (take i ns)) (spaced (get_or ns i 0)) ∙ ap (λ (x : List ℕ). word ++ x) (more ns i l)) (appends_then p q))
   where
     more : (ns : List ℕ) (i : ℕ) → i < length ns → gather spaced (take i ns) ++ spaced (get_or ns i 0) ≡ gather spaced (take (suc i) ns)
     more [] i l = absurd (omega arith)

@@ -6,9 +6,9 @@ use Rattle.nll_spec.specs.Decode.{max_regions, max_declared, max_points, point_c
 use Rattle.nll_spec.specs.Output.{word_bits, word_count, verdict_bytes}
 use Rattle.nll_spec.specs.Listing.{ascii, spaced, line}
 use Rattle.bit_set.specs.Bits.{has}
-use Rattle.listing.specs.Writing.{text_of, Puts}
+use Rattle.buffer.specs.Appending.{Appends}
 use Rattle.listing.specs.declared.Counts.{Counts}
-use Rattle.listing.specs.declared.writer.Text.{Text}
+use Rattle.listing.specs.declared.places.Answer.{Answer}
 use Rattle.listing.specs.declared.Place.{Place}
 use Rattle.listing.specs.declared.Place.TheVariants.{Points, Region, Within, Access, Grown, Done}
 
@@ -91,15 +91,19 @@ pub record Follows (n : Counts) (r : ℕ) (place : Place) : Type 0 where
   pub goes : (ws bs : List ℕ) → rest n ws bs place ≡ region_from n ws bs (r + 1)
   pub less : left n place ≤ (n.regions - (r + 1)) * 70000 + n.points + n.declared + 3
 
+-- all from a place of an answer's listing on
+abbrev pub rest_of : Answer → Place → List ℕ
+rest_of a place = rest a.counts a.words.now a.bytes.now place
+
 -- A step: a few bytes are put, which come first at the place, and the place that follows is nearer to the end.
-pub record Steps (n : Counts) (ws bs : List ℕ) (from : Place) (old : Text) (next : Place) (new : Text) : Type 0 where
+pub record Steps (a : Answer) (from : Place) (old : List ℕ) (next : Place) (new : List ℕ) : Type 0 where
   pub bytes : List ℕ
-  pub puts : Puts bytes old new
+  pub puts : Appends bytes old new
   pub short : length bytes ≤ 32
-  pub goes : rest n ws bs from ≡ bytes ++ rest n ws bs next
-  pub less : left n next ≤ left n from - 1
+  pub goes : rest_of a from ≡ bytes ++ rest_of a next
+  pub less : left a.counts next ≤ left a.counts from - 1
 
 -- A chunk: the text comes first at the place, and then all from the place that follows, which is nearer to the end.
-pub record Fills (n : Counts) (ws bs : List ℕ) (from next : Place) (text : Text) : Type 0 where
-  pub goes : rest n ws bs from ≡ text_of text ++ rest n ws bs next
-  pub less : left n next ≤ left n from - 1
+pub record Fills (a : Answer) (from next : Place) (text : List ℕ) : Type 0 where
+  pub goes : rest_of a from ≡ text ++ rest_of a next
+  pub less : left a.counts next ≤ left a.counts from - 1

@@ -1,5 +1,5 @@
 -- What was read of a text in hexadecimal, and the bytes that are kept of its record.
-use Rattle.std.specs.Prelude.{◌≡◌, cond, List, ◌++◌, ℕ, ◌+◌, length, take, set, ltb}
+use Rattle.std.specs.Prelude.{◌≡◌, cond, List, [], ◌∷◌, ◌++◌, ℕ, length, take, ltb}
 use Rattle.std.proofs.Math.Option.{Option, none, some}
 use Rattle.nll_spec.specs.Listing.{bytes_from, hex_bytes}
 use Rattle.listing.specs.declared.reader.Digits.{Digits}
@@ -30,13 +30,11 @@ bytes_after Other bytes rest = none
 pub record Reads (text : List ℕ) (h : Hex) : Type 0 where
   pub bytes : List ℕ
   pub means : (rest : List ℕ) → bytes_from none (text ++ rest) ≡ bytes_after h.digits bytes rest
-  pub count : h.count ≡ length (take room bytes)
-  pub same : take h.count h.kept ≡ take room bytes
+  pub same : h.kept ≡ take room bytes
 
 -- A byte more is kept, if there is room.
 pub record Kept (byte : ℕ) (h h' : Hex) : Type 0 where
-  pub count : h'.count ≡ cond (ltb h.count room) (h.count + 1) h.count
-  pub same : h'.kept ≡ cond (ltb h.count room) (set h.kept h.count byte) h.kept
+  pub same : h'.kept ≡ cond (ltb (length h.kept) room) (h.kept ++ (byte ∷ [])) h.kept
 
 -- From any text that h stands for to that text with a piece more.
 abbrev pub Feeds : List ℕ → Hex → Hex → Type 0

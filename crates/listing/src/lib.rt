@@ -6,7 +6,7 @@ mod writer;
 
 pub use places::{Answer, count};
 pub use reader::Hex;
-pub use writer::Text;
+pub use writer::{Text, refused};
 
 // How many points, regions and declared regions an answer has.
 #[derive(Clone, Copy)]

@@ -1,10 +1,9 @@
 // The lines of an answer: each step puts what comes next at a place of the listing.
-ghost use Rattle.std.specs.Prelude.{◌≡◌, ◌+◌, ◌≤◌, get_or};
+ghost use Rattle.std.specs.Prelude.{◌≡◌, ◌+◌, ◌≤◌, length, get_or};
 ghost use Rattle.nll_spec.specs.Syntax.{Job};
 ghost use Rattle.nll_spec.specs.Decode.{decode, decoded};
-ghost use Rattle.listing.specs.Places.{in_set, is_done, Counted, Follows, Steps, Fills};
 
-use super::writer::Text;
+use super::writer::{Text, line, spaced};
 use super::{Counts, Place};
 use record::{Offsets, read};
 
@@ -20,6 +19,8 @@ pub struct Answer<'a> {
 }
 
 impl Answer<'_> {
+    ghost use Rattle.listing.specs.Places.{in_set, Follows, Steps, Fills};
+
     // Whether point p is in region r's set.
     fn in_set(&self, r: u8, p: u16) -> bool
         ensures { result ≡ in_set self.now.words.now self.now.counts.points r p }
@@ -48,36 +49,36 @@ impl Answer<'_> {
 
     // At the beginning of a region's line.
     fn at_region(&self, r: u8, text: &mut Text) -> Place
-        requires { text.old.used + 32 ≤ 4096 }
-        ensures { Steps self.now.counts self.now.words.now self.now.bytes.now (Place.Region r) text.old result text.new }
+        requires { length text.old + 32 ≤ 4096 }
+        ensures { Steps self.now (Place.Region r) text.old result text.new }
     {
         if r >= self.counts.regions {
             return Place::Access(0);
         }
-        text.word(b"region");
-        text.spaced(u16::from(r));
+        text.put(b"region");
+        spaced(text, u16::from(r));
         Place::Within(r, 0)
     }
 
     // Within a region's line.
     fn within(&self, r: u8, p: u16, text: &mut Text) -> Place
-        requires { text.old.used + 32 ≤ 4096 }
-        ensures { Steps self.now.counts self.now.words.now self.now.bytes.now (Place.Within r p) text.old result text.new }
+        requires { length text.old + 32 ≤ 4096 }
+        ensures { Steps self.now (Place.Within r p) text.old result text.new }
     {
         if p >= self.counts.points {
-            text.byte(b'\n');
+            text.push(b'\n');
             return self.after_region(r);
         }
         if self.in_set(r, p) {
-            text.spaced(p);
+            spaced(text, p);
         }
         Place::Within(r, p + 1)
     }
 
     // At a point's line.
     fn at_access(&self, p: u16, text: &mut Text) -> Place
-        requires { text.old.used + 32 ≤ 4096 }
-        ensures { Steps self.now.counts self.now.words.now self.now.bytes.now (Place.Access p) text.old result text.new }
+        requires { length text.old + 32 ≤ 4096 }
+        ensures { Steps self.now (Place.Access p) text.old result text.new }
     {
         if p >= self.counts.points {
             return Place::Grown(0);
@@ -86,34 +87,34 @@ impl Answer<'_> {
         let kind = self.byte(at);
         if kind != 0 {
             let operand = self.byte(at + 1);
-            text.line(b"access", &[p, u16::from(kind), u16::from(operand)]);
+            line(text, b"access", &[p, u16::from(kind), u16::from(operand)]);
         }
         Place::Access(p + 1)
     }
 
     // At a declared region's line.
     fn at_grown(&self, r: u8, text: &mut Text) -> Place
-        requires { text.old.used + 32 ≤ 4096 }
-        ensures { Steps self.now.counts self.now.words.now self.now.bytes.now (Place.Grown r) text.old result text.new }
+        requires { length text.old + 32 ≤ 4096 }
+        ensures { Steps self.now (Place.Grown r) text.old result text.new }
     {
         if r >= self.counts.declared {
             return Place::Done;
         }
         let at = 2 * usize::from(self.counts.points) + usize::from(r);
         if self.byte(at) != 0 {
-            text.line(b"grown", &[u16::from(r)]);
+            line(text, b"grown", &[u16::from(r)]);
         }
         Place::Grown(r + 1)
     }
 
     // Puts what comes next at a place.
     fn step(&self, from: Place, text: &mut Text) -> Place
-        requires { text.old.used + 32 ≤ 4096 }
-        ensures { Steps self.now.counts self.now.words.now self.now.bytes.now from text.old result text.new }
+        requires { length text.old + 32 ≤ 4096 }
+        ensures { Steps self.now from text.old result text.new }
     {
         match from {
             Place::Points => {
-                text.line(b"points", &[self.counts.points]);
+                line(text, b"points", &[self.counts.points]);
                 Place::Region(0)
             }
             Place::Region(r) => self.at_region(r, text),
@@ -126,7 +127,7 @@ impl Answer<'_> {
 
     // Makes a text of what comes next at a place, until it has room for fewer than 32 bytes or 4,096 steps were made, and answers the place that follows.
     pub fn fill(&self, from: Place, text: &mut Text) -> Place
-        ensures { Fills self.now.counts self.now.words.now self.now.bytes.now from result text.new }
+        ensures { Fills self.now from result text.new }
     {
         text.clear();
         let mut place = from;
@@ -141,6 +142,8 @@ impl Answer<'_> {
 }
 
 impl Place {
+    ghost use Rattle.listing.specs.Places.{is_done};
+
     // Whether nothing comes at the place any more.
     pub fn is_done(self) -> bool
         ensures { result ≡ is_done self }
@@ -148,6 +151,8 @@ impl Place {
         matches!(self, Place::Done)
     }
 }
+
+ghost use Rattle.listing.specs.Places.{Counted};
 
 // How many points, regions and declared regions a record's job has. What is no job has none.
 pub fn count(s: &[u8]) -> Counts

@@ -1,8 +1,9 @@
 // Hexadecimal in, in pieces of any length.
-ghost use Rattle.std.specs.Prelude.{◌≡◌, ◌≤◌, ◌<◌, List, [], ◌∷◌, ℕ, length, IfSome};
+ghost use Rattle.std.specs.Prelude.{◌≡◌, ◌<◌, List, [], ◌∷◌, ℕ, IfSome};
 ghost use Rattle.nll_spec.specs.Listing.{is_skipped, digit};
 ghost use Rattle.listing.specs.Digits.{value_of, waiting};
-ghost use Rattle.listing.specs.declared.reader.TheConstants.{ROOM};
+
+use buffer::Buffer;
 
 // How many bytes of a record are kept: one more than the longest record has.
 pub const ROOM: usize = 16388;
@@ -19,10 +20,8 @@ pub enum Digits {
 #[derive(Drop)]
 pub struct Hex {
     digits: Digits,
-    kept: [u8; ROOM],
-    count: usize,
+    kept: Buffer<ROOM>,
     ghost digit: { waiting digits < 16 },
-    ghost room: { count ≤ ROOM },
 }
 
 impl Hex {
@@ -34,8 +33,7 @@ impl Hex {
     {
         Hex {
             digits: Digits::Paired,
-            kept: [0; ROOM],
-            count: 0,
+            kept: Buffer::new(),
         }
     }
 
@@ -43,9 +41,8 @@ impl Hex {
     fn keep(&mut self, byte: u8)
         ensures { Kept byte self.old self.new }
     {
-        if self.count < ROOM {
-            self.kept[self.count] = byte;
-            self.count += 1;
+        if self.kept.room() > 0 {
+            self.kept.push(byte);
         }
     }
 
@@ -83,7 +80,7 @@ impl Hex {
         ensures { (text : List ℕ) → Reads text self.now → result.now ≡ hex_record text }
     {
         match self.digits {
-            Digits::Paired => &self.kept[..self.count],
+            Digits::Paired => self.kept.as_bytes(),
             Digits::Half(_) | Digits::Other => &[],
         }
     }

@@ -4,20 +4,19 @@ use mathlib.Core.Path.{◌≡◌, refl, sym, ◌∙◌, ap, ap₂}
 use mathlib.Core.List.{List, [], ◌∷◌, ◌++◌, append_assoc, append-nil}
 use Prim.Native.Nat.{ℕ}
 use native.Mathlib.Omega.{arith}
-use lib.ListN.{length, take, length-take}
+use lib.ListN.{length}
 use Rattle.nll_spec.specs.Syntax.{Job}
 use Rattle.nll_spec.specs.Decode.{decoded, decode}
-use Rattle.nll_spec.specs.Listing.{line}
+use Rattle.nll_spec.specs.Listing.{ascii, line}
 use Rattle.repr.specs.Refusals.{number_of}
 use Rattle.repr.specs.declared.refusal.Refusal.{Refusal}
 use Rattle.repr.specs.declared.refusal.Refusal.TheVariants as refusals
 use Rattle.nll.specs.Analysis.{AnalyseSays}
 use Rattle.listing.specs.Reading.{Feeds}
-use Rattle.listing.specs.Writing.{text_of}
-use Rattle.listing.specs.Places.{Counted, rest, Fills}
+use Rattle.listing.specs.Places.{Counted, rest, rest_of, Fills}
 use Rattle.listing.specs.declared.reader.Hex.{Hex}
-use Rattle.listing.specs.declared.writer.Text.{Text}
 use Rattle.listing.specs.declared.Counts.{Counts}
+use Rattle.listing.specs.declared.places.Answer.{Answer}
 use Rattle.listing.specs.declared.Place.{Place}
 use Rattle.listing.specs.declared.Place.TheVariants.{Points, Done}
 use Rattle.listing.proofs.WriteLaws.{line-room}
@@ -32,20 +31,19 @@ read_more piece m f = record { text = m.text ++ piece; reads = f m.text m.reads 
 -- ---- The chunks
 
 -- What was printed so far, and then all from `place` on, is all from `from` on after the first text.
-pub record Printing (n : Counts) (ws bs first : List ℕ) (from place : Place) : Type 0 where
+pub record Printing (a : Answer) (first : List ℕ) (from place : Place) : Type 0 where
   pub printed : List ℕ
-  pub goes : first ++ rest n ws bs from ≡ printed ++ rest n ws bs place
+  pub goes : first ++ rest_of a from ≡ printed ++ rest_of a place
 
-module _ (n : Counts) (ws bs : List ℕ) where
-  pub printing_none : (first : List ℕ) (from : Place) → Printing n ws bs first from from
-  printing_none first from = record { printed = first; goes = refl }
+pub printing_none : (a : Answer) (first : List ℕ) (from : Place) → Printing a first from from
+printing_none a first from = record { printed = first; goes = refl }
 
-  pub printing_more : {first : List ℕ} {from place next : Place} {new : Text} → Printing n ws bs first from place → Fills n ws bs place next new → Printing n ws bs first from next
-  printing_more {first} {from} {place} {next} {new} p f =
-      record {
-        printed = p.printed ++ text_of new;
-        goes = p.goes ∙ ap (λ (l : List ℕ). p.printed ++ l) f.goes ∙ sym (append_assoc p.printed (text_of new) (rest n ws bs next));
-      }
+pub printing_more : {a : Answer} {first : List ℕ} {from place next : Place} {new : List ℕ} → Printing a first from place → Fills a place next new → Printing a first from next
+printing_more {a} {next = next} {new = new} p f =
+    record {
+      printed = p.printed ++ new;
+      goes = p.goes ∙ ap (λ (l : List ℕ). p.printed ++ l) f.goes ∙ sym (append_assoc p.printed new (rest_of a next));
+    }
 
 -- ---- The beginning
 
@@ -64,17 +62,17 @@ not_zero refusals.Room z = omega arith
 
 module _ (input ws bs : List ℕ) (n : Counts) (counted : (j : Job) → decode input ≡ decoded j → Counted j n) (w : length ws ≡ 4096) (b : length bs ≡ 2064)
     {number : ℕ} {ws' bs' : List ℕ} (s : AnalyseSays input ws bs number ws' bs') where
-  pub begins_answer : {t : Text} → number ≡ 0 → t.used ≡ 0 → Begins input (record { text = t; counts = n; next = Points }) ws' bs'
+  pub begins_answer : {t : List ℕ} → number ≡ 0 → t ≡ [] → Begins input (record { text = t; counts = n; next = Points }) ws' bs'
   begins_answer {t} e z =
       record {
-        within = omega (arith, length-take t.used t.bytes, z);
+        within = omega (arith, ap length z);
         goes = λ text kept.
             lists_answer text input ws bs n kept counted w b (sym s.number ∙ e)
             ∙ ap₂ (λ (x y : List ℕ). rest n x y Points) (sym s.words) (sym s.bytes)
-            ∙ ap (λ (k : ℕ). take k t.bytes ++ rest n ws' bs' Points) (sym z);
+            ∙ ap (λ (l : List ℕ). l ++ rest n ws' bs' Points) (sym z);
       }
 
-  pub begins_refusal : (k : Refusal) {m : ℕ} {t : Text} → number ≡ number_of k → m ≡ number_of k → text_of t ≡ line "refused" (m ∷ []) → Begins input (record { text = t; counts = n; next = Done }) ws' bs'
+  pub begins_refusal : (k : Refusal) {m : ℕ} {t : List ℕ} → number ≡ number_of k → m ≡ number_of k → t ≡ line "refused" (m ∷ []) → Begins input (record { text = t; counts = n; next = Done }) ws' bs'
   unfolding ascii
   begins_refusal k {m} {t} e f p =
       record {
@@ -82,5 +80,5 @@ module _ (input ws bs : List ℕ) (n : Counts) (counted : (j : Job) → decode i
         goes = λ text kept.
             lists_refusal text input ws bs n kept counted w b (λ z. not_zero k (sym e ∙ s.number ∙ z))
             ∙ ap (λ (x : ℕ). line "refused" (x ∷ [])) (sym s.number ∙ e ∙ sym f)
-            ∙ sym (append-nil (text_of t) ∙ p);
+            ∙ sym (append-nil t ∙ p);
       }

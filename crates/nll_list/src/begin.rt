@@ -16,7 +16,7 @@ pub fn begin(input: &[u8], words: &mut [u32; 4096], bytes: &mut [u8; 2064]) -> B
             next: Place::Points,
         },
         Err(refusal) => Begun {
-            text: Text::refused(u8::from(refusal)),
+            text: listing::refused(u8::from(refusal)),
             counts,
             next: Place::Done,
         },

@@ -2,10 +2,10 @@
 use mathlib.Core.Path.{◌≡◌, refl, sym, ap, ap₂, ◌∙◌}
 use mathlib.Core.Bool.{Bool, true, false}
 use mathlib.Core.List.{List, ◌++◌}
-use Prim.Native.Nat.{ℕ, ◌-◌, ◌≤◌, ◌<◌}
+use Prim.Native.Nat.{ℕ, ◌<◌}
 use native.Mathlib.Omega.{arith}
-use lib.ListN.{length, get_or, take, drop, length-append, length-drop, length-map}
-use lib.Seq.{ext_get_or, length-take-le, take-append_seam, drop-append_seam}
+use lib.ListN.{length, get_or, take, drop, length-append, length-map}
+use lib.Seq.{ext_get_or, take-append_seam, drop-append_seam}
 use Rattle.std.specs.Bool.{Decides}
 use Rattle.std.proofs.Common.{rules}
 use Rattle.std.proofs.lemmas.List.{take-append-drop}
@@ -15,7 +15,7 @@ use Rattle.nll_spec.specs.Cases.{same_list}
 use Rattle.nll_spec.specs.Output.{overwrite}
 use Rattle.nll_spec.proofs.Tests.{length-count_from}
 use Rattle.nll_spec.proofs.Lookup.{get_or-map-below}
-use Rattle.replay.specs.File.{word_at, words_at, part_of}
+use Rattle.replay.specs.File.{word_at, words_at}
 
 -- two tests of facts that follow from each other
 decided : {P Q : Type 0} (r q : Bool) → Decides r P → Decides q Q → (P → Q) → (Q → P) → r ≡ q
@@ -60,9 +60,6 @@ length-words_at s at n = length-map (below n) (word_at s at) ∙ length-count_fr
 get_or-words_at : (s : List ℕ) (at n i : ℕ) → i < n → get_or (words_at s at n) i 0 ≡ word_at s at i
 unfolding words_at
 get_or-words_at s at n i h = get_or-map-below (word_at s at) 0 n i h
-
-pub length-part_of : (s : List ℕ) (at end : ℕ) → at ≤ end → end ≤ length s → length (part_of s at end) ≡ end - at
-length-part_of s at end low high = length-take-le (end - at) (drop at s) (rw length-drop (omega arith))
 
 -- words that are the file's one by one
 module _ (s : List ℕ) (at : ℕ) (ws : List ℕ) {n : ℕ} (size : length ws ≡ n) where

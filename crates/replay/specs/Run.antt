@@ -1,15 +1,5 @@
 -- Boundary cases, as a file of recorded answers.
-use Rattle.std.specs.Prelude.{◌≡◌, List, [], ◌∷◌, ◌++◌, ℕ, ◌+◌, ◌/◌, ◌%◌, length, take, replicate}
-use Rattle.replay.specs.declared.room.FileBytes.{FileBytes}
-
--- the bytes of a file
-abbrev pub content : FileBytes → List ℕ
-content f = take f.len f.bytes
-
--- These bytes are put after those of the old file.
-pub record Appended (src : List ℕ) (old new : FileBytes) : Type 0 where
-  pub next : new.len ≡ old.len + length src
-  pub put : content new ≡ content old ++ src
+use Rattle.std.specs.Prelude.{List, [], ◌∷◌, ◌++◌, ℕ, ◌+◌, ◌/◌, ◌%◌, length, replicate}
 
 -- a number in two bytes
 abbrev pub in_two : ℕ → List ℕ

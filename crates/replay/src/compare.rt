@@ -2,7 +2,7 @@
 ghost use Rattle.std.specs.Prelude.{◌≡◌, ◌≤◌, ◌↔◌, length, slice_index, EachIndex, IsTrue};
 ghost use Rattle.nll_spec.specs.Cases.{same_list};
 ghost use Rattle.nll_spec.specs.Output.{overwrite};
-ghost use Rattle.replay.specs.File.{word_at, words_at, part_of, agrees, EntryIn};
+ghost use Rattle.replay.specs.File.{word_at, words_at, agrees, EntryIn};
 
 use super::file::{Entry, byte_at, four_at};
 
@@ -34,17 +34,15 @@ fn same_words(s: &[u8], at: usize, count: usize, words: &[u32; 4112], before: &[
     are_words_at(s, at, written) && rest == before.split_at(count).1
 }
 
-// Whether the first bytes are those that the file has, and the others are as before.
-fn same_bytes(s: &[u8], at: usize, end: usize, bytes: &[u8; 2080], before: &[u8; 2080]) -> bool
-    requires { (at ≤ end) × (end ≤ length s.now) }
-    ensures { result ≡ same_list bytes.now (overwrite (part_of s.now at end) before.now) }
+// Whether the first bytes are these, and the others are as before.
+fn same_bytes(due: &[u8], bytes: &[u8; 2080], before: &[u8; 2080]) -> bool
+    ensures { result ≡ same_list bytes.now (overwrite due.now before.now) }
 {
-    let count = end - at;
-    if count > bytes.len() {
+    if due.len() > bytes.len() {
         return false;
     }
-    let (written, rest) = bytes.split_at(count);
-    written == &s[at..end] && rest == before.split_at(count).1
+    let (written, rest) = bytes.split_at(due.len());
+    written == due && rest == before.split_at(due.len()).1
 }
 
 // Whether the call, on buffers of WORD and BYTE, returns the entry's number and leaves its words and bytes, and after them what was there.
@@ -61,5 +59,5 @@ pub fn agree(s: &[u8], e: Entry) -> bool
         return false;
     }
     same_words(s, e.words, e.count, &words, &words_before)
-        && same_bytes(s, e.bytes, e.end, &bytes, &bytes_before)
+        && same_bytes(&s[e.bytes..e.end], &bytes, &bytes_before)
 }

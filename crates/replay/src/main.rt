@@ -7,7 +7,7 @@ mod room;
 mod run;
 mod tally;
 
-use room::FileBytes;
+use room::{FileBytes, read};
 use run::cases;
 use std::fs::File;
 use std::io;
@@ -27,7 +27,7 @@ fn read_answers(rt: HostRuntime, file: &mut FileBytes) -> io::Result<()> {
     let path = "answers.bin";
     match File::open(&rt, path) {
         Ok(answers) => {
-            file.read(&mut &answers);
+            read(file, &mut &answers);
             if file.is_full() {
                 file.clear();
             }

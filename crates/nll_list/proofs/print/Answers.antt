@@ -1,10 +1,9 @@
 -- `nll_list::print` ends. Assumes nothing.
-use Rattle.listing.specs.Writing.{text_of}
 use Rattle.nll_list.proofs.TextLaws.{printing_none, printing_more}
 use Rattle.nll_list.proofs.print.Goals as goal
 
 pub loop-text-init : goal.loop-text-init
-loop-text-init g c = let a = c.args.answer.now in printing_none a.counts a.words.now a.bytes.now (text_of c.args.first) c.args.from
+loop-text-init g c = printing_none c.args.answer.now c.args.first c.args.from
 
 pub loop-text-preserved : goal.loop-text-preserved
-loop-text-preserved g c = let a = c.args.answer.now in printing_more a.counts a.words.now a.bytes.now c.loop-text.invariant c.fill-place.ensures
+loop-text-preserved g c = printing_more c.loop-text.invariant c.fill-place.ensures

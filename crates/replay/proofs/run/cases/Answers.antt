@@ -1,16 +1,19 @@
 -- `replay::run::cases`. Assumes nothing.
+use mathlib.Core.Path.{ap}
 use native.Mathlib.Omega.{arith}
-use Rattle.replay.proofs.RunLaws.{append_next, length_most, length_too_many, length_third, run_put}
+use lib.ListN.{length}
+use Rattle.buffer.proofs.AppendLaws.{appends_then, appends_first}
+use Rattle.replay.proofs.RunLaws.{length_most, length_too_many, length_third}
 use Rattle.replay.proofs.run.cases.Goals as goal
 
 pub too_many_actions-requires : goal.too_many_actions-requires
-too_many_actions-requires c = omega (arith, length_most)
+too_many_actions-requires c = omega (arith, ap length c.clear.ensures, length_most)
 
 pub third_declared-requires : goal.third_declared-requires
-third_declared-requires c = omega (arith, length_most, length_too_many)
+third_declared-requires c = omega (arith, ap length c.clear.ensures, length_most, length_too_many)
 
 pub too_long-requires : goal.too_long-requires
-too_long-requires c = omega (arith, length_most, length_too_many, length_third)
+too_long-requires c = omega (arith, ap length c.clear.ensures, length_most, length_too_many, length_third)
 
 pub returns : goal.returns
-returns c = run_put c.clear.ensures (append_next (append_next (append_next (append_next c.put.ensures c.most_actions.ensures) c.too_many_actions.ensures) c.third_declared.ensures) c.too_long.ensures)
+returns c = appends_first c.clear.ensures (appends_then (appends_then (appends_then (appends_then c.put.ensures c.most_actions.ensures) c.too_many_actions.ensures) c.third_declared.ensures) c.too_long.ensures)

@@ -6,14 +6,13 @@ use Rattle.listing.proofs.places.Answer.at_access.Goals as goal
 use Rattle.listing.proofs.places.Answer.at_access.Goals.{then-kind-ne0, else-kind-ne0}
 
 pub returns-then-p-self : goal.returns-then-p-self
-returns-then-p-self c = let s = c.args.self.now in access_over s.counts s.words.now s.bytes.now c.args.p c.if-p-self.true
+returns-then-p-self c = access_over c.args.self.now c.args.p c.if-p-self.true
 
 pub returns : goal.returns
 unfolding ascii line
 returns c =
-    let s = c.args.self.now in
     let kind = rw c.from-at.ensures at c.byte-kind.ensures in
     elim c.if-kind-ne0.branch [
-      | then-kind-ne0 w ↦ rw w.text-is (access_fault s.counts s.words.now s.bytes.now c.args.p c.if-p-self.false kind w.if-kind-ne0.true (omega arith) (omega arith) (rw c.from-at.ensures at w.byte-operand.ensures) (omega arith) (rw (w.from.ensures, w.from-then-kind-ne0.ensures) at w.line.ensures))
-      | else-kind-ne0 w ↦ rw w.text-is (access_none s.counts s.words.now s.bytes.now c.args.p c.if-p-self.false kind w.if-kind-ne0.false)
+      | then-kind-ne0 w ↦ rw w.text-is (access_fault c.args.self.now c.args.p c.if-p-self.false kind w.if-kind-ne0.true (omega arith) (omega arith) (rw c.from-at.ensures at w.byte-operand.ensures) (omega arith) (rw (w.from.ensures, w.from-then-kind-ne0.ensures) at w.line.ensures))
+      | else-kind-ne0 w ↦ rw w.text-is (access_none c.args.self.now c.args.p c.if-p-self.false kind w.if-kind-ne0.false)
     ]

@@ -6,14 +6,13 @@ use Rattle.listing.proofs.places.Answer.at_grown.Goals as goal
 use Rattle.listing.proofs.places.Answer.at_grown.Goals.{then-byte-ne0, else-byte-ne0}
 
 pub returns-then-r-self : goal.returns-then-r-self
-returns-then-r-self c = let s = c.args.self.now in grown_over s.counts s.words.now s.bytes.now c.args.r c.if-r-self.true
+returns-then-r-self c = grown_over c.args.self.now c.args.r c.if-r-self.true
 
 pub returns : goal.returns
 unfolding ascii line
 returns c =
-    let s = c.args.self.now in
     let byte = rw (c.from.ensures, c.from-2.ensures) at c.byte.ensures in
     elim c.if-byte-ne0.branch [
-      | then-byte-ne0 w ↦ rw w.text-is (grown_line s.counts s.words.now s.bytes.now c.args.r c.if-r-self.false byte w.if-byte-ne0.true (omega arith) (rw w.from-then-byte-ne0.ensures at w.line.ensures))
-      | else-byte-ne0 w ↦ rw w.text-is (grown_none s.counts s.words.now s.bytes.now c.args.r c.if-r-self.false byte w.if-byte-ne0.false)
+      | then-byte-ne0 w ↦ rw w.text-is (grown_line c.args.self.now c.args.r c.if-r-self.false byte w.if-byte-ne0.true (omega arith) (rw w.from-then-byte-ne0.ensures at w.line.ensures))
+      | else-byte-ne0 w ↦ rw w.text-is (grown_none c.args.self.now c.args.r c.if-r-self.false byte w.if-byte-ne0.false)
     ]

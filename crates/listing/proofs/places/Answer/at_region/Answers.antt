@@ -1,15 +1,14 @@
 -- `listing::places::Answer::at_region` meets its contract. Assumes nothing.
 use native.Mathlib.Omega.{arith}
 use Rattle.nll_spec.specs.Listing.{ascii}
-use Rattle.listing.proofs.WriteLaws.{puts_then}
+use Rattle.buffer.proofs.AppendLaws.{appends_then}
 use Rattle.listing.proofs.PlaceLaws.{region_over, region_line}
 use Rattle.listing.proofs.places.Answer.at_region.Goals as goal
 
 pub returns-then-r-self : goal.returns-then-r-self
-returns-then-r-self c = let s = c.args.self.now in region_over s.counts s.words.now s.bytes.now c.args.r c.if-r-self.true
+returns-then-r-self c = region_over c.args.self.now c.args.r c.if-r-self.true
 
 pub returns : goal.returns
 unfolding ascii
 returns c =
-    let s = c.args.self.now in
-    region_line s.counts s.words.now s.bytes.now c.args.r c.if-r-self.false (omega arith) (omega arith) (rw c.from.ensures at (puts_then c.word.ensures c.spaced.ensures))
+    region_line c.args.self.now c.args.r c.if-r-self.false (omega arith) (omega arith) (rw c.from.ensures at (appends_then c.put.ensures c.spaced.ensures))

@@ -3,4 +3,4 @@ use Rattle.listing.proofs.PlaceLaws.{Filling}
 use Rattle.listing.proofs.places.Answer.fill.Given as goal
 
 abbrev pub invariant-loop : goal.invariant-loop
-invariant-loop l = Filling l.self.counts l.self.words.now l.self.bytes.now l.initial.place l.place l.counter l.text
+invariant-loop l = Filling l.self l.initial.place l.place l.counter l.text

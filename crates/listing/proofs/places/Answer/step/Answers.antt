@@ -6,4 +6,4 @@ use Rattle.listing.proofs.places.Answer.step.Goals as goal
 
 pub returns-in-Points : goal.returns-in-Points
 unfolding ascii line
-returns-in-Points c = let s = c.args.self.now in steps_as c.in-Points.is (at_points s.counts s.words.now s.bytes.now (omega arith) c.line.ensures)
+returns-in-Points c = steps_as c.in-Points.is (at_points c.args.self.now (omega arith) c.line.ensures)

@@ -5,12 +5,11 @@ use Rattle.listing.proofs.places.Answer.within.Goals as goal
 use Rattle.listing.proofs.places.Answer.within.Goals.{then-in_set, else-in_set}
 
 pub returns-then-p-self : goal.returns-then-p-self
-returns-then-p-self c = let s = c.args.self.now in within_over s.counts s.words.now s.bytes.now c.args.r c.args.p c.if-p-self.true c.byte.ensures c.after_region.ensures
+returns-then-p-self c = within_over c.args.self.now c.args.r c.args.p c.if-p-self.true c.push.ensures c.after_region.ensures
 
 pub returns : goal.returns
 returns c =
-    let s = c.args.self.now in
     elim c.if-in_set.branch [
-      | then-in_set w ↦ rw w.text-is (within_in s.counts s.words.now s.bytes.now c.args.r c.args.p c.if-p-self.false c.in_set.ensures w.if-in_set.true (omega arith) w.spaced.ensures)
-      | else-in_set w ↦ rw w.text-is (within_out s.counts s.words.now s.bytes.now c.args.r c.args.p c.if-p-self.false c.in_set.ensures w.if-in_set.false)
+      | then-in_set w ↦ rw w.text-is (within_in c.args.self.now c.args.r c.args.p c.if-p-self.false c.in_set.ensures w.if-in_set.true (omega arith) w.spaced.ensures)
+      | else-in_set w ↦ rw w.text-is (within_out c.args.self.now c.args.r c.args.p c.if-p-self.false c.in_set.ensures w.if-in_set.false)
     ]

@@ -1,7 +1,7 @@
--- `listing::writer::Text::spaced` meets its contract. Assumes nothing.
+-- `listing::writer::spaced` meets its contract. Assumes nothing.
 use native.Mathlib.Omega.{arith}
 use Rattle.listing.proofs.WriteLaws.{decimal_room}
-use Rattle.listing.proofs.writer.Text.spaced.Goals as goal
+use Rattle.listing.proofs.writer.spaced.Goals as goal
 
 pub number-requires : goal.number-requires
 number-requires c = omega (arith, decimal_room c.args.n (omega arith))

@@ -1,8 +1,8 @@
--- `listing::writer::Text::line` meets its contract. Assumes nothing.
+-- `listing::writer::line` meets its contract. Assumes nothing.
 use native.Mathlib.Omega.{arith}
 use lib.ListN.{get_or}
 use Rattle.listing.proofs.WriteLaws.{gather_turn, spaced-room}
-use Rattle.listing.proofs.writer.Text.line.Goals as goal
+use Rattle.listing.proofs.writer.line.Goals as goal
 
 pub loop-n-preserved : goal.loop-n-preserved
 loop-n-preserved c =

@@ -1,0 +1,7 @@
+-- What is put into a buffer.
+use Rattle.std.specs.Prelude.{◌≡◌, List, ◌++◌, ℕ, ◌+◌, length}
+
+-- These bytes are put after the old ones.
+pub record Appends (src old new : List ℕ) : Type 0 where
+  pub longer : length new ≡ length old + length src
+  pub same : new ≡ old ++ src

@@ -1,5 +1,0 @@
--- `listing::writer::Text::number` meets its contract. Assumes nothing.
-use Rattle.listing.proofs.writer.Text.+number.Given as goal
-
-abbrev pub decreases-number : goal.decreases-number
-decreases-number l = l.n
