@@ -94,7 +94,7 @@ fn keep_row(region: &[u32], p: usize, pass: &mut [u32])
     requires { (p < 1024) × (4 * p + 4 ≤ length region.now) × (4 * p + 4 ≤ length pass.old) }
     ensures { Gains (Onto region.now (p + 1) p p) pass.old pass.new }
 {
-    bit_slice::insert_bits_from_slice(pass, 4 * p, region, 4 * p, 4);
+    bit_set::union_from(pass, 4 * p, region, 4 * p, 4);
 }
 
 // Puts what leaves point p into the set of point q, if that is a point of a block.
@@ -104,7 +104,7 @@ fn onto(code: usize, from: &[u32], p: usize, q: u16, scope: &mut [u32])
 {
     let at = usize::from(q);
     if at < code {
-        bit_slice::insert_bits_from_slice(scope, 4 * at, from, 4 * p, 4);
+        bit_set::union_from(scope, 4 * at, from, 4 * p, 4);
     }
 }
 
