@@ -2,7 +2,7 @@
 use mathlib.Core.Path.{◌≡◌, refl, sym, ap, subst, ◌∙◌}
 use mathlib.Core.Bool.{Bool, true, false, ◌||◌, or-true}
 use mathlib.Core.List.{List, [], ◌∷◌, ◌++◌, map}
-use Prim.Native.Nat.{ℕ, zero, suc, ◌+◌, ◌-◌, ◌≤◌, ◌<◌, min}
+use Prim.Native.Nat.{ℕ, zero, suc, ◌+◌, ◌-◌, ◌≤◌, ◌<◌}
 use native.Mathlib.Omega.{arith}
 use lib.ListN.{length, get_or}
 use lib.Seq.{get_or-take}
@@ -177,7 +177,7 @@ module _ (input : Record) (lent : LoanTable) (scope : List ℕ) (p : Point) wher
       unfolding verdict_at
       verdict_idle i j t w l z = sym (fault_none input.bytes.now j (in_scope_at t (loans_of (graph_of j)) p) (mean_at input p m e o j w l) 0 (λ k n. absurd (omega (arith, i, o.all))))
 
-      module _ {r : Option ℕ} (y : Checked input.bytes.now lent.loans scope p accs (min lent.count 128) r) where
+      module _ {r : Option ℕ} (y : Checked input.bytes.now lent.loans scope p accs lent.count r) where
         module _ (j : Job) (t : Table) (z : Scoped input.bytes.now j lent scope p t) where
           abbrev s : List ℕ
           s = input.bytes.now
@@ -186,14 +186,12 @@ module _ (input : Record) (lent : LoanTable) (scope : List ℕ) (p : Point) wher
           given = in_scope_at t (loans_of (graph_of j)) p
 
           -- of the accesses, as the check has it
-          tested : (n : ℕ) → n < accs.count → some s j given (nth_access (accesses_in accs) n) ≡ any (hits j s (nth_access accs.list n)) (held_loans lent.loans scope p 0 (min lent.count 128))
+          tested : (n : ℕ) → n < accs.count → some s j given (nth_access (accesses_in accs) n) ≡ any (hits j s (nth_access accs.list n)) (held_loans lent.loans scope p 0 lent.count)
           tested n u =
-              let f = z.loans.few in
-              let b : min lent.count 128 ≡ lent.count = omega arith in
-              rw (b, get_or-take accs.count accs.list n (nth_access [] 0) u, sym (same_at z)) (any-map (meets j (nth_access accs.list n).depth (nth_access accs.list n).mode (path_of s (nth_access accs.list n).path)) (loan_of s) (held_loans lent.loans scope p 0 lent.count))
+              rw (get_or-take accs.count accs.list n (nth_access [] 0) u, sym (same_at z)) (any-map (meets j (nth_access accs.list n).depth (nth_access accs.list n).mode (path_of s (nth_access accs.list n).path)) (loan_of s) (held_loans lent.loans scope p 0 lent.count))
 
-          known : Known j s lent.loans (min lent.count 128)
-          known n u = known_at z n (omega arith)
+          known : Known j s lent.loans lent.count
+          known n u = known_at z n u
 
         pub verdict_clear : r ≡ None → Says None
         unfolding verdict_at

@@ -1,5 +1,5 @@
 // Which access of an action conflicts with a loan in scope.
-ghost use Rattle.std.specs.Prelude.{◌≡◌, ◌≤◌, ◌<◌, min};
+ghost use Rattle.std.specs.Prelude.{◌≡◌, ◌≤◌, ◌<◌};
 ghost use Rattle.borrowck.specs.Faults.{Checked};
 
 use super::accesses::Accesses;
@@ -7,7 +7,7 @@ use super::scope::part_of;
 use super::search::search_in;
 use loans::LoanTable;
 
-// The first access that conflicts with a loan in scope at point p, part by part. No table gives more than 128 loans.
+// The first access that conflicts with a loan in scope at point p, part by part.
 pub fn check_accesses(
     s: &[u8],
     loans: &LoanTable,
@@ -16,7 +16,7 @@ pub fn check_accesses(
     accesses: Accesses,
 ) -> Option<usize>
     requires { (accesses.count ≤ 9) × (p < 1024) }
-    ensures { Checked s.now loans.now.loans scope.now p accesses (min loans.now.count 128) result }
+    ensures { Checked s.now loans.now.loans scope.now p accesses loans.now.count result }
 {
     let many = loans.lent().len();
     let mut first = None;

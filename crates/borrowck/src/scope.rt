@@ -1,5 +1,5 @@
 // The loans in scope at a point, in parts.
-ghost use Rattle.std.specs.Prelude.{◌≡◌, ◌≤◌, ◌<◌, min};
+ghost use Rattle.std.specs.Prelude.{◌≡◌, ◌≤◌, ◌<◌};
 ghost use Rattle.borrowck.specs.Scope.{SomeIn, Gathered};
 
 use loans::{Loan, LoanTable};
@@ -22,7 +22,7 @@ pub fn some_in_scope(scope: &[u32], p: usize) -> bool
 // The loans from number from on that are in scope at point p, in the order of the table: as many as a part has room for.
 pub fn part_of(loans: &LoanTable, scope: &[u32], p: usize, from: usize) -> Part
     requires { p < 1024 }
-    ensures { Gathered loans.now.loans (min loans.now.count 128) scope.now p from result }
+    ensures { Gathered loans.now.loans loans.now.count scope.now p from result }
 {
     let lent = loans.lent();
     let mut held = [loans.loans[0]; 16];
@@ -35,7 +35,7 @@ pub fn part_of(loans: &LoanTable, scope: &[u32], p: usize, from: usize) -> Part
                 next: i,
             };
         }
-        if bit_slice::is_set(scope, 4 * p, i) {
+        if bit_set::test(scope, 4 * p, i) {
             held[n] = lent[i];
             n += 1;
         }
