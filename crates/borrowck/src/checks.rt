@@ -1,5 +1,5 @@
 // Which access of an action conflicts with a loan in scope.
-ghost use Rattle.std.specs.Prelude.{◌≡◌, ◌≤◌, ◌<◌};
+ghost use Rattle.std.specs.Prelude.{◌≡◌, ◌<◌};
 ghost use Rattle.borrowck.specs.Faults.{Checked};
 
 use super::accesses::Accesses;
@@ -15,7 +15,7 @@ pub fn check_accesses(
     p: usize,
     accesses: Accesses,
 ) -> Option<usize>
-    requires { (accesses.count ≤ 9) × (p < 1024) }
+    requires { p < 1024 }
     ensures { Checked s.now loans.now.loans scope.now p accesses loans.now.count result }
 {
     let many = loans.lent().len();

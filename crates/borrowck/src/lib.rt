@@ -4,6 +4,7 @@ mod accesses;
 mod checks;
 mod scope;
 mod search;
+mod single;
 
 ghost use Rattle.std.specs.Prelude.{◌≡◌, ◌*◌, ◌+◌, ◌<◌, ◌≤◌, length};
 ghost use Rattle.nll_spec.specs.Fixpoint.{Table, holds};
@@ -18,7 +19,7 @@ ghost use Rattle.bit_set.specs.Bits.{has};
 ghost use Rattle.loans.specs.Loans.{LoansAt};
 ghost use Rattle.borrowck.specs.Faults.{verdict_of, Scoped, bytes_to, Judged};
 
-use accesses::accesses_of;
+use accesses::Accesses;
 use checks::check_accesses;
 use loans::LoanTable;
 use record::Record;
@@ -78,7 +79,7 @@ pub fn verdict(input: &Record<'_>, loans: &LoanTable, scope: &[u32], p: usize) -
         return None;
     }
     let (a, next) = input.action_at(p).ok()?;
-    let accesses = accesses_of(input.bytes, a, next);
+    let accesses = Accesses::of_action(input.bytes, a, next);
     if accesses.count == 0 {
         return None;
     }
