@@ -4,8 +4,8 @@ use mathlib.Core.Bool.{Bool, true, false, ◌||◌, or-true}
 use mathlib.Core.List.{List, [], ◌∷◌, ◌++◌, map}
 use Prim.Native.Nat.{ℕ, zero, suc, ◌+◌, ◌-◌, ◌≤◌, ◌<◌}
 use native.Mathlib.Omega.{arith}
-use lib.ListN.{length, get_or}
-use lib.Seq.{get_or-take}
+use lib.ListN.{length, get_or, take}
+use lib.Seq.{get_or-take, length-take-le}
 use lib.Dec.{T}
 use Rattle.nll_spec.specs.Lists.{any}
 use Rattle.nll_spec.specs.Fixpoint.{Table}
@@ -32,7 +32,7 @@ use Rattle.loans.specs.declared.LoanTable.{LoanTable}
 use Rattle.std.specs.Prelude.{Option, Some, None, Result, Ok}
 use Rattle.std.specs.Option.{unwrap_or}
 use Rattle.std.proofs.Common.{rules}
-use Rattle.borrowck.specs.Search.{meets, FoundIn, nth_access, before_conflict, FirstIn}
+use Rattle.borrowck.specs.Search.{meets, FoundIn, no_access, nth_access, before_conflict, FirstIn}
 use Rattle.borrowck.specs.Accesses.{kind_number, Means, accesses_in, Mean, none, more, AccessesOf}
 use Rattle.borrowck.specs.Scope.{loans_in, is_in, held_loans, SomeIn, Gathered}
 use Rattle.borrowck.specs.Faults.{verdict_of, Scoped, hits, Known, Checked}
@@ -77,6 +77,21 @@ module _ {s : List ℕ} {loans : List Loan} {x : own.Access} where
   found-none : FoundIn s x loans None → (j : Job) → ((i : ℕ) → i < length loans → ShortestOf j (path_of s (nth_loan loans i).path) (nth_loan loans i).shortest) → any (hits j s x) loans ≡ false
   found-none w j z = any_nowhere (hits j s x) no_loan loans (w.says j z)
 
+-- what the search finds among the first n accesses
+first-taken : {s : List ℕ} {list : List own.Access} {n : ℕ} {loans : List Loan} (r : Option Conflict) → n ≤ length list → FirstIn s (take n list) (length (take n list)) loans r → FirstIn s list n loans r
+first-taken {s} {list} {n} {loans} r l v = record {
+  before = λ k h. subst (λ (x : own.Access). FoundIn s x loans None) (get_or-take n list k no_access (below r v' k h)) (v'.before k h);
+  most = v'.most;
+  here = λ c e. subst (λ (x : own.Access). FoundIn s x loans (Some c.loan)) (get_or-take n list c.access no_access (v'.most c e)) (v'.here c e);
+}
+  where
+    v' : FirstIn s (take n list) n loans r
+    v' = rw (length-take-le n list l) at v
+
+    below : (q : Option Conflict) → FirstIn s (take n list) n loans q → (k : ℕ) → k < before_conflict n q → k < n
+    below (Some c) w k h = let m = w.most c refl in omega arith
+    below None w k h = h
+
 -- ---- Part by part
 
 module _ {s : List ℕ} {table : List Loan} {scope : List ℕ} {p : Point} {accs : Accesses} where
@@ -85,7 +100,10 @@ module _ {s : List ℕ} {table : List Loan} {scope : List ℕ} {p : Point} {accs
   checked_most (Some k) w = let l = w.most k refl in omega arith
   checked_most None w = omega arith
 
-  module _ {many from : ℕ} (first : Option ℕ) (w : Checked s table scope p accs from first) (l : from < many) {part : Part} (g : Gathered table many scope p from part) {n : ℕ} (a : n ≡ unwrap_or first accs.count) {r : Option Conflict} (v : FirstIn s accs.list n (loans_in part) r) where
+  module _ {many from : ℕ} (first : Option ℕ) (w : Checked s table scope p accs from first) (l : from < many) {part : Part} (g : Gathered table many scope p from part) {n : ℕ} (a : n ≡ unwrap_or first accs.count) {r : Option Conflict} (size : n ≤ length accs.list) (found : FirstIn s (take n accs.list) (length (take n accs.list)) (loans_in part) r) where
+    v : FirstIn s accs.list n (loans_in part) r
+    v = first-taken r size found
+
     low : from ≤ part.next
     low = let o = g.on l in omega arith
 

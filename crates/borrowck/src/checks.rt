@@ -24,7 +24,8 @@ pub fn check_accesses(
     while from < many {
         let part = part_of(loans, scope, p, from);
         let below = first.unwrap_or(accesses.count);
-        if let Some(conflict) = search_in(s, part.loans, part.count, accesses.list, below) {
+        let lent = &part.loans[..part.count];
+        if let Some(conflict) = search_in(s, lent, &accesses.list[..below]) {
             first = Some(conflict.access);
         }
         from = part.next;
