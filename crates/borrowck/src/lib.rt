@@ -24,7 +24,7 @@ use checks::check_accesses;
 use loans::LoanTable;
 use record::Record;
 use repr::Path;
-use scope::some_in_scope;
+use scope::InScope;
 
 // How far an access reaches: the path itself, or all that it leads to.
 #[derive(Clone, Copy)]
@@ -75,7 +75,11 @@ pub struct Fault {
 pub fn verdict(input: &Record<'_>, loans: &LoanTable, scope: &[u32], p: usize) -> Option<Fault>
     ensures { (j : Job) (t : Table) → Holds input.now j → p < code_count j.blocks → Scoped input.now.bytes.now j loans.now scope.now p t → verdict_of result ≡ verdict_at j (graph_of j) t (loans_of (graph_of j)) p }
 {
-    if !some_in_scope(scope, p) {
+    if 1024 <= p {
+        return None;
+    }
+    let here = InScope { loans, scope, p };
+    if !here.any() {
         return None;
     }
     let (a, next) = input.action_at(p).ok()?;
@@ -83,7 +87,7 @@ pub fn verdict(input: &Record<'_>, loans: &LoanTable, scope: &[u32], p: usize) -
     if accesses.count == 0 {
         return None;
     }
-    let k = check_accesses(input.bytes, loans, scope, p, accesses)?;
+    let k = check_accesses(input.bytes, &here, accesses)?;
     Some(Fault {
         kind: accesses.list[k].fault,
         operand: k as u8,
