@@ -88,20 +88,19 @@ module _ {s : List ℕ} {x : own.Access} {from many : ℕ} where
     all = length-take-le (n + 1) list (omega (arith, g.size, few))
 
     module _ {d : repr.Path} (o : x ≡ writing d) where
-      pub sources_end : {m : ℕ} → m ≡ n → m ≡ min many 8 → WithSources s d from many (record { list = list; count = m + 1 })
-      sources_end {m} k z = rw k (record {
-        few = omega (arith, few);
-        all = all;
+      pub sources_end : {m : ℕ} {room : m + 1 ≤ 9} → m ≡ n → m ≡ min many 8 → WithSources s d from many (record { list = list; count = m + 1; room = room })
+      sources_end {m} {room} k z = record {
+        all = length-take-le (m + 1) list (omega (arith, g.size, room));
         says = λ qs over e l.
             let w = g.goes qs over e in
             let i : qs ≡ w.done = w.whole ∙ ap (λ (ys : List Path). w.done ++ ys) (none_of path (many - n) (drop at s) (omega (arith, k, z)) w.reads).0 ∙ append-nil w.done in
-            rw i (w.mean (Write (path_of s d)) (rw o (means-write s d)));
-      })
+            let x : Mean s (take (m + 1) list) (Write (path_of s d) ∷ map Read qs) = rw (k, i) (w.mean (Write (path_of s d)) (rw o (means-write s d))) in
+            x;
+      }
 
     module _ (z : n < many) {v : Result (repr.Path × Cursor) Refusal} (m : says (path_of s) s v ≡ path (drop at s)) where
-      pub sources_refused : {k : Refusal} {d : repr.Path} → v ≡ Err k → WithSources s d from many (record { list = list; count = n + 1 })
+      pub sources_refused : {k : Refusal} {d : repr.Path} {room : n + 1 ≤ 9} → v ≡ Err k → WithSources s d from many (record { list = list; count = n + 1; room = room })
       sources_refused i = record {
-        few = omega (arith, few);
         all = all;
         says = λ qs over e l. let w = g.goes qs over e in let f = first_of path (many - n) (drop at s) (λ h. omega arith) w.reads in absurd (clash (sym (told (says (path_of s) s) m i) ∙ f.first));
       }
@@ -134,18 +133,18 @@ module _ {s : List ℕ} {x : own.Access} {from many : ℕ} where
 
 module _ {s : List ℕ} {c : Cursor} {r : Accesses} where
   -- its accesses, as it is read
-  as_read : {a : Action} {x : syntax.Action} {over : List ℕ} → action_says s (Ok (a, c)) ≡ read x over → r.count ≤ 9 → length (accesses_in r) ≡ r.count → Mean s (accesses_in r) (accesses x) → AccessesOf s a c r
-  as_read e f l w = record { few = f; all = l; says = λ y over i o. carry (λ z o. Mean s (accesses_in r) (accesses z)) (sym e ∙ i) w }
+  as_read : {a : Action} {x : syntax.Action} {over : List ℕ} → action_says s (Ok (a, c)) ≡ read x over → length (accesses_in r) ≡ r.count → Mean s (accesses_in r) (accesses x) → AccessesOf s a c r
+  as_read e l w = record { all = l; says = λ y over i o. carry (λ z o. Mean s (accesses_in r) (accesses z)) (sym e ∙ i) w }
 
   pub action_idle : {a : Action} → (a ≡ action.Noop) ⊎ ((sup : RegionName) × (sub : RegionName) × (a ≡ action.Constraint sup sub)) → (r.count ≡ 0) × (accesses_in r ≡ []) → AccessesOf s a c r
   unfolding accesses
-  action_idle (inl e) w = rw e (as_read refl (omega (arith, w.0)) (ap length w.1 ∙ sym w.0) (rw w.1 none))
-  action_idle (inr (sup, sub, e)) w = rw e (as_read refl (omega (arith, w.0)) (ap length w.1 ∙ sym w.0) (rw w.1 none))
+  action_idle (inl e) w = rw e (as_read refl (ap length w.1 ∙ sym w.0) (rw w.1 none))
+  action_idle (inr (sup, sub, e)) w = rw e (as_read refl (ap length w.1 ∙ sym w.0) (rw w.1 none))
 
   module _ {a : Action} where
     module _ {x : own.Access} (w : (r.count ≡ 1) × (accesses_in r ≡ x ∷ [])) where
       single : {y : syntax.Action} {b : Access} {over : List ℕ} → action_says s (Ok (a, c)) ≡ read y over → accesses y ≡ b ∷ [] → Means s x b → AccessesOf s a c r
-      single e k m = as_read e (omega (arith, w.0)) (ap length w.1 ∙ sym w.0) (rw (w.1, k) (more m none))
+      single e k m = as_read e (ap length w.1 ∙ sym w.0) (rw (w.1, k) (more m none))
 
       pub action_use : {q : repr.Path} → a ≡ action.Use q → x ≡ reading q → AccessesOf s a c r
       unfolding accesses
@@ -161,7 +160,7 @@ module _ {s : List ℕ} {c : Cursor} {r : Accesses} where
 
     module _ {x y : own.Access} (w : (r.count ≡ 2) × (accesses_in r ≡ x ∷ y ∷ [])) {d : repr.Path} (i : x ≡ writing d) where
       pair : {z : syntax.Action} {b : Access} {over : List ℕ} → action_says s (Ok (a, c)) ≡ read z over → accesses z ≡ Write (path_of s d) ∷ b ∷ [] → Means s y b → AccessesOf s a c r
-      pair e k m = as_read e (omega (arith, w.0)) (ap length w.1 ∙ sym w.0) (rw (w.1, k) (more {x = x} {a = Write (path_of s d)} (rw i (means-write s d)) (more m none)))
+      pair e k m = as_read e (ap length w.1 ∙ sym w.0) (rw (w.1, k) (more {x = x} {a = Write (path_of s d)} (rw i (means-write s d)) (more m none)))
 
       pub action_assign : {q : repr.Path} → a ≡ action.Assign d q → y ≡ reading q → AccessesOf s a c r
       unfolding accesses
@@ -178,7 +177,6 @@ module _ {s : List ℕ} {c : Cursor} {r : Accesses} where
     pub action_init : {d : repr.Path} {n : ℕ} → a ≡ action.Init d n → WithSources s d c.at n r → AccessesOf s a c r
     unfolding accesses done
     action_init {d} {n} e w = rw e (record {
-      few = w.few;
       all = w.all;
       says = λ x over i l.
           let y = then (items n path) _ (rest s c) i in

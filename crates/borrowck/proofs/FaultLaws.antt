@@ -2,10 +2,10 @@
 use mathlib.Core.Path.{◌≡◌, refl, sym, ap, subst, ◌∙◌}
 use mathlib.Core.Bool.{Bool, true, false, ◌||◌, or-true}
 use mathlib.Core.List.{List, [], ◌∷◌, ◌++◌, map}
-use Prim.Native.Nat.{ℕ, zero, suc, ◌+◌, ◌-◌, ◌≤◌, ◌<◌, min}
+use Prim.Native.Nat.{ℕ, zero, suc, ◌+◌, ◌-◌, ◌≤◌, ◌<◌}
 use native.Mathlib.Omega.{arith}
-use lib.ListN.{length, get_or}
-use lib.Seq.{get_or-take}
+use lib.ListN.{length, get_or, take}
+use lib.Seq.{get_or-take, length-take-le}
 use lib.Dec.{T}
 use Rattle.nll_spec.specs.Lists.{any}
 use Rattle.nll_spec.specs.Fixpoint.{Table}
@@ -32,7 +32,7 @@ use Rattle.loans.specs.declared.LoanTable.{LoanTable}
 use Rattle.std.specs.Prelude.{Option, Some, None, Result, Ok}
 use Rattle.std.specs.Option.{unwrap_or}
 use Rattle.std.proofs.Common.{rules}
-use Rattle.borrowck.specs.Search.{meets, FoundIn, nth_access, before_conflict, FirstIn}
+use Rattle.borrowck.specs.Search.{meets, FoundIn, no_access, nth_access, before_conflict, FirstIn}
 use Rattle.borrowck.specs.Accesses.{kind_number, Means, accesses_in, Mean, none, more, AccessesOf}
 use Rattle.borrowck.specs.Scope.{loans_in, is_in, held_loans, SomeIn, Gathered}
 use Rattle.borrowck.specs.Faults.{verdict_of, Scoped, hits, Known, Checked}
@@ -77,6 +77,21 @@ module _ {s : List ℕ} {loans : List Loan} {x : own.Access} where
   found-none : FoundIn s x loans None → (j : Job) → ((i : ℕ) → i < length loans → ShortestOf j (path_of s (nth_loan loans i).path) (nth_loan loans i).shortest) → any (hits j s x) loans ≡ false
   found-none w j z = any_nowhere (hits j s x) no_loan loans (w.says j z)
 
+-- what the search finds among the first n accesses
+first-taken : {s : List ℕ} {list : List own.Access} {n : ℕ} {loans : List Loan} (r : Option Conflict) → n ≤ length list → FirstIn s (take n list) (length (take n list)) loans r → FirstIn s list n loans r
+first-taken {s} {list} {n} {loans} r l v = record {
+  before = λ k h. subst (λ (x : own.Access). FoundIn s x loans None) (get_or-take n list k no_access (below r v' k h)) (v'.before k h);
+  most = v'.most;
+  here = λ c e. subst (λ (x : own.Access). FoundIn s x loans (Some c.loan)) (get_or-take n list c.access no_access (v'.most c e)) (v'.here c e);
+}
+  where
+    v' : FirstIn s (take n list) n loans r
+    v' = rw (length-take-le n list l) at v
+
+    below : (q : Option Conflict) → FirstIn s (take n list) n loans q → (k : ℕ) → k < before_conflict n q → k < n
+    below (Some c) w k h = let m = w.most c refl in omega arith
+    below None w k h = h
+
 -- ---- Part by part
 
 module _ {s : List ℕ} {table : List Loan} {scope : List ℕ} {p : Point} {accs : Accesses} where
@@ -85,7 +100,10 @@ module _ {s : List ℕ} {table : List Loan} {scope : List ℕ} {p : Point} {accs
   checked_most (Some k) w = let l = w.most k refl in omega arith
   checked_most None w = omega arith
 
-  module _ {many from : ℕ} (first : Option ℕ) (w : Checked s table scope p accs from first) (l : from < many) {part : Part} (g : Gathered table many scope p from part) {n : ℕ} (a : n ≡ unwrap_or first accs.count) {r : Option Conflict} (v : FirstIn s accs.list n (loans_in part) r) where
+  module _ {many from : ℕ} (first : Option ℕ) (w : Checked s table scope p accs from first) (l : from < many) {part : Part} (g : Gathered table many scope p from part) {n : ℕ} (a : n ≡ unwrap_or first accs.count) {r : Option Conflict} (size : n ≤ length accs.list) (found : FirstIn s (take n accs.list) (length (take n accs.list)) (loans_in part) r) where
+    v : FirstIn s accs.list n (loans_in part) r
+    v = first-taken r size found
+
     low : from ≤ part.next
     low = let o = g.on l in omega arith
 
@@ -167,9 +185,12 @@ module _ (input : Record) (lent : LoanTable) (scope : List ℕ) (p : Point) wher
   abbrev Says : Option Fault → Type 0
   Says r = (j : Job) (t : Table) → Holds input j → p < code_count j.blocks → Scoped input.bytes.now j lent scope p t → verdict_of r ≡ verdict_at j (graph_of j) t (loans_of (graph_of j)) p
 
+  pub verdict_far : 1024 ≤ p → Says None
+  verdict_far h j t w l z = absurd (omega (arith, h, l, w.few))
+
   pub verdict_free : {b : Bool} → SomeIn scope p b → b ≡ false → Says None
   unfolding verdict_at
-  verdict_free o i j t w l z = let xs = accesses (action_at (graph_of j) p) in sym (ap (λ (free : List spec.Loan). first_fault j free 0 xs) (none-at z o i (omega (arith, w.few))) ∙ first_free j 0 xs)
+  verdict_free o i j t w l z = let xs = accesses (action_at (graph_of j) p) in sym (ap (λ (free : List spec.Loan). first_fault j free 0 xs) (none-at z o i) ∙ first_free j 0 xs)
 
   module _ {v : Result (Action × Cursor) Refusal} (m : (j : Job) → Holds input j → p < code_count j.blocks → Acts input.bytes.now (action_at (graph_of j) p) v) where
     module _ {a : Action} {c : Cursor} (e : v ≡ Ok (a, c)) {accs : Accesses} (o : AccessesOf input.bytes.now a c accs) where
@@ -177,7 +198,7 @@ module _ (input : Record) (lent : LoanTable) (scope : List ℕ) (p : Point) wher
       unfolding verdict_at
       verdict_idle i j t w l z = sym (fault_none input.bytes.now j (in_scope_at t (loans_of (graph_of j)) p) (mean_at input p m e o j w l) 0 (λ k n. absurd (omega (arith, i, o.all))))
 
-      module _ {r : Option ℕ} (y : Checked input.bytes.now lent.loans scope p accs (min lent.count 128) r) where
+      module _ {r : Option ℕ} (y : Checked input.bytes.now lent.loans scope p accs lent.count r) where
         module _ (j : Job) (t : Table) (z : Scoped input.bytes.now j lent scope p t) where
           abbrev s : List ℕ
           s = input.bytes.now
@@ -186,14 +207,12 @@ module _ (input : Record) (lent : LoanTable) (scope : List ℕ) (p : Point) wher
           given = in_scope_at t (loans_of (graph_of j)) p
 
           -- of the accesses, as the check has it
-          tested : (n : ℕ) → n < accs.count → some s j given (nth_access (accesses_in accs) n) ≡ any (hits j s (nth_access accs.list n)) (held_loans lent.loans scope p 0 (min lent.count 128))
+          tested : (n : ℕ) → n < accs.count → some s j given (nth_access (accesses_in accs) n) ≡ any (hits j s (nth_access accs.list n)) (held_loans lent.loans scope p 0 lent.count)
           tested n u =
-              let f = z.loans.few in
-              let b : min lent.count 128 ≡ lent.count = omega arith in
-              rw (b, get_or-take accs.count accs.list n (nth_access [] 0) u, sym (same_at z)) (any-map (meets j (nth_access accs.list n).depth (nth_access accs.list n).mode (path_of s (nth_access accs.list n).path)) (loan_of s) (held_loans lent.loans scope p 0 lent.count))
+              rw (get_or-take accs.count accs.list n (nth_access [] 0) u, sym (same_at z)) (any-map (meets j (nth_access accs.list n).depth (nth_access accs.list n).mode (path_of s (nth_access accs.list n).path)) (loan_of s) (held_loans lent.loans scope p 0 lent.count))
 
-          known : Known j s lent.loans (min lent.count 128)
-          known n u = known_at z n (omega arith)
+          known : Known j s lent.loans lent.count
+          known n u = known_at z n u
 
         pub verdict_clear : r ≡ None → Says None
         unfolding verdict_at

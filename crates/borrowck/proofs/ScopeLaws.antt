@@ -126,8 +126,8 @@ module _ {s : List ℕ} {j : Job} {lent : LoanTable} {scope : List ℕ} {p : Poi
       ∙ rw e (select-same (is_in scope p) (λ i. holds t i p) (λ i. loan_of s (nth_loan lent.loans i)) (loan_number (loans_of (graph_of j))) 0 lent.count (λ i o. z.bits i (omega arith)) (λ i o. z.loans.same i (omega arith)))
       ∙ ap (λ n. map (loan_number (loans_of (graph_of j))) (select (λ i. holds t i p) (count_from 0 n))) z.loans.count
 
-  pub none-at : {b : Bool} → SomeIn scope p b → b ≡ false → p < 1024 → in_scope_at t (loans_of (graph_of j)) p ≡ []
-  none-at w e l = sym same_at ∙ ap (λ (ns : List ℕ). map (loan_of s) (map (nth_loan lent.loans) ns)) (select-none (is_in scope p) 0 (lent.count - 0) λ i o. let f = z.loans.few in w.none e l i (omega arith))
+  pub none-at : {b : Bool} → SomeIn scope p b → b ≡ false → in_scope_at t (loans_of (graph_of j)) p ≡ []
+  none-at w e = sym same_at ∙ ap (λ (ns : List ℕ). map (loan_of s) (map (nth_loan lent.loans) ns)) (select-none (is_in scope p) 0 (lent.count - 0) λ i o. let f = z.loans.few in w.none e i (omega arith))
 
   pub known_at : Known j s lent.loans lent.count
   known_at i l = subst (λ (x : spec.Loan). ShortestOf j x.path (nth_loan lent.loans i).shortest) (sym (z.loans.same i l)) (z.loans.shortest i l)

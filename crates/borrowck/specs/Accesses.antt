@@ -67,12 +67,10 @@ pub data Mean (s : List ℕ) : List own.Access → List Access → Type 0 where
 
 -- The answer is the write of the destination and a read of each path that is read there, where there are at most 8.
 pub record WithSources (s : List ℕ) (dest : repr.Path) (from many : ℕ) (r : Accesses) : Type 0 where
-  pub few : r.count ≤ 9
   pub all : length (accesses_in r) ≡ r.count
   pub says : (qs : List Path) (over : List ℕ) → items many path (drop from s) ≡ read qs over → many ≤ 8 → Mean s (accesses_in r) (Write (path_of s dest) ∷ map Read qs)
 
 -- The answer is the accesses of the action, where there are at most 9.
 pub record AccessesOf (s : List ℕ) (a : Action) (next : Cursor) (r : Accesses) : Type 0 where
-  pub few : r.count ≤ 9
   pub all : length (accesses_in r) ≡ r.count
   pub says : (x : syntax.Action) (over : List ℕ) → action_says s (Ok (a, next)) ≡ read x over → length (accesses x) ≤ 9 → Mean s (accesses_in r) (accesses x)

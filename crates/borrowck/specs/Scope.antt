@@ -1,5 +1,5 @@
 -- The loans in scope at a point, in parts.
-use Rattle.std.specs.Prelude.{◌≡◌, Bool, true, false, List, map, ℕ, ◌+◌, ◌-◌, ◌*◌, ◌≤◌, ◌<◌, take}
+use Rattle.std.specs.Prelude.{◌≡◌, Bool, false, List, map, ℕ, ◌+◌, ◌-◌, ◌*◌, ◌≤◌, ◌<◌, take}
 use Rattle.nll_spec.specs.Lists.{select, count_from}
 use Rattle.nll_spec.specs.Syntax.{Point}
 use Rattle.bit_set.specs.Bits.{has}
@@ -21,12 +21,10 @@ held_loans table scope p from to = map (nth_loan table) (select (is_in scope p) 
 
 -- Where the answer is no, no loan is in scope at p.
 pub record SomeIn (scope : List ℕ) (p : Point) (r : Bool) : Type 0 where
-  pub here : r ≡ true → p < 1024
-  pub none : r ≡ false → p < 1024 → (i : ℕ) → i < 128 → is_in scope p i ≡ false
+  pub none : r ≡ false → (i : ℕ) → i < 128 → is_in scope p i ≡ false
 
 -- The part has the loans in scope from number `from` on and below its next, which is no more than there are.
 pub record Gathered (table : List Loan) (many : ℕ) (scope : List ℕ) (p : Point) (from : ℕ) (r : Part) : Type 0 where
-  pub few : r.count ≤ 16
   pub most : from ≤ many → r.next ≤ many
   pub on : from < many → from < r.next
   pub are : loans_in r ≡ held_loans table scope p from r.next

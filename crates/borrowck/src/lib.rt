@@ -4,6 +4,7 @@ mod accesses;
 mod checks;
 mod scope;
 mod search;
+mod single;
 
 ghost use Rattle.std.specs.Prelude.{◌≡◌, ◌*◌, ◌+◌, ◌<◌, ◌≤◌, length};
 ghost use Rattle.nll_spec.specs.Fixpoint.{Table, holds};
@@ -18,12 +19,12 @@ ghost use Rattle.bit_set.specs.Bits.{has};
 ghost use Rattle.loans.specs.Loans.{LoansAt};
 ghost use Rattle.borrowck.specs.Faults.{verdict_of, Scoped, bytes_to, Judged};
 
-use accesses::accesses_of;
+use accesses::Accesses;
 use checks::check_accesses;
 use loans::LoanTable;
 use record::Record;
 use repr::Path;
-use scope::some_in_scope;
+use scope::InScope;
 
 // How far an access reaches: the path itself, or all that it leads to.
 #[derive(Clone, Copy)]
@@ -74,15 +75,19 @@ pub struct Fault {
 pub fn verdict(input: &Record<'_>, loans: &LoanTable, scope: &[u32], p: usize) -> Option<Fault>
     ensures { (j : Job) (t : Table) → Holds input.now j → p < code_count j.blocks → Scoped input.now.bytes.now j loans.now scope.now p t → verdict_of result ≡ verdict_at j (graph_of j) t (loans_of (graph_of j)) p }
 {
-    if !some_in_scope(scope, p) {
+    if 1024 <= p {
+        return None;
+    }
+    let here = InScope { loans, scope, p };
+    if !here.any() {
         return None;
     }
     let (a, next) = input.action_at(p).ok()?;
-    let accesses = accesses_of(input.bytes, a, next);
+    let accesses = Accesses::of_action(input.bytes, a, next);
     if accesses.count == 0 {
         return None;
     }
-    let k = check_accesses(input.bytes, loans, scope, p, accesses)?;
+    let k = check_accesses(input.bytes, &here, accesses)?;
     Some(Fault {
         kind: accesses.list[k].fault,
         operand: k as u8,

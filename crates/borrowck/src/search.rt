@@ -1,5 +1,5 @@
 // The search for a loan that conflicts with an access.
-ghost use Rattle.std.specs.Prelude.{◌≡◌, ◌≤◌, ◌<◌, take};
+ghost use Rattle.std.specs.Prelude.{◌≡◌, length};
 ghost use Rattle.nll_spec.specs.Syntax.{Job};
 ghost use Rattle.repr.specs.Reading.{borrow_kind_of, path_of};
 ghost use Rattle.env.specs.Prefixes.{ShortestOf};
@@ -74,20 +74,12 @@ pub fn search(s: &[u8], loans: &[Loan], access: Access) -> Option<usize>
     }
 }
 
-// The first of the accesses that conflicts with one of the loans; its arrays come by value.
-pub fn search_in(
-    s: &[u8],
-    loans: [Loan; 16],
-    n: usize,
-    accesses: [Access; 9],
-    many: usize,
-) -> Option<Conflict>
-    requires { (n ≤ 16) × (many ≤ 9) }
-    ensures { FirstIn s.now accesses many (take n loans) result }
+// The first of the accesses that conflicts with one of the loans.
+pub fn search_in(s: &[u8], loans: &[Loan], accesses: &[Access]) -> Option<Conflict>
+    ensures { FirstIn s.now accesses.now (length accesses.now) loans.now result }
 {
-    let lent = &loans[..n];
-    for (k, &access) in accesses[..many].iter().enumerate() {
-        if let Some(loan) = search(s, lent, access) {
+    for (k, &access) in accesses.iter().enumerate() {
+        if let Some(loan) = search(s, loans, access) {
             return Some(Conflict { access: k, loan });
         }
     }

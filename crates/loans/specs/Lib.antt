@@ -1,2 +1,3 @@
 -- The loans of a job.
 pub mod Loans
+pub mod Lends

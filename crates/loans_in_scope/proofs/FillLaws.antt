@@ -19,7 +19,8 @@ use Rattle.std.specs.Prelude.{Option}
 use Rattle.loans.specs.Loans.{nth_loan, loan_of}
 use Rattle.loans.specs.declared.Loan.{Loan}
 use Rattle.loans_in_scope.specs.Gains.{Gains, tables, Empty, Cell, If, Below}
-use Rattle.loans_in_scope.specs.Scope.{paths_of, killed, inside_of, loan_in, given_to, RegionsTo, starts, keeps, KeptOf, Begun, Kept, PointsFilled, job_bits}
+use Rattle.loans_in_scope.specs.Scope.{paths_of, killed, inside_of, starts, job_bits}
+use Rattle.loans_in_scope.specs.Filling.{loan_in, given_to, RegionsTo, keeps, KeptOf, Begun, Kept, PointsFilled}
 use Rattle.loans_in_scope.specs.declared.Setup.{Setup}
 use Rattle.loans_in_scope.proofs.GainsLaws.{on_as, cells_more, points-more, filled-has}
 use Rattle.loans_in_scope.proofs.LoanLaws.{inside_is}
@@ -68,7 +69,7 @@ module _ (v : Setup) (region : List ℕ) {ws : List ℕ} where
 
 -- ---- The tables
 
-module _ {v : Setup} {start₀ pass₀ region₀ start pass region : List ℕ} (empty : Empty (tables start₀ pass₀ region₀)) (few : v.loans.now.count ≤ 128) where
+module _ {v : Setup} {start₀ pass₀ region₀ start pass region : List ℕ} (empty : Empty (tables start₀ pass₀ region₀)) where
   pub all-filled : Begun v v.loans.now.count start₀ start → Gains (RegionsTo v v.loans.now.count) region₀ region → KeptTo v region v.code pass₀ pass
       → PointsFilled v (tables start₀ pass₀ region₀) (tables start pass region)
   all-filled a b c = record {
@@ -84,4 +85,4 @@ module _ {v : Setup} {start₀ pass₀ region₀ start pass region : List ℕ} (
           → keeps j v region (overwritten (action_at (graph_of j) q)) q i ≡ (job_bits j sets q i).pass
       passing {j} {sets} g q i l m n =
           ap₂ (λ (x : Bool) (y : loans.Loan). x && not (killed j (overwritten (action_at (graph_of j) q)) y))
-          (filled-has {f = λ p k. inside_of v.words.now v.width (loan_in v k).region p} empty.region b q i l m (omega (arith, m, few)) ∙ inside_is v g i q m n) (g.loans.same i m)
+          (filled-has {f = λ p k. inside_of v.words.now v.width (loan_in v k).region p} empty.region b q i l m (omega (arith, m, v.loans.now.room)) ∙ inside_is v g i q m n) (g.loans.same i m)

@@ -33,7 +33,8 @@ use Rattle.repr.proofs.SpellLaws.{done_back, then}
 use Rattle.loans.specs.Loans.{nth_loan}
 use Rattle.loans.specs.declared.Loan.{Loan}
 use Rattle.loans_in_scope.specs.Gains.{Gains, Column}
-use Rattle.loans_in_scope.specs.Scope.{overwritten_by, paths_of, inside_of, loan_in, given_to, RegionTo, RegionsTo, starts, Begins, Begun}
+use Rattle.loans_in_scope.specs.Scope.{overwritten_by, paths_of, inside_of, starts}
+use Rattle.loans_in_scope.specs.Filling.{loan_in, given_to, RegionTo, RegionsTo, Begins, Begun}
 use Rattle.loans_in_scope.specs.declared.Setup.{Setup}
 use Rattle.loans_in_scope.proofs.GainsLaws.{on_as, columns_more}
 

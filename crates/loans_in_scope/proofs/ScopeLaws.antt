@@ -25,7 +25,8 @@ use Rattle.flow.specs.Flows.{bit_at, FlowSays}
 use Rattle.flow.specs.declared.Direction.TheVariants.{Forward}
 use Rattle.graph.proofs.EntryLaws.{edge_next, next_edge}
 use Rattle.loans_in_scope.specs.Gains.{Gains, Tables, tables, Empty, Filled, Below, Rows, Masked}
-use Rattle.loans_in_scope.specs.Scope.{killed, job_bits, given_to, PointsFilled, says_of}
+use Rattle.loans_in_scope.specs.Scope.{killed, job_bits}
+use Rattle.loans_in_scope.specs.Filling.{given_to, PointsFilled, says_of}
 use Rattle.loans_in_scope.specs.declared.Setup.{Setup}
 use Rattle.loans_in_scope.proofs.GainsLaws.{filled-has, masked_has}
 use Rattle.loans_in_scope.proofs.LoanLaws.{successors-of}
@@ -46,18 +47,18 @@ killed-is : (j : Job) (p : Point) (loan : loans.Loan) → kills j (action_at (gr
 unfolding kills
 killed-is j p loan = refl
 
-module _ {v : Setup} (is_code : v.code ≡ v.graph.now.input.head.code) {blank : Tables} {start pass region leaves none u scope : List ℕ} (blanks : Empty blank) (filled : PointsFilled v blank (tables start pass region))
+module _ {v : Setup} {blank : Tables} {start pass region leaves none u scope : List ℕ} (blanks : Empty blank) (filled : PointsFilled v blank (tables start pass region))
     (flows : (g : Graph) → Edges g v.graph.now.first v.graph.now.succ → v.code ≡ g.code → FlowSays g Forward pass start leaves) (ws : List ℕ) (size : 4 * v.code ≤ length ws) (empty : none ≡ cleared ws 0 (4 * v.code))
     (gathered : Gains (Rows leaves v.code v.graph.now.first v.graph.now.succ v.code) none u) (masked : Masked region u (4 * v.code) scope) where
   module _ (j : Job) (sets : Table) (g : given_to v j sets) (e : Edges (graph_of j) v.graph.now.first v.graph.now.succ) (i : ℕ) (l : i < v.loans.now.count) where
     same_code : v.code ≡ (graph_of j).code
-    same_code = is_code ∙ g.layout.code ∙ sym (code-count j)
+    same_code = v.whole ∙ g.layout.code ∙ sym (code-count j)
 
     few : i < 128
     few = omega (arith, g.loans.few)
 
     bits : Filled (Below v.code v.loans.now.count) (job_bits j sets) blank (tables start pass region)
-    bits = filled.bits j sets g (omega (arith, is_code, g.layout.code))
+    bits = filled.bits j sets g (omega (arith, v.whole, g.layout.code))
 
     starts : (p : Point) → p < (graph_of j).code → has start (bit_at p i) ≡ (eqb (loan_number (loans_of (graph_of j)) i).point p && not (kills j (action_at (graph_of j) p) (loan_number (loans_of (graph_of j)) i)))
     starts p m = filled-has {f = λ p i. (job_bits j sets p i).start} blanks.start bits.start p i (omega (arith, same_code)) l few

@@ -1,2 +1,3 @@
 pub mod Gains
 pub mod Scope
+pub mod Filling

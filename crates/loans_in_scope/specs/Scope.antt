@@ -1,5 +1,5 @@
 -- The loans in scope at each point, in four words a point.
-use Rattle.std.specs.Prelude.{◌≡◌, Bool, true, not, ◌&&◌, List, [], ◌∷◌, ℕ, ◌*◌, ◌+◌, ◌<◌, ◌≤◌, length, T, eqb, Option, Some, None}
+use Rattle.std.specs.Prelude.{◌≡◌, Bool, not, ◌&&◌, List, [], ◌∷◌, ℕ, ◌*◌, ◌+◌, ◌<◌, ◌≤◌, length, T, eqb, Option, Some, None}
 use Rattle.nll_spec.specs.Lists.{any}
 use Rattle.nll_spec.specs.Fixpoint.{Table, holds}
 use Rattle.nll_spec.specs.Syntax as syntax
@@ -21,11 +21,9 @@ use Rattle.record.specs.Layout.{Holds}
 use Rattle.record.specs.declared.Record.{Record}
 use Rattle.graph.specs.Tables.{Edges}
 use Rattle.graph.specs.declared.tables.FuncGraph.{FuncGraph}
-use Rattle.flow.specs.Flows.{bit_at}
-use Rattle.loans.specs.Loans.{nth_loan, loan_of, LoansAt}
+use Rattle.loans.specs.Loans.{LoansAt}
 use Rattle.loans.specs.declared.Loan.{Loan}
-use Rattle.loans_in_scope.specs.Gains.{Bits, Tables, Gains, Filled, Cells, Column, Below}
-use Rattle.loans_in_scope.specs.declared.Setup.{Setup}
+use Rattle.loans_in_scope.specs.Gains.{Bits}
 
 -- ---- What is overwritten
 
@@ -85,52 +83,3 @@ pub record Given (input : Record) (words : List ℕ) (width : ℕ) (lent : List 
 pub record ScopeSays (graph : FuncGraph) (words : List ℕ) (width : ℕ) (lent : List Loan) (count : ℕ) (scope : List ℕ) : Type 0 where
   pub bits : (j : Job) (sets : Table) → Given graph.input words width lent count j sets → Edges (graph_of j) graph.first graph.succ → (p : Point) (i : ℕ) → p < code_count j.blocks → i < count
       → has scope (word_bits * (4 * p) + i) ≡ holds (scope_table j (graph_of j) sets (loans_of (graph_of j))) i p
-
--- ---- The same of what the loans in scope are computed from
-
-abbrev pub Small : Setup → Type 0
-Small u = (u.width ≤ 32) × (u.loans.now.count ≤ 128) × (u.code ≤ 1024)
-
-abbrev pub given_to : Setup → Job → Table → Type 0
-given_to u j sets = Given u.graph.now.input u.words.now u.width u.loans.now.loans u.loans.now.count j sets
-
-abbrev pub says_of : Setup → List ℕ → Type 0
-says_of u scope = ScopeSays u.graph.now u.words.now u.width u.loans.now.loans u.loans.now.count scope
-
--- loan i, as `nll_spec` has it
-abbrev pub loan_in : Setup → ℕ → loans.Loan
-loan_in u i = loan_of u.graph.now.input.bytes.now (nth_loan u.loans.now.loans i)
-
--- number i of the points that region r has
-abbrev pub RegionTo : Setup → ℕ → ℕ → Point → ℕ → Type 0
-RegionTo u r i p k = Column u.code i p k × (inside_of u.words.now u.width r p ≡ true)
-
--- the first c loans at the points that their regions have
-abbrev pub RegionsTo : Setup → ℕ → Point → ℕ → Type 0
-RegionsTo u c p i = Below u.code c p i × (inside_of u.words.now u.width (loan_in u i).region p ≡ true)
-
--- the set of a point that overwrites ds has loan i, which is not killed there
-abbrev pub keeps : Job → Setup → List ℕ → List syntax.Path → Point → ℕ → Bool
-keeps j u region ds p i = has region (bit_at p i) && not (killed j ds (loan_in u i))
-
--- those of the first n loans at point p
-abbrev pub KeptOf : Job → Setup → List ℕ → List syntax.Path → Point → ℕ → Point → ℕ → Type 0
-KeptOf j u region ds p n q i = Cells p n q i × (keeps j u region ds q i ≡ true)
-
--- Loan i came to the set of the point where it starts, if that is a point of a block.
-pub record Begins (u : Setup) (loan : Loan) (i : ℕ) (ws ws' : List ℕ) : Type 0 where
-  pub bits : (j : Job) → Holds u.graph.now.input j → u.code ≤ code_count j.blocks
-      → Gains (λ p k. Column u.code i p k × (starts j (overwritten (action_at (graph_of j) p)) (loan_of u.graph.now.input.bytes.now loan) p ≡ true)) ws ws'
-
--- The same for the first c loans.
-pub record Begun (u : Setup) (c : ℕ) (ws ws' : List ℕ) : Type 0 where
-  pub bits : (j : Job) → Holds u.graph.now.input j → u.code ≤ code_count j.blocks
-      → Gains (λ p i. Below u.code c p i × (starts j (overwritten (action_at (graph_of j) p)) (loan_in u i) p ≡ true)) ws ws'
-
--- The loans that may pass point p came to its set.
-pub record Kept (u : Setup) (region : List ℕ) (p : Point) (ws ws' : List ℕ) : Type 0 where
-  pub bits : (j : Job) → Holds u.graph.now.input j → p < code_count j.blocks → Gains (KeptOf j u region (overwritten (action_at (graph_of j) p)) p u.loans.now.count) ws ws'
-
--- The bits of each loan at each point came to the tables.
-pub record PointsFilled (u : Setup) (a b : Tables) : Type 0 where
-  pub bits : (j : Job) (sets : Table) → given_to u j sets → u.code ≤ code_count j.blocks → Filled (Below u.code u.loans.now.count) (job_bits j sets) a b

@@ -9,7 +9,7 @@ ghost use Rattle.nll_spec.specs.Loans.{overwritten};
 ghost use Rattle.record.specs.Layout.{Holds};
 ghost use Rattle.loans.specs.Loans.{loan_of};
 ghost use Rattle.loans_in_scope.specs.Gains.{Gains, tables, Sized, Empty, Cell, If, WordTo, Within, Onto, Row, Rows, Masked};
-ghost use Rattle.loans_in_scope.specs.Scope.{overwritten_by, paths_of, killed, Small, RegionTo, RegionsTo, Begins, Begun, KeptOf, Kept, PointsFilled, says_of, ScopeSays};
+ghost use Rattle.loans_in_scope.specs.Scope.{overwritten_by, paths_of, killed, ScopeSays};
 
 use env::prefixes::is_prefix;
 use flow::Direction;
@@ -26,6 +26,9 @@ struct Setup<'a> {
     width: usize,
     loans: &'a LoanTable,
     code: usize,
+    ghost narrow: { width ≤ 32 },
+    ghost few: { code ≤ 1024 },
+    ghost whole: { code ≡ graph.now.input.head.code },
 }
 
 // The path that an action overwrites.
@@ -91,7 +94,7 @@ fn keep_row(region: &[u32], p: usize, pass: &mut [u32])
     requires { (p < 1024) × (4 * p + 4 ≤ length region.now) × (4 * p + 4 ≤ length pass.old) }
     ensures { Gains (Onto region.now (p + 1) p p) pass.old pass.new }
 {
-    bit_slice::insert_bits_from_slice(pass, 4 * p, region, 4 * p, 4);
+    bit_set::union_from(pass, 4 * p, region, 4 * p, 4);
 }
 
 // Puts what leaves point p into the set of point q, if that is a point of a block.
@@ -101,7 +104,7 @@ fn onto(code: usize, from: &[u32], p: usize, q: u16, scope: &mut [u32])
 {
     let at = usize::from(q);
     if at < code {
-        bit_slice::insert_bits_from_slice(scope, 4 * at, from, 4 * p, 4);
+        bit_set::union_from(scope, 4 * at, from, 4 * p, 4);
     }
 }
 
@@ -136,9 +139,11 @@ fn mask(by: &[u32], n: usize, sets: &mut [u32])
 }
 
 impl<'a> Setup<'a> {
+    ghost use Rattle.loans_in_scope.specs.Filling.{RegionTo, RegionsTo, Begins, Begun, KeptOf, Kept, PointsFilled, says_of};
+
     // Puts number i into the sets of the points that the region has.
     fn put_region(&self, region: RegionName, i: usize, sets: &mut [u32])
-        requires { Small self.now × (4 * self.now.code ≤ length sets.old) × (i < 128) }
+        requires { (4 * self.now.code ≤ length sets.old) × (i < 128) }
         ensures { Gains (RegionTo self.now region.0 i) sets.old sets.new }
     {
         let start = usize::from(region.0) * self.width;
@@ -166,7 +171,7 @@ impl<'a> Setup<'a> {
 
     // Puts each loan into the set of the point where it starts, and into the sets of the points of its region.
     fn enter(&self, start: &mut [u32], region: &mut [u32])
-        requires { Small self.now × (4 * self.now.code ≤ length start.old) × (4 * self.now.code ≤ length region.old) }
+        requires { (4 * self.now.code ≤ length start.old) × (4 * self.now.code ≤ length region.old) }
         ensures { Begun self.now self.now.loans.now.count start.old start.new
             × Gains (RegionsTo self.now self.now.loans.now.count) region.old region.new }
     {
@@ -178,7 +183,7 @@ impl<'a> Setup<'a> {
 
     // Puts each loan into the set of point p, which overwrites d, if its region has the point and it is not killed.
     fn keep_each(&self, region: &[u32], d: Option<Path>, p: usize, pass: &mut [u32])
-        requires { Small self.now × (p < 1024) × (4 * p + 4 ≤ length pass.old) }
+        requires { (p < 1024) × (4 * p + 4 ≤ length pass.old) }
         ensures { (j : Job) → Gains (KeptOf j self.now region.now (paths_of self.now.graph.now.input.bytes.now d) p self.now.loans.now.count) pass.old pass.new }
     {
         let input = &self.graph.input;
@@ -190,7 +195,7 @@ impl<'a> Setup<'a> {
 
     // Puts each loan that may pass point p into its set.
     fn keep_all(&self, region: &[u32], p: usize, pass: &mut [u32])
-        requires { Small self.now × (p < 1024) × (4 * p + 4 ≤ length region.now) × (4 * p + 4 ≤ length pass.old) × Within self.now.loans.now.count region.now }
+        requires { (p < 1024) × (4 * p + 4 ≤ length region.now) × (4 * p + 4 ≤ length pass.old) × Within self.now.loans.now.count region.now }
         ensures { Kept self.now region.now p pass.old pass.new }
     {
         if !bit_slice::some_set(region, 4 * p, 4) {
@@ -206,7 +211,7 @@ impl<'a> Setup<'a> {
     // Puts each loan into the set of the point where it starts, into those of the points that it may pass, and into those of its region's points. All sets
     // are empty before.
     fn fill(&self, start: &mut [u32], pass: &mut [u32], region: &mut [u32])
-        requires { Small self.now × Sized self.now.code (tables start.old pass.old region.old) × Empty (tables start.old pass.old region.old) }
+        requires { Sized self.now.code (tables start.old pass.old region.old) × Empty (tables start.old pass.old region.old) }
         ensures { PointsFilled self.now (tables start.old pass.old region.old) (tables start.new pass.new region.new) }
     {
         self.enter(start, region);
@@ -218,8 +223,8 @@ impl<'a> Setup<'a> {
     // Puts the loans in scope at each point into its set, by tables of N words.
     #[inline(never)]
     fn with_tables<const N: usize>(&self, scope: &mut [u32])
-        requires { Small self.now × (4 * self.now.code ≤ N) × (N ≤ 4096) × (4 * self.now.code ≤ length scope.old) }
-        ensures { self.now.code ≡ self.now.graph.now.input.head.code → says_of self.now scope.new }
+        requires { (4 * self.now.code ≤ N) × (N ≤ 4096) × (4 * self.now.code ≤ length scope.old) }
+        ensures { says_of self.now scope.new }
     {
         let mut leaves = [0; N];
         let mut pass = [0; N];
@@ -239,8 +244,8 @@ impl<'a> Setup<'a> {
 
     // The same by tables of a size for so many points.
     fn compute(&self, scope: &mut [u32])
-        requires { Small self.now × (4 * self.now.code ≤ length scope.old) }
-        ensures { self.now.code ≡ self.now.graph.now.input.head.code → says_of self.now scope.new }
+        requires { 4 * self.now.code ≤ length scope.old }
+        ensures { says_of self.now scope.new }
     {
         if self.code <= 32 {
             self.with_tables::<128>(scope);
@@ -264,7 +269,7 @@ pub fn loans_in_scope(
         → ScopeSays graph.now words.now width loans.now.loans loans.now.count scope.new }
 {
     let code = usize::from(graph.input.head.code);
-    if code > 1024 || width > 32 || loans.count > 128 {
+    if code > 1024 || width > 32 {
         return;
     }
     if loans.count == 0 || scope.len() < 4 * code {

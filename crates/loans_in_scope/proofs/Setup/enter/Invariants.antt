@@ -2,7 +2,7 @@
 use mathlib.Core.Path.{◌≡◌}
 use lib.ListN.{length}
 use Rattle.loans_in_scope.specs.Gains.{Gains}
-use Rattle.loans_in_scope.specs.Scope.{Begun, RegionsTo}
+use Rattle.loans_in_scope.specs.Filling.{Begun, RegionsTo}
 use Rattle.loans_in_scope.proofs.Setup.enter.Given as goal
 
 abbrev pub invariant-loop-i : goal.invariant-loop-i

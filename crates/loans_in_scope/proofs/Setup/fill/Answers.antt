@@ -11,4 +11,4 @@ pub returns : goal.returns
 returns c = let r = c.requires in
     let l = c.loop-p in
     let e : l.p ≡ c.args.self.now.code = omega arith in
-    all-filled {v = c.args.self.now} r.2 r.0.1 c.enter.ensures.0 c.enter.ensures.1 (rw e at l.invariant.1)
+    all-filled {v = c.args.self.now} r.1 c.enter.ensures.0 c.enter.ensures.1 (rw e at l.invariant.1)

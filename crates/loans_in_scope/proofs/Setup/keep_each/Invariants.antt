@@ -3,7 +3,8 @@ use mathlib.Core.Path.{◌≡◌}
 use lib.ListN.{length}
 use Rattle.nll_spec.specs.Syntax.{Job}
 use Rattle.loans_in_scope.specs.Gains.{Gains}
-use Rattle.loans_in_scope.specs.Scope.{paths_of, KeptOf}
+use Rattle.loans_in_scope.specs.Scope.{paths_of}
+use Rattle.loans_in_scope.specs.Filling.{KeptOf}
 use Rattle.loans_in_scope.proofs.Setup.keep_each.Given as goal
 
 abbrev pub invariant-loop-i : goal.invariant-loop-i

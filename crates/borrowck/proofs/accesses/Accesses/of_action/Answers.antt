@@ -1,6 +1,6 @@
--- `borrowck::accesses::accesses_of` meets its contract. Assumes nothing.
+-- `borrowck::accesses::Accesses::of_action` meets its contract. Assumes nothing.
 use Rattle.borrowck.proofs.AccessLaws.{action_init, action-borrow, action_assign, action_use, action-drop, action_dead, action_idle}
-use Rattle.borrowck.proofs.accesses.accesses_of.Goals as goal
+use Rattle.borrowck.proofs.accesses.Accesses.of_action.Goals as goal
 
 pub returns-in-Init : goal.returns-in-Init
 returns-in-Init c = action_init c.in-Init.is c.with_sources.ensures

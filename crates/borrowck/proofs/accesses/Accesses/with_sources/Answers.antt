@@ -1,9 +1,9 @@
--- `borrowck::accesses::with_sources` meets its contract. Assumes nothing.
+-- `borrowck::accesses::Accesses::with_sources` meets its contract. Assumes nothing.
 use mathlib.Core.Path.{refl, ap}
 use mathlib.Core.List.{[], ◌∷◌}
 use native.Mathlib.Omega.{arith}
 use Rattle.borrowck.proofs.AccessLaws.{sourcing_all, sources_refused, sourcing_more, sources_end}
-use Rattle.borrowck.proofs.accesses.with_sources.Goals as goal
+use Rattle.borrowck.proofs.accesses.Accesses.with_sources.Goals as goal
 
 pub loop-i-init : goal.loop-i-init
 loop-i-init c = sourcing_all refl (ap (λ x. x ∷ []) c.shallow_write-list.ensures)
