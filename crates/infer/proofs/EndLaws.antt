@@ -7,6 +7,7 @@ use Prim.Native.Nat.{ℕ, zero, suc, ◌+◌, ◌-◌, ◌*◌, ◌≤◌, ◌<�
 use native.Mathlib.Decide.{ℕ_discrete}
 use native.Mathlib.Omega.{arith}
 use lib.ListN.{length}
+use Rattle.std.proofs.lemmas.Bool.{cond_both}
 use Rattle.nll_spec.specs.Output.{word_bits}
 use Rattle.bit_set.specs.Bits.{has, with_bit}
 use Rattle.bit_set.proofs.BitLaws.{length_with, has_with, has_with_other}
@@ -21,11 +22,7 @@ module _ (f : ℕ → Bool) (ps : List ℕ) (a : ℕ) where
   -- what one number more does, where it is put and where it is not
   more : (P : List ℕ → Type 0) (n : ℕ) → (f (a + n) ≡ true → P (with_bit (with_run f ps a n) (a + n))) → P (with_run f ps a n) → P (with_run f ps a (suc n))
   unfolding with_run
-  more P n y z = go (f (a + n)) y
-    where
-      go : (b : Bool) → (b ≡ true → P (with_bit (with_run f ps a n) (a + n))) → P (cond b (with_bit (with_run f ps a n) (a + n)) (with_run f ps a n))
-      go true y = y refl
-      go false y = z
+  more P n y z = cond_both (f (a + n)) _ _ P y (λ e. z)
 
   run_length : (n : ℕ) → length (with_run f ps a n) ≡ length ps
   unfolding with_run

@@ -10,6 +10,8 @@ use native.Mathlib.Omega.{arith}
 use lib.ListN.{length, get_or, set, length-set}
 use lib.Dec.{T, leb, ltb}
 use borrow.Author.Tests.{leb-true, ltb-true}
+use Rattle.std.proofs.lemmas.Bool.{and_parts}
+use Rattle.std.proofs.lemmas.Float.{T_from_true}
 use Rattle.nll_spec.specs.Lists.{Member, here, there}
 use Rattle.nll_spec.specs.Syntax.{Point, RegionName}
 use Rattle.nll_spec.specs.Graph.{Graph}
@@ -32,7 +34,7 @@ use Rattle.graph.proofs.SearchLaws.{mark-kept, mark-new, mark-old}
 use Rattle.infer.proofs.TableLaws.{leaf_exit, exit_leaf, reach_below, reach_walk, walk_reach}
 use Rattle.infer.proofs.SubsetLaws.{nothing_new}
 use Rattle.infer.proofs.CoverLaws.{covered_nothing}
-use Rattle.infer.proofs.RanLaws.{true_T, bit-region, sets-has, sets_below, has-sets, walk_mono}
+use Rattle.infer.proofs.RanLaws.{bit-region, sets-has, sets_below, has-sets, walk_mono}
 
 -- ---- The bounds
 
@@ -44,10 +46,6 @@ pub record Bounds (shape : Shape) (s t p : ℕ) : Type 0 where
   pub sub : t < 128
   pub point : p < shape.code
 
-both : (a b : Bool) → (a && b) ≡ true → (a ≡ true) × (b ≡ true)
-both true b e = (refl, e)
-both false b e = absurd (true≢false (sym e))
-
 module _ (shape : Shape) (s t p : ℕ) where
   pub bounds_in : in_bounds shape s t p ≡ true → Bounds shape s t p
   bounds_in e =
@@ -55,11 +53,11 @@ module _ (shape : Shape) (s t p : ℕ) where
       let b₄ : Bool = b₅ && leb shape.points 1024 in
       let b₃ : Bool = b₄ && ltb s 128 in
       let b₂ : Bool = b₃ && ltb t 128 in
-      let e₁ = both b₂ (ltb p shape.code) e in
-      let e₂ = both b₃ (ltb t 128) e₁.0 in
-      let e₃ = both b₄ (ltb s 128) e₂.0 in
-      let e₄ = both b₅ (leb shape.points 1024) e₃.0 in
-      let e₅ = both (leb shape.width 32) (leb shape.code shape.points) e₄.0 in
+      let e₁ = and_parts b₂ (ltb p shape.code) e in
+      let e₂ = and_parts b₃ (ltb t 128) e₁.0 in
+      let e₃ = and_parts b₄ (ltb s 128) e₂.0 in
+      let e₄ = and_parts b₅ (leb shape.points 1024) e₃.0 in
+      let e₅ = and_parts (leb shape.width 32) (leb shape.code shape.points) e₄.0 in
       record {
         narrow = leb-true _ _ e₅.0;
         ordered = leb-true _ _ e₅.1;
@@ -124,7 +122,7 @@ module _ (s : Setting) (g : Setup) (ws grew : List ℕ) (given : Given s g ws gr
       (leaf_exit s.graph g.graph.now.first g.graph.now.succ given.edges x (reach_below s g ws grew given c.sub c.point u) r.3.2)
       lo
       hi
-      (looser_same s.ends (has ws (bit_at s.width c.sub q)) (sets c.sub q) (λ h. w c.sub q names.sub (has-sets s ws c.sub q hi (is_true _ h))) (true_T _ passed))
+      (looser_same s.ends (has ws (bit_at s.width c.sub q)) (sets c.sub q) (λ h. w c.sub q names.sub (has-sets s ws c.sub q hi (is_true _ h))) (T_from_true _ passed))
 
   -- a walk through the inner set of words that have grown, where that set did not
   module _ (ws' : List ℕ) (down : (q : Point) → T (sets_of s ws' c.sub q) → T (sets_of s ws c.sub q)) where
@@ -138,7 +136,7 @@ module _ (s : Setting) (g : Setup) (ws grew : List ℕ) (given : Given s g ws gr
               let r = back w in
               has-sets s ws' c.sup q (omega (arith, reach_below s g ws grew given c.sub c.point r, given.edges.ordered)) (added q (inl r));
           passed = λ q e w x lo hi pe.
-              let passed = is_true _ (looser_same s.ends (sets_of s ws' c.sub e) (has ws (bit_at s.width c.sub e)) (λ h. true_T _ (sets-has s ws c.sub e (down e h))) pe) in
+              let passed = is_true _ (looser_same s.ends (sets_of s ws' c.sub e) (has ws (bit_at s.width c.sub e)) (λ h. T_from_true _ (sets-has s ws c.sub e (down e h))) pe) in
               has-sets s ws' c.sup e hi
               (added e
               (inr (

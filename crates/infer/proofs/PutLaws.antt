@@ -7,6 +7,7 @@ use Prim.Native.Nat.{ℕ, ◌+◌, ◌-◌, ◌*◌, ◌/◌, ◌≤◌, ◌<◌
 use native.Mathlib.Decide.{dec_lt}
 use native.Mathlib.Omega.{arith}
 use lib.ListN.{length}
+use Rattle.std.proofs.lemmas.Bool.{or_cases, or_right}
 use Rattle.nll_spec.specs.Output.{word_bits}
 use Rattle.bit_set.specs.Bits.{has, both_fit, joined, grows, or_grows}
 use Rattle.bit_set.proofs.BitLaws.{Words}
@@ -15,14 +16,6 @@ use Rattle.bit_set.proofs.SetLaws.{length-joined, joined-fits, has-joined_other,
 use Rattle.infer.specs.Search.{In, Below, Spread}
 use Rattle.dfs.proofs.ChainLaws.{at_zero}
 use Rattle.infer.proofs.EndLaws.{Holds}
-
-or_split : (a b : Bool) → (a || b) ≡ true → (a ≡ true) ⊎ (b ≡ true)
-or_split true b e = inl refl
-or_split false b e = inr e
-
-or_yes : (a b : Bool) → b ≡ true → (a || b) ≡ true
-or_yes true b e = refl
-or_yes false b e = e
 
 module _ (ws ps : List ℕ) (to n : ℕ) (few : n ≤ 1024) (m : Below ps n) where
   abbrev count : ℕ
@@ -39,7 +32,7 @@ module _ (ws ps : List ℕ) (to n : ℕ) (few : n ≤ 1024) (m : Below ps n) whe
   in_run l q lq = has-joined ws to ps 0 count l src q lq ∙ ap (λ (b : Bool). has ws (word_bits * to + q) || b) (at_zero ps q)
 
   added' : word_bits * to + n ≤ word_bits * length ws → (q : ℕ) → In ps q → has ws' (word_bits * to + q) ≡ true
-  added' room q a = in_run (omega (arith, room)) q (omega (arith, m.below q a)) ∙ or_yes (has ws (word_bits * to + q)) (has ps q) a
+  added' room q a = in_run (omega (arith, room)) q (omega (arith, m.below q a)) ∙ or_right (has ws (word_bits * to + q)) (has ps q) a
 
   -- what a number of the words is afterwards
   changed : (j : ℕ) → (has ws' j ≡ has ws j) ⊎ ((to + count ≤ length ws) × ((q : ℕ) × (j ≡ word_bits * to + q) × (q < word_bits * count)))
@@ -65,7 +58,7 @@ module _ (ws ps : List ℕ) (to n : ℕ) (few : n ≤ 1024) (m : Below ps n) whe
       go : (has ws' j ≡ has ws j) ⊎ ((to + count ≤ length ws) × ((q : ℕ) × (j ≡ word_bits * to + q) × (q < word_bits * count)))
           → (has ws j ≡ true) ⊎ ((q : ℕ) × (j ≡ word_bits * to + q) × (q < n) × In ps q)
       go (inl k) = inl (sym k ∙ e)
-      go (inr w) = pick (or_split (has ws (word_bits * to + w.1.0)) (has ps w.1.0) (sym (in_run w.0 w.1.0 w.1.2) ∙ ap (has ws') (sym w.1.1) ∙ e))
+      go (inr w) = pick (or_cases (has ws (word_bits * to + w.1.0)) (has ps w.1.0) (sym (in_run w.0 w.1.0 w.1.2) ∙ ap (has ws') (sym w.1.1) ∙ e))
         where
           pick : (has ws (word_bits * to + w.1.0) ≡ true) ⊎ (has ps w.1.0 ≡ true) → (has ws j ≡ true) ⊎ ((q : ℕ) × (j ≡ word_bits * to + q) × (q < n) × In ps q)
           pick (inl k) = inl (ap (has ws) w.1.1 ∙ k)
@@ -85,7 +78,7 @@ module _ (ws ps : List ℕ) (to n : ℕ) (few : n ≤ 1024) (m : Below ps n) whe
             let q = w.0 in
             let y : has ps q ≡ true = sym (at_zero ps q) ∙ w.3 in
             let l : to + count ≤ length ws = both_into ws to ps 0 count (and_true_left (both_fit ws to ps 0 count) (or_grows ws to ps 0 count) e) in
-            (q, m.below q y, y, w.2, in_run l q w.1 ∙ or_yes (has ws (word_bits * to + q)) (has ps q) y);
+            (q, m.below q y, y, w.2, in_run l q w.1 ∙ or_right (has ws (word_bits * to + q)) (has ps q) y);
       }
 
 -- the same of a set that has the numbers of A

@@ -11,6 +11,8 @@ use native.Mathlib.Omega.{arith}
 use lib.ListN.{length, get_or}
 use lib.Dec.{T, ltb, ltb→lt, lt→ltb}
 use borrow.Author.Tests.{ne_eqb, eqb-false, not-true}
+use Rattle.std.proofs.lemmas.Bool.{false_from_ne_true}
+use Rattle.std.proofs.lemmas.Float.{T_from_true}
 use Rattle.nll_spec.specs.Lists.{Member}
 use Rattle.nll_spec.specs.Syntax.{Point, RegionName}
 use Rattle.nll_spec.specs.Graph.{Graph}
@@ -35,9 +37,6 @@ is-marked seen x m = ap not (ne_eqb (get_or seen x 0) 0 m)
 marked-is : (seen : List ℕ) (x : ℕ) → is_marked seen x ≡ true → Marked seen x
 marked-is seen x e = eqb-false (get_or seen x 0) 0 (not-true _ e)
 
-pub true_T : (b : Bool) → b ≡ true → T b
-true_T b e = subst T (sym e) tt
-
 -- ---- Bits and sets
 
 -- two regions' sets have no bit in common
@@ -57,7 +56,7 @@ module _ (s : Setting) where
   sets_below ws r q h = ltb→lt q s.graph.points (and_left (ltb q s.graph.points) (has ws (bit_at s.width r q)) h)
 
   pub has-sets : (ws : List ℕ) (r : RegionName) (q : Point) → q < s.graph.points → has ws (bit_at s.width r q) ≡ true → T (sets_of s ws r q)
-  has-sets ws r q l e = and_intro (ltb q s.graph.points) (has ws (bit_at s.width r q)) (lt→ltb q s.graph.points l) (true_T _ e)
+  has-sets ws r q l e = and_intro (ltb q s.graph.points) (has ws (bit_at s.width r q)) (lt→ltb q s.graph.points l) (T_from_true _ e)
 
   -- the sets of words that keep every bit
   pub sets-kept : (ws ws' : List ℕ) → ((j : ℕ) → has ws j ≡ true → has ws' j ≡ true) → (r : RegionName) (q : Point) → T (sets_of s ws r q) → T (sets_of s ws' r q)
@@ -116,11 +115,7 @@ carry {s} {last} {ws} {grew} {ws'} {grew'} ran c m = go (ℕ_discrete (get_or gr
 
 -- a bit that is not there after a run was not there before
 missed : {s : Setting} {last ws grew ws' grew' : List ℕ} {cs : List Outlives} → Ran s last cs ws grew ws' grew' → (j : ℕ) → has ws' j ≡ false → has ws j ≡ false
-missed {ws = ws} ran j e = go (has ws j) refl
-  where
-    go : (b : Bool) → has ws j ≡ b → has ws j ≡ false
-    go false q = q
-    go true q = absurd (true≢false (sym (ran.kept j q) ∙ e))
+missed {ws = ws} ran j e = false_from_ne_true (has ws j) (λ q. true≢false (sym (ran.kept j q) ∙ e))
 
 pub ran_append : {s : Setting} {last ws grew ws₁ grew₁ ws₂ grew₂ : List ℕ} {cs ds : List Outlives} → Ran s last cs ws grew ws₁ grew₁ → Ran s last ds ws₁ grew₁ ws₂ grew₂
     → Ran s last (cs ++ ds) ws grew ws₂ grew₂

@@ -7,6 +7,7 @@ use native.Mathlib.Omega.{arith}
 use lib.ListN.{length}
 use lib.Dec.{T, ltb, ltb→lt, lt→ltb}
 use borrow.Author.Tests.{lt-ltb}
+use Rattle.std.proofs.lemmas.Float.{T_from_true}
 use Rattle.nll_spec.specs.Syntax.{Point}
 use Rattle.nll_spec.specs.Graph.{Graph, next_of}
 use Rattle.nll_spec.specs.Regions.{is_exit}
@@ -19,7 +20,7 @@ use Rattle.dfs.specs.Walk.{in_code, Reach, here, step, Leaf}
 use Rattle.infer.specs.Ran.{Setting, sets_of, bit_at, Given}
 use Rattle.infer.specs.declared.Setup.{Setup}
 use Rattle.dfs.proofs.SearchLaws.{reach_held, code_below}
-use Rattle.infer.proofs.RanLaws.{true_T, has-sets, sets-has}
+use Rattle.infer.proofs.RanLaws.{has-sets, sets-has}
 
 -- ---- Points that nothing follows
 
@@ -53,7 +54,7 @@ module _ (s : Setting) (g : Setup) (ws grew : List ℕ) (given : Given s g ws gr
   held_in : (x : Point) → h x ≡ true → T (sets_of s ws r x)
   held_in x e =
       let l : x < g.shape.code = code_below ws (r * s.width) g.shape.code x e in
-      has-sets s ws r x (omega (arith, given.code, given.edges.ordered)) (is_true _ (and_right (ltb x g.shape.code) (has ws (bit_at s.width r x)) (true_T _ e)))
+      has-sets s ws r x (omega (arith, given.code, given.edges.ordered)) (is_true _ (and_right (ltb x g.shape.code) (has ws (bit_at s.width r x)) (T_from_true _ e)))
 
   in_held : (x : Point) → x < s.graph.code → T (sets_of s ws r x) → h x ≡ true
   in_held x l i = rw (lt-ltb x g.shape.code (omega (arith, l, given.code))) (sets-has s ws r x i)

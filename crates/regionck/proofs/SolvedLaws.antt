@@ -10,6 +10,8 @@ use native.Mathlib.Decide.{ℕ_discrete, dec_lt}
 use lib.ListN.{length, get_or, take, drop, replicate, length-take, length-drop, length-replicate, get_or-replicate, get_or-eq_default}
 use lib.Seq.{get_or-take, get_or-drop}
 use lib.Dec.{T, T_not, not_T}
+use Rattle.std.proofs.lemmas.Bool.{false_from_ne_true}
+use Rattle.std.proofs.lemmas.Float.{T_from_true}
 use Rattle.nll_spec.specs.Lists.{any, below, Member}
 use Rattle.nll_spec.specs.Fixpoint.{holds}
 use Rattle.nll_spec.specs.Syntax.{Job, Point, RegionName}
@@ -35,18 +37,14 @@ use Rattle.constraint_list.proofs.ListLaws.{first-none}
 use Rattle.infer.specs.Search.{rule_of, Linked}
 use Rattle.infer.specs.Ran.{Setting, bit_at, sets_of as sets_in, Words, AllReady, Ran, Rounds, Quiet, Given, AllNamed, any_marked}
 use Rattle.infer.specs.declared.Setup.{Setup}
-use Rattle.infer.proofs.RanLaws.{true_T, no_member, sets-has, sets_below, has-sets, first_ready, next_ready, quiet_none, quiet_same, found-mark, rounds_none, rounds_more, rounds_unused, solved}
+use Rattle.infer.proofs.RanLaws.{no_member, sets-has, sets_below, has-sets, first_ready, next_ready, quiet_none, quiet_same, found-mark, rounds_none, rounds_more, rounds_unused, solved}
 use Rattle.rerun.specs.Rerun.{setting_of, no_marks, Known, Own, OwnKept, Noted}
 use Rattle.rerun.proofs.NamedLaws.{all_named}
 use Rattle.rerun.proofs.MarkLaws.{blank}
 use Rattle.regionck.specs.Rounds.{RoundRuns, Cleared, Seeded, least_sets, Solved}
 
 missed : (a b : List ℕ) → ((k : ℕ) → has a k ≡ true → has b k ≡ true) → (k : ℕ) → has b k ≡ false → has a k ≡ false
-missed a b kept k e = go (has a k) refl
-  where
-    go : (x : Bool) → has a k ≡ x → has a k ≡ false
-    go false q = q
-    go true q = absurd (true≢false (sym (kept k q) ∙ e))
+missed a b kept k e = false_from_ne_true (has a k) (λ q. true≢false (sym (kept k q) ∙ e))
 
 -- ---- The marks of the regions that grew
 
@@ -256,14 +254,14 @@ module _ (g : Setup) (ws₀ : List ℕ) where
       least =
           solved e cs (λ r q. T (holds (seed_table j (graph_of j)) r q))
           (λ r q l k. has-sets e ws₀ r q (seed_points j r q k) (seed_has r q l (seed_points j r q k) ∙ is_true _ k))
-          (λ r q l k. true_T _ (sym (seed_has r q l (sets_below e ws₀ r q k)) ∙ sets-has e ws₀ r q k)) named so.rounds so.ready ran quiet
+          (λ r q l k. T_from_true _ (sym (seed_has r q l (sets_below e ws₀ r q k)) ∙ sets-has e ws₀ r q k)) named so.rounds so.ready ran quiet
 
       -- the words' sets are the table's
       sets-has_table : (r : RegionName) (q : Point) → r < j.regions → q < (graph_of j).points → has ws' (bit_at e.width r q) ≡ holds (least_sets ends j) r q
       sets-has_table r q l lq =
           same_bool (has ws' (bit_at e.width r q)) (holds (least_sets ends j) r q)
           (λ k. least.smallest (holds (least_sets ends j)) (table_least ends j (accepted-job j x.accepted)).solves r q l (has-sets e ws' r q lq (is_true _ k)))
-          (λ k. true_T _ (sets-has e ws' r q ((table_least ends j (accepted-job j x.accepted)).smallest (sets_in e ws') least.solves r q l k)))
+          (λ k. T_from_true _ (sets-has e ws' r q ((table_least ends j (accepted-job j x.accepted)).smallest (sets_in e ws') least.solves r q l k)))
 
       bits : (r p : ℕ) → r < length (least_sets ends j) → p < word_bits * word_count (point_count j) → has ws' (word_bits * (r * word_count (point_count j)) + p) ≡ holds (least_sets ends j) r p
       bits r p l lp = go (dec_lt p (graph_of j).points)
@@ -326,7 +324,7 @@ module _ (g : Setup) (ws₀ : List ℕ) where
               let held = and_left (holds (least_sets ends j) r p) (not (holds (seed_table j (graph_of j)) r p)) k in
               let lp = (held-inside (least_sets ends j) r p (sized-sets ends j) held).1 in
               ⊎_elim
-              (λ q. T_not (holds (seed_table j (graph_of j)) r p) (and_right (holds (least_sets ends j) r p) (not (holds (seed_table j (graph_of j)) r p)) k) (true_T _ (sym (seed_has r p lr lp) ∙ sets-has e ws₀ r p q)))
+              (λ q. T_not (holds (seed_table j (graph_of j)) r p) (and_right (holds (least_sets ends j) r p) (not (holds (seed_table j (graph_of j)) r p)) k) (T_from_true _ (sym (seed_has r p lr lp) ∙ sets-has e ws₀ r p q)))
               (λ q. let c : ◌≡◌ {A = ℕ} 0 1 = sym z ∙ q in omega arith)
               (told_last.marked r p lr (has-sets e ws' r p lp (sets-has_table r p lr lp ∙ is_true _ held)))
 
@@ -334,7 +332,7 @@ module _ (g : Setup) (ws₀ : List ℕ) where
           some z =
               let (p, lp, a, b) = told_last.earned r lr z in
               any_of beyond (below (graph_of j).points) p (contains-below (graph_of j).points p lp)
-              (and_intro (holds (least_sets ends j) r p) (not (holds (seed_table j (graph_of j)) r p)) (true_T _ (sym (sets-has_table r p lr lp) ∙ b))
+              (and_intro (holds (least_sets ends j) r p) (not (holds (seed_table j (graph_of j)) r p)) (T_from_true _ (sym (sets-has_table r p lr lp) ∙ b))
               (not_T (holds (seed_table j (graph_of j)) r p) (λ w. true≢false (sym (seed_has r p lr lp ∙ is_true _ w) ∙ a))))
 
       done : Solved ends j ws₀ ws' marks

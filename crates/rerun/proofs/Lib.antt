@@ -2,4 +2,3 @@ pub mod NamedLaws
 pub mod MarkLaws
 pub mod PointLaws
 pub mod RerunLaws
-pub mod KeepLaws

@@ -22,33 +22,6 @@ blank r = go (dec_lt r 128)
     go (yes l) = get_or-replicate {A = ℕ} 128 r 0 0 l
     go (no l) = get_or-eq_default no_marks 0 {n = r} (rw length-replicate (omega (arith, l)))
 
-pub noted_none : (grew marks : List ℕ) → length marks ≡ 128 → Noted grew marks marks 0
-noted_none grew marks e = record { sized = e; marked = λ r l m. absurd (omega arith); others = λ r m. refl }
-
-pub noted_more : (grew old marks : List ℕ) (n x : ℕ) → n < 128 → Noted grew old marks n → x ≡ cond (eqb (get_or grew n 0) 0) (get_or marks n 0) 1 → Noted grew old (set marks n x) (n + 1)
-noted_more grew old marks n x h z e =
-    record {
-      sized = length-set marks n x ∙ z.sized;
-      marked = λ r l m. marked r l m (ℕ_discrete r n);
-      others = λ r m. others r m (ℕ_discrete r n);
-    }
-  where
-    here : get_or (set marks n x) n 0 ≡ x
-    here = get_or-set_same marks n x 0 (omega (arith, z.sized))
-
-    marked : (r : RegionName) → r < n + 1 → Marked grew r → Dec (r ≡ n) → get_or (set marks n x) r 0 ≡ 1
-    marked r l m (yes q) =
-        ap (λ (k : ℕ). get_or (set marks n x) k 0) q ∙ here ∙ e
-        ∙ ap (λ (b : Bool). cond b (get_or marks n 0) 1) (ne_eqb (get_or grew n 0) 0 (λ w. m (ap (λ (k : ℕ). get_or grew k 0) q ∙ w)))
-    marked r l m (no q) = get_or-set_other marks n r x 0 q ∙ z.marked r (omega (arith, q)) m
-
-    others : (r : RegionName) → get_or grew r 0 ≡ 0 → Dec (r ≡ n) → get_or (set marks n x) r 0 ≡ get_or old r 0
-    others r m (yes q) =
-        ap (λ (k : ℕ). get_or (set marks n x) k 0) q ∙ here ∙ e
-        ∙ ap (λ (b : Bool). cond b (get_or marks n 0) 1) (eq-eqb (get_or grew n 0) 0 (ap (λ (k : ℕ). get_or grew k 0) (sym q) ∙ m))
-        ∙ ap (λ (k : ℕ). get_or marks k 0) (sym q) ∙ z.others r m
-    others r m (no q) = get_or-set_other marks n r x 0 q ∙ z.others r m
-
 -- the marks of both
 pub noted_joined : {grew old marks : List ℕ} → length old ≡ 128 → length grew ≡ 128 → Noted grew old marks 128 → Joined old grew marks
 noted_joined {grew} {old} {marks} o g z =

@@ -6,6 +6,7 @@ use mathlib.Core.List.{List, [], ◌++◌, append-nil, append_assoc}
 use Prim.Native.Nat.{ℕ, ◌+◌, ◌*◌, ◌≤◌, ◌<◌}
 use native.Mathlib.Omega.{arith}
 use lib.ListN.{length}
+use Rattle.std.proofs.lemmas.Bool.{cond_both}
 use Rattle.nll_spec.specs.Syntax as syntax
 use Rattle.nll_spec.specs.Syntax.{Job, Point}
 use Rattle.nll_spec.specs.Decode.{code_count}
@@ -64,12 +65,8 @@ module _ {graph : FuncGraph} {p : Point} where
     adds = λ j code k l.
         let same = says j k.layout (omega (arith, l, k.points, code-count j)) in
         let none = none_made j p (action_at (graph_of j) p) (λ e. b (same ∙ e)) (λ e. s (same ∙ e)) (λ e. c (same ∙ e)) in
-        adds_none (ap (λ (cs : List Outlives). cond (is_walked (graph_of j) p) cs []) none ∙ cond_same (is_walked (graph_of j) p));
+        adds_none (cond_both (is_walked (graph_of j) p) _ _ (λ (cs : List Outlives). cs ≡ []) (λ e. none) (λ e. refl));
   }
-    where
-      cond_same : (b : Bool) → cond {A = List Outlives} b [] [] ≡ []
-      cond_same true = refl
-      cond_same false = refl
 
   pub point-added : {b : Bool} {n : ℕ} {ls ls' : List ℕ} → b ≡ has graph.walked (word_bits * 0 + p) → b ≡ true → n ≡ p → Constrains graph.input n ls ls' → PointAdds graph p ls ls'
   point-added {ls = ls} {ls' = ls'} e f i x = record {
@@ -80,11 +77,7 @@ module _ {graph : FuncGraph} {p : Point} where
 
 -- no point has more constraints
 pub few-at : {graph : FuncGraph} {code : ℕ} (j : Job) → Known graph code j → {p : Point} → p < code → length (walked_at j p) ≤ 264
-few-at j k {p} l = go (is_walked (graph_of j) p)
-  where
-    go : (b : Bool) → length (cond b (constraints_at j p (action_at (graph_of j) p)) []) ≤ 264
-    go true = few_constraints k.layout k.accepted p (omega (arith, l, k.points))
-    go false = omega arith
+few-at j k {p} l = cond_both (is_walked (graph_of j) p) _ _ (λ (cs : List Outlives). length cs ≤ 264) (λ e. few_constraints k.layout k.accepted p (omega (arith, l, k.points))) (λ e. omega arith)
 
 -- ---- The points that a list has
 

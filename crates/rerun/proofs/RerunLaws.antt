@@ -74,9 +74,6 @@ module _ {g : Setup} {cs : List Outlives} {ws grew : List ℕ} where
 -- ---- More of the job's constraints
 
 module _ {g : Setup} where
-  pub more-none : {recent ws grew : List ℕ} → RunsMore g recent ws grew recent ws grew
-  more-none = record { ran = λ j k o last ws₀ given x. x; own = own_same }
-
   pub more_then : {recent ws grew recent₁ ws₁ grew₁ recent₂ ws₂ grew₂ : List ℕ} → RunsMore g recent ws grew recent₁ ws₁ grew₁
       → RunsMore g recent₁ ws₁ grew₁ recent₂ ws₂ grew₂ → RunsMore g recent ws grew recent₂ ws₂ grew₂
   more_then x y = record { ran = λ j k o last ws₀ given z. y.ran j k (x.own.kept j k o) last ws₀ given (x.ran j k o last ws₀ given z); own = own_then x.own y.own }

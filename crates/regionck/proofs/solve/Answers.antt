@@ -10,9 +10,6 @@ use Rattle.regionck.proofs.solve.Goals as goal
 pub loop-init : goal.loop-init
 loop-init c = (sound_none c.requires, kept-none c.clear-2.ensures.1, going_start (omega arith) c.clear.ensures)
 
-pub round-last-requires : goal.round-last-requires
-round-last-requires c = (c.collect-to.ensures, c.loop.invariant.0)
-
 pub returns-then-not-any_marked : goal.returns-then-not-any_marked
 returns-then-not-any_marked c =
     let loop = c.loop in

@@ -2,14 +2,8 @@
 use mathlib.Core.Path.{refl}
 use native.Mathlib.Omega.{arith}
 use Rattle.rerun.proofs.PointLaws.{held_none, held_more}
-use Rattle.rerun.proofs.RerunLaws.{more-none, more-held}
+use Rattle.rerun.proofs.RerunLaws.{more-held}
 use Rattle.rerun.proofs.revisit.Goals as goal
-
-pub returns-then-not-test : goal.returns-then-not-test
-returns-then-not-test c = more-none
-
-pub returns-then-all_in : goal.returns-then-all_in
-returns-then-all_in c = more-none
 
 pub returns : goal.returns
 returns c =

@@ -3,8 +3,5 @@ use native.Mathlib.Omega.{arith}
 use Rattle.rerun.proofs.RerunLaws.{more-fewer, more-held, more_then}
 use Rattle.rerun.proofs.turn.Goals as goal
 
-pub shape_of-before : goal.shape_of-before
-shape_of-before c = omega arith
-
 pub returns : goal.returns
 returns c = λ to held. more_then (more_then (more-fewer c.make_room.ensures) (more-held held c.rerun-fresh.ensures)) c.revisit_near.ensures

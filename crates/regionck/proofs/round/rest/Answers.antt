@@ -1,14 +1,8 @@
 -- `regionck::round::rest`. The loop's invariant: the constraints of the points from `from` on, up to p, are run. Assumes nothing.
 use native.Mathlib.Omega.{arith}
-use Rattle.rerun.proofs.RerunLaws.{own_same, own_then}
+use Rattle.rerun.proofs.RerunLaws.{own_then}
 use Rattle.regionck.proofs.RoundLaws.{below_code}
 use Rattle.regionck.proofs.round.rest.Goals as goal
-
-pub loop-p-init : goal.loop-p-init
-loop-p-init c = (λ ws x. x, own_same, c.requires.1)
-
-pub visit-requires : goal.visit-requires
-visit-requires c = (omega arith, c.loop-p.invariant.2)
 
 pub loop-p-preserved : goal.loop-p-preserved
 loop-p-preserved c =

@@ -3,9 +3,6 @@ use Rattle.rerun.proofs.RerunLaws.{own_then}
 use Rattle.regionck.proofs.RoundLaws.{below_all}
 use Rattle.regionck.proofs.round.round.Goals as goal
 
-pub sweep-grew-requires : goal.sweep-grew-requires
-sweep-grew-requires c = c.requires
-
 pub returns : goal.returns
 returns c =
     let swept = c.sweep-grew.ensures in

@@ -3,9 +3,6 @@ use Rattle.rerun.proofs.RerunLaws.{own_then, own-fewer, own-drawn}
 use Rattle.regionck.proofs.RoundLaws.{below_none, below_more}
 use Rattle.regionck.proofs.round.sweep.Goals as goal
 
-pub rest-requires : goal.rest-requires
-rest-requires c = (c.requires.0.within, c.requires.1)
-
 pub returns : goal.returns
 returns c =
     let run = c.run.ensures in
