@@ -21,6 +21,7 @@ use Rattle.record.specs.Blocks.{Coded}
 use Rattle.record.specs.Blocks as blocks
 use Rattle.record.specs.Layout.{Layout}
 use Rattle.record.specs.declared.Head.{Head}
+use Rattle.record.specs.declared.Offsets.{Offsets}
 use Rattle.record.proofs.LayoutLaws.{count_most}
 use Rattle.repr.proofs.SpellLaws.{clash, carry, then}
 use Rattle.repr.proofs.ItemLaws.{items-length}
@@ -88,6 +89,6 @@ coded-few : {s es : List ℕ} {bs : List Block} → Coded s es bs → T (every f
 coded-few blocks.none = tt
 coded-few {bs = b ∷ bs} (blocks.more k r) = every_append few b.actions (gather (λ (d : Block). d.actions) bs) (standing_few k) (coded-few r)
 
-pub few-at : {s t : List ℕ} {h : Head} {j : Job} → Layout s t h j → (p : Point) → length (accesses (action_at (graph_of j) p)) ≤ 9
+pub few-at : {s : List ℕ} {t : Offsets} {h : Head} {j : Job} → Layout s t h j → (p : Point) → length (accesses (action_at (graph_of j) p)) ≤ 9
 unfolding graph_of statements_of accesses
 few-at {j = j} w p = leb→le (length (accesses (action_at (graph_of j) p))) 9 (every-action few j.blocks 0 0 j.blocks tt (coded-few w.blocks.coded) p)

@@ -13,6 +13,7 @@ use Rattle.nll_spec.proofs.Tests.{and_left, and_right, is_true}
 use Rattle.nll_spec.proofs.GraphLaws.{every-action}
 use Rattle.record.specs.Layout.{Layout}
 use Rattle.record.specs.declared.Head.{Head}
+use Rattle.record.specs.declared.Offsets.{Offsets}
 use Rattle.env.proofs.ShortLaws.{short, all_short, coded-short}
 
 -- ---- A borrow of a job
@@ -23,7 +24,7 @@ unfolding named
 actions-named j h =
     and_right (leb (length j.outlives) j.regions && structs_named j && outlived_named j && variables_named j && successors_named j && ltb j.start (length j.blocks)) (actions_named j) h
 
-module _ {s t : List ℕ} {h : Head} {j : Job} (w : Layout s t h j) (p : Point) {d q : Path} {r : ℕ} {k : BorrowKind} (e : action_at (graph_of j) p ≡ Borrow d r k q) where
+module _ {s : List ℕ} {t : Offsets} {h : Head} {j : Job} (w : Layout s t h j) (p : Point) {d q : Path} {r : ℕ} {k : BorrowKind} (e : action_at (graph_of j) p ≡ Borrow d r k q) where
   pub source-named : T (named j) → q.base < length j.variables
   unfolding graph_of statements_of actions_named action_named
   source-named n =

@@ -21,6 +21,7 @@ use Rattle.repr.specs.declared.refusal.Refusal.{Refusal}
 use Rattle.record.specs.Layout.{Accepted, DecodedSays}
 use Rattle.record.specs.declared.Head.{Head}
 use Rattle.record.specs.declared.Record.{Record}
+use Rattle.record.specs.declared.Offsets.{Offsets}
 use Rattle.infer.specs.declared.Shape.{Shape}
 use Rattle.nll.specs.Analysis.{AnalyseSays, points_of}
 use Rattle.nll.specs.Steps.{shape_of, room_for, JobAt, Writes}
@@ -90,14 +91,14 @@ module _ (input ws bs : List ℕ) where
 -- ---- The points
 
 -- what is said of an answer is said of what it is
-pub judged : {input t : List ℕ} {r x : Result Head Refusal} → DecodedSays (judge input) input t r → r ≡ x → DecodedSays (judge input) input t x
+pub judged : {input : List ℕ} {t : Offsets} {r x : Result Head Refusal} → DecodedSays (judge input) input t r → r ≡ x → DecodedSays (judge input) input t x
 judged {input} {t} m e = subst (DecodedSays (judge input) input t) e m
 
 -- a refused record has no points
-pub no_points : {input t : List ℕ} {k : Refusal} → DecodedSays (judge input) input t (Err k) → 0 ≡ points_of (judge input)
+pub no_points : {input : List ℕ} {t : Offsets} {k : Refusal} → DecodedSays (judge input) input t (Err k) → 0 ≡ points_of (judge input)
 no_points m = sym (ap points_of m.says)
 
-module _ {input t : List ℕ} {h : Head} (m : DecodedSays (judge input) input t (Ok h)) {shape : Shape} (s : shape ≡ shape_of h) where
+module _ {input : List ℕ} {t : Offsets} {h : Head} (m : DecodedSays (judge input) input t (Ok h)) {shape : Shape} (s : shape ≡ shape_of h) where
   counted : shape.points ≡ point_count m.says.job
   counted = ap (λ (x : Shape). x.points) s ∙ points-are m.says.layout
 
@@ -109,10 +110,10 @@ module _ {input t : List ℕ} {h : Head} (m : DecodedSays (judge input) input t 
 
 -- ---- The call
 
-pub refuses_record : {input t : List ℕ} {k : Refusal} → DecodedSays (judge input) input t (Err k) → (ws bs : List ℕ) → AnalyseSays input ws bs (number_of k) ws bs
+pub refuses_record : {input : List ℕ} {t : Offsets} {k : Refusal} → DecodedSays (judge input) input t (Err k) → (ws bs : List ℕ) → AnalyseSays input ws bs (number_of k) ws bs
 refuses_record {input = input} m ws bs = promised input ws bs (leaves-refused input ws bs m.says)
 
-module _ {input t : List ℕ} {h : Head} (m : DecodedSays (judge input) input t (Ok h)) (ws bs : List ℕ) {room : Bool} (tested : room ≡ room_for h (length ws) (length bs)) where
+module _ {input : List ℕ} {t : Offsets} {h : Head} (m : DecodedSays (judge input) input t (Ok h)) (ws bs : List ℕ) {room : Bool} (tested : room ≡ room_for h (length ws) (length bs)) where
   job : Accepted (judge input) input t h
   job = m.says
 

@@ -13,6 +13,7 @@ use Rattle.nll_spec.specs.Output.{word_count, words_needed, bytes_needed}
 use Rattle.nll_spec.proofs.GraphLaws.{code-count}
 use Rattle.record.specs.Layout.{Layout}
 use Rattle.record.specs.declared.Head.{Head}
+use Rattle.record.specs.declared.Offsets.{Offsets}
 use Rattle.nll.specs.Steps.{shape_of, room_for}
 
 -- no refusal is 6, and none is 8
@@ -26,7 +27,7 @@ names_and_paths j e = go (named j) (types_fit j) (paths_fit j) (shapes_fit j) e
     go true false c d e = absurd (omega arith)
     go false b c d e = absurd (omega arith)
 
-module _ {s t : List ℕ} {h : Head} {j : Job} (l : Layout s t h j) where
+module _ {s : List ℕ} {t : Offsets} {h : Head} {j : Job} (l : Layout s t h j) where
   pub code_is : h.code ≡ (graph_of j).code
   code_is = l.code ∙ sym (code-count j)
 

@@ -11,7 +11,7 @@ ghost use Rattle.well_formed.specs.Tests.{number_in};
 ghost use Rattle.nll.specs.Analysis.{AnalyseSays, points_of};
 
 use answer::write;
-use record::Record;
+use record::{Offsets, Record};
 use repr::Refusal;
 use room::{has_room, shape_of};
 use well_formed::judge;
@@ -21,7 +21,7 @@ use well_formed::judge;
 pub fn analyse(s: &[u8], words: &mut [u32], bytes: &mut [u8]) -> Result<(), Refusal>
     ensures { AnalyseSays s.now words.old bytes.old (number_in result) words.new bytes.new }
 {
-    let mut layout = [0; 1280];
+    let mut layout = Offsets::none();
     let head = judge(s, &mut layout)?;
     if !has_room(head, words.len(), bytes.len()) {
         return Err(Refusal::Room);
@@ -49,7 +49,7 @@ pub fn nll_analyse(input: &[u8], words: &mut [u32], bytes: &mut [u8]) -> u8
 pub fn nll_points(input: &[u8]) -> u16
     ensures { result ≡ points_of (output.judge input.now) }
 {
-    let mut layout = [0; 1280];
+    let mut layout = Offsets::none();
     match judge(input, &mut layout) {
         Ok(head) => shape_of(head).points as u16,
         Err(_) => 0,
