@@ -1,5 +1,4 @@
 -- `rerun::turn`: the constraints of the list, then those of points near. Assumes nothing.
-use native.Mathlib.Omega.{arith}
 use Rattle.rerun.proofs.RerunLaws.{more-fewer, more-held, more_then}
 use Rattle.rerun.proofs.turn.Goals as goal
 

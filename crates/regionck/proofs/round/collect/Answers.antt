@@ -1,5 +1,4 @@
 -- `regionck::round::collect` meets its contract. The loop's invariant: the list has the constraints of the points up to p. Assumes nothing.
-use mathlib.Core.Path.{◌≡◌}
 use native.Mathlib.Omega.{arith}
 use Rattle.rerun.proofs.PointLaws.{held_none, held_more}
 use Rattle.regionck.proofs.round.collect.Goals as goal
