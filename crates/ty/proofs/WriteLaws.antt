@@ -1,6 +1,6 @@
 -- What each way through the writing of a type says of the bytes. Assumes nothing.
 use mathlib.Core.Path.{◌≡◌, refl, sym, ap, subst as transport, ◌∙◌}
-use mathlib.Core.List.{List, ◌++◌, append_assoc}
+use mathlib.Core.List.{List, [], ◌∷◌, ◌++◌, append_assoc}
 use Prim.Native.Nat.{ℕ, suc, ◌+◌, ◌-◌, ◌*◌, ◌≤◌, ◌<◌}
 use native.Mathlib.Omega.{arith}
 use native.Mathlib.Decide.{dec_lt}
@@ -21,9 +21,10 @@ use Rattle.std.specs.Prelude.{Option, Some, None, Result, Ok, Err, min}
 use Rattle.repr.specs.declared.Region.{Region}
 use Rattle.repr.specs.Stands.{TypeTo}
 use Rattle.repr.specs.Spelling.{spell, spell_args, Fine, FineArgs}
-use Rattle.ty.specs.Written.{Given, FoundIs, FoundSays, Puts, Writes, Room, UnitSays, CopySays, BoundSays}
+use Rattle.ty.specs.Written.{Given, FoundIs, FoundSays}
+use Rattle.ty.specs.Writing.{Puts, Writes, Keeps, Room, CopySays, BoundSays}
 use Rattle.ty.specs.declared.write.Arguments.{Arguments}
-use Rattle.ty.specs.declared.write.Wrote.{Wrote}
+use Rattle.ty.specs.declared.write.Writer.{Writer}
 use Rattle.repr.proofs.SpellLaws.{clash, Spelt}
 use Rattle.repr.proofs.StandLaws.{type-bytes, type_once, type-passed}
 
@@ -81,36 +82,57 @@ lies {s} {from} {left} {to} {d} {x} v e b =
 
 -- ---- One piece after another
 
-pub writes_more : (f dst d₁ d₂ l bytes over : List ℕ) (at at₁ left left₁ k nodes all : ℕ) → take at₁ d₁ ≡ take at dst ++ l → left₁ + k ≡ left → k + nodes ≡ all → (r : Option Wrote) → Writes f d₁ d₂ at₁ left₁ nodes bytes over r → Writes f dst d₂ at left all (l ++ bytes) over r
-writes_more f dst d₁ d₂ l bytes over at at₁ left left₁ k nodes all e h g (Some x) w =
-    record { ends = w.ends; took = (let i = w.took in omega arith); stand = w.stand ∙ (ap (λ (x : List ℕ). x ++ bytes) e ∙ append_assoc (take at dst) l bytes) }
-writes_more f dst d₁ d₂ l bytes over at at₁ left left₁ k nodes all e h g None w = omega arith
+module _ {w w₁ : Writer} {k : ℕ} {l : List ℕ} (p : Puts k l w w₁) where
+  pub writes_more : (f over : List ℕ) (w₂ : Writer) (nodes all : ℕ) (bytes : List ℕ) → k + nodes ≡ all → (r : Option Cursor) → Writes f over nodes bytes w₁ w₂ r → Writes f over all (l ++ bytes) w w₂ r
+  writes_more f over w₂ nodes all bytes g (Some c) q =
+      let t = p.took in
+      let e = p.ends in
+      let t₁ = q.1.took in
+      let e₁ = q.1.ends in
+      (q.0, record { took = omega arith; ends = simp length-append (omega arith); same = q.1.same ∙ p.same; stand = q.1.stand ∙ (ap (λ (x : List ℕ). x ++ bytes) p.stand ∙ append_assoc (take w.at w.out.now) l bytes) })
+  writes_more f over w₂ nodes all bytes g None q = let t = p.took in omega arith
 
-pub room-more : (at at₁ left left₁ m m₁ : ℕ) → left₁ ≤ left → at₁ + 15 * left₁ + m₁ ≤ at + 15 * left + m → (r : Option Wrote) → Room at₁ left₁ m₁ r → Room at left m r
-room-more at at₁ left left₁ m m₁ h g (Some x) w = (let o = w.0 in omega arith, let o = w.1 in omega arith)
-room-more at at₁ left left₁ m m₁ h g None w = tt
+  pub keeps_put : (more : ℕ) → length l ≤ 15 * k + more → Keeps more w w₁
+  keeps_put more h = let t = p.took in let e = p.ends in record { same = p.same; fewer = omega arith; room = omega arith }
+
+  pub room-more : (more m : ℕ) (w₂ : Writer) → length l + m ≤ 15 * k + more → (r : Option Cursor) → Room m w₁ w₂ r → Room more w w₂ r
+  room-more more m w₂ h (Some c) q =
+      let t = p.took in
+      let e = p.ends in
+      let t₁ = q.fewer in
+      let e₁ = q.room in
+      record { same = q.same ∙ p.same; fewer = omega arith; room = omega arith }
+  room-more more m w₂ h None q = tt
+
+pub room-then : {w w₁ : Writer} (m : ℕ) (w₂ : Writer) → Keeps 0 w w₁ → (r : Option Cursor) → Room m w₁ w₂ r → Room m w w₂ r
+room-then m w₂ p (Some c) q =
+    let t = p.fewer in
+    let e = p.room in
+    let t₁ = q.fewer in
+    let e₁ = q.room in
+    record { same = q.same ∙ p.same; fewer = omega arith; room = omega arith }
+room-then m w₂ p None q = tt
 
 -- ---- A type as it is
 
-module _ {s : List ℕ} {item : ℕ} {dst dst' : List ℕ} {at left : ℕ} {d : Result Rest Refusal} (v : TypeSays s item left d) where
-  pub copy_over : {next : Cursor} {k : Refusal} → d ≡ Err k → CopySays s item next dst dst' at left None
-  copy_over e = record { says = λ f t over p. go t over p (dec_lt left (type_nodes t)); room = tt }
+module _ {s : List ℕ} {item : ℕ} {next : Cursor} {w w₁ : Writer} {d : Result Rest Refusal} (v : TypeSays s item w.left d) where
+  pub copy_over : {k : Refusal} → d ≡ Err k → CopySays s item next w w₁ None
+  copy_over e = record { says = λ f t over p. go t over p (dec_lt w.left (type_nodes t)); room = tt }
     where
-      go : (t : Ty) (over : List ℕ) → TypeTo (drop item s) t over → Dec (left < type_nodes t) → left < type_nodes t
+      go : (t : Ty) (over : List ℕ) → TypeTo (drop item s) t over → Dec (w.left < type_nodes t) → w.left < type_nodes t
       go t over p (yes h) = h
       go t over p (no h) = absurd (clash (sym (ap (nodes_says s) e) ∙ type-passed v p (omega arith)))
 
-  pub copied : {next : Cursor} {to : ℕ} {x : Rest} → d ≡ Ok x → to ≡ min x.next.at (length s) → take (at + length (take (to - item) (drop item s))) dst' ≡ take at dst ++ take (to - item) (drop item s) → CopySays s item next dst dst' at left (Some (record { next = next; at = at + length (take (to - item) (drop item s)); left = x.left }))
-  copied {next = next} {to = to} {x = x} e b h =
-      let w = lies v e b in
-      let n = w.nodes in
-      let o = w.room in
+  pub copied : {to : ℕ} {x : Rest} → d ≡ Ok x → to ≡ min x.next.at (length s) → Puts (w.left - x.left) (take (to - item) (drop item s)) w w₁ → CopySays s item next w w₁ (Some next)
+  copied {to = to} {x = x} e b h =
+      let y = lies v e b in
+      let n = y.nodes in
+      let o = y.room in
       let l = length-take (to - item) (drop item s) in
+      let i : w.left - x.left ≡ type_nodes y.type = omega arith in
       record {
-        says = λ f t over p.
-            let i : w.type ≡ t = type_once w.stands p in
-            transport (λ (u : Ty). Puts (rest f next) dst dst' at left (type_nodes u) (spell u) (rest f next) (at + length (take (to - item) (drop item s))) x.left) i (record { ends = refl; took = n; stand = h ∙ ap (λ (l : List ℕ). take at dst ++ l) w.bytes });
-        room = (omega arith, omega arith);
+        says = λ f t over p. transport (λ (u : Ty). Writes f (rest f next) (type_nodes u) (spell u) w w₁ (Some next)) (type_once y.stands p) (refl, rw (i, y.bytes) at h);
+        room = keeps_put h 0 (omega arith);
       }
 
 -- ---- What a bound index means
@@ -118,16 +140,17 @@ module _ {s : List ℕ} {item : ℕ} {dst dst' : List ℕ} {at left : ℕ} {d : 
 found : {a : Arguments} {b : ℕ} {d x : Option Argument} → FoundSays a b d → d ≡ x → (g : Args) → Given a g → FoundIs a.bytes.now (bound_args g b) x
 found {a} {b} v e g w = transport (λ (x : Option Argument). FoundIs a.bytes.now (bound_args g b) x) e (v.says g w)
 
-pub unit-there : {next : Cursor} {dst dst' : List ℕ} {at left : ℕ} {r : Option Wrote} (u : UnitSays next dst dst' at left r) (f : List ℕ) (t : Ty) → t ≡ UnitTy → Writes f dst dst' at left (type_nodes t) (spell t) (rest f next) r
+pub unit_writes : (f over : List ℕ) (next : Cursor) {w w₁ : Writer} (t : Ty) → t ≡ UnitTy → rest f next ≡ over → Puts 1 (0 ∷ []) w w₁ → Writes f over (type_nodes t) (spell t) w w₁ (Some next)
 unfolding type_nodes
-unit-there u f t e = rw e (u.says f)
+unit_writes f over next t e i p = rw e (i, p)
 
-module _ {a : Arguments} {b : ℕ} {next : Cursor} {dst dst' : List ℕ} {at left : ℕ} {r : Option Wrote} {d : Option Argument} (v : FoundSays a b d) where
-  pub bound_type : {item : Cursor} → d ≡ Some (arguments.Type item) → CopySays a.bytes.now item.at next dst dst' at left r → BoundSays a b next dst dst' at left r
-  bound_type e u = record { says = λ f g w. let x = found v e g w in u.says f (head_type (bound_args g b)) x.over x.stands; room = u.room }
+module _ {a : Arguments} {b : ℕ} {next : Cursor} {w w₁ : Writer} {d : Option Argument} (v : FoundSays a b d) where
+  pub bound_type : {item : Cursor} {r : Option Cursor} → d ≡ Some (arguments.Type item) → CopySays a.bytes.now item.at next w w₁ r → BoundSays a b next w w₁ r
+  bound_type e u = record { says = λ f g y. let x = found v e g y in u.says f (head_type (bound_args g b)) x.over x.stands; room = u.room }
 
-  pub bound_region : {x : Region} {c : Cursor} → d ≡ Some (arguments.Region x c) → UnitSays next dst dst' at left r → BoundSays a b next dst dst' at left r
-  bound_region e u = record { says = λ f g w. unit-there u f (head_type (bound_args g b)) (found v e g w).type; room = u.room }
+  module _ (p : Puts 1 (0 ∷ []) w w₁) where
+    pub bound_region : {x : Region} {c : Cursor} → d ≡ Some (arguments.Region x c) → BoundSays a b next w w₁ (Some next)
+    bound_region e = record { says = λ f g y. unit_writes f (rest f next) next (head_type (bound_args g b)) (found v e g y).type refl p; room = keeps_put p 0 (omega arith) }
 
-  pub bound_none : d ≡ None → UnitSays next dst dst' at left r → BoundSays a b next dst dst' at left r
-  bound_none e u = record { says = λ f g w. unit-there u f (head_type (bound_args g b)) (found v e g w).type; room = u.room }
+    pub bound_none : d ≡ None → BoundSays a b next w w₁ (Some next)
+    bound_none e = record { says = λ f g y. unit_writes f (rest f next) next (head_type (bound_args g b)) (found v e g y).type refl p; room = keeps_put p 0 (omega arith) }

@@ -11,7 +11,6 @@ use Rattle.repr.specs.declared.Argument.TheVariants as arguments
 use Rattle.repr.specs.Stands.{TypeTo, ArgsTo, TypeAt}
 use Rattle.repr.specs.Spelling.{spell, spell_args}
 use Rattle.ty.specs.declared.write.Arguments.{Arguments}
-use Rattle.ty.specs.declared.write.Wrote.{Wrote}
 
 -- ---- The arguments
 
@@ -45,44 +44,6 @@ pub record FoundSays (a : Arguments) (b : ℕ) (r : Option Argument) : Type 0 wh
 
 pub record RegionSays (a : Arguments) (r x : Region) : Type 0 where
   pub says : (g : Args) → Given a g → region_of x ≡ subst_region g (region_of r)
-
--- ---- What is written
-
--- From `at` on stand these bytes, which took so many of the nodes, and what was read ends before `over`.
-pub record Puts (end dst dst' : List ℕ) (at left nodes : ℕ) (bytes over : List ℕ) (at' left' : ℕ) : Type 0 where
-  pub ends : end ≡ over
-  pub took : left' + nodes ≡ left
-  pub stand : take at' dst' ≡ take at dst ++ bytes
-
--- An item of so many nodes and these bytes is written, or has more nodes than are left.
-abbrev pub Writes : List ℕ → List ℕ → List ℕ → ℕ → ℕ → ℕ → List ℕ → List ℕ → Option Wrote → Type 0
-Writes f dst dst' at left nodes bytes over (Some w) = Puts (rest f w.next) dst dst' at left nodes bytes over w.at w.left
-Writes f dst dst' at left nodes bytes over None = left < nodes
-
--- No more room is used than the nodes have: 15 bytes each, and `more`.
-abbrev pub Room : ℕ → ℕ → ℕ → Option Wrote → Type 0
-Room at left more (Some w) = (w.left ≤ left) × (w.at + 15 * w.left ≤ at + 15 * left + more)
-Room at left more None = Unit {0}
-
-pub record UnitSays (next : Cursor) (dst dst' : List ℕ) (at left : ℕ) (r : Option Wrote) : Type 0 where
-  pub says : (f : List ℕ) → Writes f dst dst' at left 1 (0 ∷ []) (rest f next) r
-  pub room : Room at left 0 r
-
-pub record CopySays (s : List ℕ) (item : ℕ) (next : Cursor) (dst dst' : List ℕ) (at left : ℕ) (r : Option Wrote) : Type 0 where
-  pub says : (f : List ℕ) (t : Ty) (over : List ℕ) → TypeTo (drop item s) t over → Writes f dst dst' at left (type_nodes t) (spell t) (rest f next) r
-  pub room : Room at left 0 r
-
-pub record BoundSays (a : Arguments) (b : ℕ) (next : Cursor) (dst dst' : List ℕ) (at left : ℕ) (r : Option Wrote) : Type 0 where
-  pub says : (f : List ℕ) (g : Args) → Given a g → Writes f dst dst' at left (type_nodes (head_type (bound_args g b))) (spell (head_type (bound_args g b))) (rest f next) r
-  pub room : Room at left 0 r
-
-pub record SubstSays (f : List ℕ) (c : ℕ) (a : Arguments) (dst dst' : List ℕ) (at left : ℕ) (r : Option Wrote) : Type 0 where
-  pub says : (t : Ty) (over : List ℕ) (g : Args) → TypeTo (drop c f) t over → Given a g → Writes f dst dst' at left (type_nodes (subst t g)) (spell (subst t g)) over r
-  pub room : Room at left 0 r
-
-pub record ArgumentsSay (f : List ℕ) (c n : ℕ) (a : Arguments) (dst dst' : List ℕ) (at left : ℕ) (r : Option Wrote) : Type 0 where
-  pub says : (h : Args) (over : List ℕ) (g : Args) → ArgsTo (drop c f) n h over → Given a g → Writes f dst dst' at left (arg_nodes (subst_args h g)) (spell_args (subst_args h g)) over r
-  pub room : Room at left (3 * n) r
 
 -- ---- Whole types
 

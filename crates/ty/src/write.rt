@@ -2,7 +2,7 @@
 ghost use Rattle.std.specs.Prelude.{◌≡◌, ◌++◌, [], ◌∷◌, ◌+◌, ◌*◌, ◌≤◌, length, take};
 ghost use Rattle.repr.specs.Reading.{borrow_kind_of, region_of};
 ghost use Rattle.repr.specs.Spelling.{kind_byte, region_tag, region_number};
-ghost use Rattle.ty.specs.Written.{FoundSays, RegionSays, UnitSays, CopySays, BoundSays, SubstSays, ArgumentsSay, WholeSays, CopiedSays};
+ghost use Rattle.ty.specs.Written.{FoundSays, RegionSays, WholeSays, CopiedSays};
 
 use repr::{Argument, BorrowKind, Cursor, Node, Region, RegionName};
 
@@ -14,23 +14,19 @@ pub struct Arguments<'a> {
     pub count: u8,
 }
 
-// What was written: where the type that was read ends, where the written one ends, and the nodes that are left.
-#[derive(Clone, Copy)]
-struct Wrote {
-    next: Cursor,
+// The nodes that a type has at most.
+const NODES: u8 = 32;
+
+// Bytes that types are written into, where the next byte goes, and how many nodes more there is room for.
+#[derive(Drop)]
+struct Writer<'a> {
+    out: &'a mut [u8; 512],
     at: usize,
     left: u8,
+    ghost room: { at + 15 * left ≤ 512 },
 }
 
-// Bytes, written from a place on.
-fn put(out: &mut [u8], at: usize, bytes: &[u8])
-    requires { at + length bytes.now ≤ length out.old }
-    ensures { take (at + length bytes.now) out.new ≡ take at out.old ++ bytes.now }
-{
-    out[at..at + bytes.len()].copy_from_slice(bytes);
-}
-
-// The same of a run of any length. A library's copy of it would call memmove, and the C library needs memcpy and memset alone.
+// Bytes, written from a place on. A library's copy of them would call memmove, and the C library needs memcpy and memset alone.
 fn put_run(out: &mut [u8], at: usize, bytes: &[u8])
     requires { at + length bytes.now ≤ length out.old }
     ensures { take (at + length bytes.now) out.new ≡ take at out.old ++ bytes.now }
@@ -55,43 +51,6 @@ fn kind_byte(kind: BorrowKind) -> u8
     ensures { result ≡ kind_byte (borrow_kind_of kind) }
 {
     kind as u8
-}
-
-fn put_unit(next: Cursor, out: &mut [u8], at: usize, left: u8) -> Option<Wrote>
-    requires { at + 15 * left ≤ length out.old }
-    ensures { UnitSays next out.old out.new at left result }
-{
-    if left == 0 {
-        return None;
-    }
-    put(out, at, &[0]);
-    Some(Wrote {
-        next,
-        at: at + 1,
-        left: left - 1,
-    })
-}
-
-// The type at a place, as it is.
-fn put_type(
-    s: &[u8],
-    item: Cursor,
-    next: Cursor,
-    out: &mut [u8],
-    at: usize,
-    left: u8,
-) -> Option<Wrote>
-    requires { at + 15 * left ≤ length out.old }
-    ensures { CopySays s.now item.at next out.old out.new at left result }
-{
-    let rest = item.nodes(s, left).ok()?;
-    let bytes = &s[item.at..rest.next.at.min(s.len())];
-    put_run(out, at, bytes);
-    Some(Wrote {
-        next,
-        at: at + bytes.len(),
-        left: rest.left,
-    })
 }
 
 impl Arguments<'_> {
@@ -120,108 +79,139 @@ impl Arguments<'_> {
             None => Region::Free(RegionName(0)),
         }
     }
+}
 
-    // The type that a bound index means, written in its place.
-    fn put_bound(&self, b: u8, next: Cursor, out: &mut [u8], at: usize, left: u8) -> Option<Wrote>
-        requires { at + 15 * left ≤ length out.old }
-        ensures { BoundSays self.now b next out.old out.new at left result }
+impl Writer<'_> {
+    ghost use Rattle.ty.specs.Writing.{Puts, CopySays, BoundSays, SubstSays, ArgumentsSay};
+
+    // Bytes of so many nodes.
+    fn put(&mut self, nodes: u8, bytes: &[u8])
+        requires { (nodes ≤ self.old.left) × (self.old.at + 15 * self.old.left + length bytes.now ≤ 512 + 15 * nodes) }
+        ensures { Puts nodes bytes.now self.old self.new }
     {
-        match self.found(b) {
-            Some(Argument::Type(item)) => put_type(self.bytes, item, next, out, at, left),
-            Some(Argument::Region(_, _)) => put_unit(next, out, at, left),
-            None => put_unit(next, out, at, left),
-        }
+        let at = self.at;
+        let out = &mut *self.out;
+        put_run(out, at, bytes);
+        self.left -= nodes;
+        self.at = at + bytes.len();
     }
-}
 
-// A field's type, which has at most `left` nodes once the arguments are put in.
-#[cycle(subst_arguments_subst_type)]
-fn subst_type(
-    f: &[u8],
-    c: Cursor,
-    given: &Arguments<'_>,
-    out: &mut [u8],
-    at: usize,
-    left: u8,
-) -> Option<Wrote>
-    requires { at + 15 * left ≤ length out.old }
-    ensures { SubstSays f.now c.at given.now out.old out.new at left result }
-{
-    if left == 0 {
-        return None;
+    // The type at a place, as it is.
+    fn put_type(&mut self, s: &[u8], item: Cursor, next: Cursor) -> Option<Cursor>
+        ensures { CopySays s.now item.at next self.old self.new result }
+    {
+        let rest = item.nodes(s, self.left).ok()?;
+        self.put(self.left - rest.left, &s[item.at..rest.next.at.min(s.len())]);
+        Some(next)
     }
-    match c.type_node(f).ok()? {
-        Node::Unit(next) => put_unit(next, out, at, left),
-        Node::Bound(b, next) => given.put_bound(b, next, out, at, left),
-        Node::Ref {
-            kind,
-            region,
-            referent,
-        } => {
-            let [tag, number] = spelled(given.region(region));
-            put(out, at, &[1, kind_byte(kind), tag, number]);
-            subst_type(f, referent, given, out, at + 4, left - 1)
-        }
-        Node::Struct {
-            name,
-            count,
-            arguments,
-        } => {
-            if count > 4 {
-                return None;
+
+    // The type that a bound index means.
+    fn put_bound(&mut self, given: &Arguments<'_>, b: u8, next: Cursor) -> Option<Cursor>
+        requires { 1 ≤ self.old.left }
+        ensures { BoundSays given.now b next self.old self.new result }
+    {
+        match given.found(b) {
+            Some(Argument::Type(item)) => self.put_type(given.bytes, item, next),
+            Some(Argument::Region(_, _)) => {
+                self.put(1, &[0]);
+                Some(next)
             }
-            put(out, at, &[2, name.0, count]);
-            subst_arguments(f, arguments, count, given, out, at + 3, left - 1)
+            None => {
+                self.put(1, &[0]);
+                Some(next)
+            }
         }
     }
-}
 
-// So many arguments of a field's type.
-#[cycle(subst_arguments_subst_type)]
-fn subst_arguments(
-    f: &[u8],
-    c: Cursor,
-    count: u8,
-    given: &Arguments<'_>,
-    out: &mut [u8],
-    at: usize,
-    left: u8,
-) -> Option<Wrote>
-    requires { at + 15 * left + 3 * count ≤ length out.old }
-    ensures { ArgumentsSay f.now c.at count given.now out.old out.new at left result }
-{
-    let mut wrote = Wrote { next: c, at, left };
-    for _ in 0..count {
-        let Wrote { next, at, left } = wrote;
-        wrote = match next.argument(f).ok()? {
-            Argument::Region(region, next) => {
+    // A field's type, which has at most `left` nodes once the arguments are put in.
+    #[cycle(subst_arguments_subst_type)]
+    fn subst_type(&mut self, f: &[u8], c: Cursor, given: &Arguments<'_>) -> Option<Cursor>
+        ensures { SubstSays f.now c.at given.now self.old self.new result }
+    {
+        if self.left == 0 {
+            return None;
+        }
+        match c.type_node(f).ok()? {
+            Node::Unit(next) => {
+                self.put(1, &[0]);
+                Some(next)
+            }
+            Node::Bound(b, next) => self.put_bound(given, b, next),
+            Node::Ref {
+                kind,
+                region,
+                referent,
+            } => {
                 let [tag, number] = spelled(given.region(region));
-                put(out, at, &[0, tag, number]);
-                Wrote {
-                    next,
-                    at: at + 3,
-                    left,
+                self.put(1, &[1, kind_byte(kind), tag, number]);
+                self.subst_type(f, referent, given)
+            }
+            Node::Struct {
+                name,
+                count,
+                arguments,
+            } => {
+                if count > 4 {
+                    return None;
                 }
+                self.put(1, &[2, name.0, count]);
+                self.subst_arguments(f, arguments, count, given)
             }
-            Argument::Type(item) => {
-                put(out, at, &[1]);
-                subst_type(f, item, given, out, at + 1, left)?
-            }
-        };
+        }
     }
-    Some(wrote)
+
+    // So many arguments of a field's type.
+    #[cycle(subst_arguments_subst_type)]
+    fn subst_arguments(
+        &mut self,
+        f: &[u8],
+        c: Cursor,
+        count: u8,
+        given: &Arguments<'_>,
+    ) -> Option<Cursor>
+        requires { self.old.at + 15 * self.old.left + 3 * count ≤ 512 }
+        ensures { ArgumentsSay f.now c.at count given.now self.old self.new result }
+    {
+        let mut next = c;
+        for _ in 0..count {
+            next = match next.argument(f).ok()? {
+                Argument::Region(region, next) => {
+                    let [tag, number] = spelled(given.region(region));
+                    self.put(0, &[0, tag, number]);
+                    next
+                }
+                Argument::Type(item) => {
+                    self.put(0, &[1]);
+                    self.subst_type(f, item, given)?
+                }
+            };
+        }
+        Some(next)
+    }
 }
 
 // The type at x of a field, with the arguments put in, from the first of the lent bytes on, and where it ends there; none if it has more than 32 nodes.
 pub fn subst(field: &[u8], x: Cursor, given: &Arguments<'_>, out: &mut [u8; 512]) -> Option<usize>
     ensures { WholeSays field.now x.at given.now out.new result }
 {
-    Some(subst_type(field, x, given, out, 0, 32)?.at)
+    let mut writer = Writer {
+        out,
+        at: 0,
+        left: NODES,
+    };
+    writer.subst_type(field, x, given)?;
+    Some(writer.at)
 }
 
 // The type at x, from the first of the lent bytes on, and where it ends there; none if it has more than 32 nodes.
 pub fn copy(field: &[u8], x: Cursor, out: &mut [u8; 512]) -> Option<usize>
     ensures { CopiedSays field.now x.at out.new result }
 {
-    Some(put_type(field, x, x, out, 0, 32)?.at)
+    let mut writer = Writer {
+        out,
+        at: 0,
+        left: NODES,
+    };
+    writer.put_type(field, x, x)?;
+    Some(writer.at)
 }

@@ -1,13 +1,13 @@
 use mathlib.Core.Path.{ap, ◌∙◌}
 use Rattle.std.specs.Prelude.{Some}
 use Rattle.ty.proofs.WriteLaws as laws
-use Rattle.ty.proofs.write.Arguments.put_bound.Goals as goal
+use Rattle.ty.proofs.write.Writer.put_bound.Goals as goal
 
 pub returns-in-Some-Type : goal.returns-in-Some-Type
 returns-in-Some-Type c = laws.bound_type c.found.ensures (c.in-Some-Type.is ∙ ap Some c.in-Some-Type.field-0-is) c.put_type.ensures
 
 pub returns-in-Some-Region : goal.returns-in-Some-Region
-returns-in-Some-Region c = laws.bound_region c.found.ensures (c.in-Some-Region.is ∙ ap Some c.in-Some-Region.field-0-is) c.put_unit.ensures
+returns-in-Some-Region c = laws.bound_region c.found.ensures c.put.ensures (c.in-Some-Region.is ∙ ap Some c.in-Some-Region.field-0-is)
 
 pub returns-in-None : goal.returns-in-None
-returns-in-None c = laws.bound_none c.found.ensures c.in-None.is c.put_unit-in-None.ensures
+returns-in-None c = laws.bound_none c.found.ensures c.put-in-None.ensures c.in-None.is
