@@ -1,5 +1,4 @@
 pub mod NamedLaws
-pub mod MarkLaws
 pub mod PointLaws
 pub mod RerunLaws
 pub mod KeepLaws
