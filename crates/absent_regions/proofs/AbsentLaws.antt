@@ -1,25 +1,26 @@
 -- Rows of absent regions: what is put into a row, and a set whose regions are all in it. Assumes nothing.
 use mathlib.Core.Path.{◌≡◌, refl, sym, ap, ◌∙◌, subst}
-use mathlib.Core.Logic.{◌⊎◌, inl, inr}
-use mathlib.Core.Bool.{Bool, true, false, cond, ◌&&◌}
+use mathlib.Core.Logic.{◌⊎◌, inl, inr, ⊎_elim}
+use mathlib.Core.Bool.{Bool, true, false, ◌&&◌, ◌||◌, true≢false}
 use mathlib.Core.List.{List}
 use Prim.Native.Nat.{ℕ, zero, suc, ◌+◌, ◌*◌, ◌/◌, ◌%◌, ◌≤◌, ◌<◌}
 use native.Mathlib.Omega.{arith}
-use native.Mathlib.Decide.{ℕ_discrete}
-use native.Mathlib.Numerals.{add-one}
+use native.Mathlib.Decide.{ℕ_discrete, dec_lt}
 use lib.ListN.{length, get_or}
 use lib.Dec.{eqb}
 use lib.Bits.{bit_and}
-use borrow.Author.Tests.{eqb-true, eqb-false, eq-eqb, not-true, lt-ltb}
+use borrow.Author.Tests.{eqb-true, eqb-false, eq-eqb, not-true, lt-ltb, ltb-true}
 use Rattle.std.specs.List.{list_all, range_with_len}
 use Rattle.nll_spec.specs.Syntax.{Point, RegionName}
 use Rattle.nll_spec.specs.Output.{word_bits}
 use Rattle.nll_spec.specs.Meaning.{bit_of}
-use Rattle.bit_set.specs.Bits.{has, with_bit}
-use Rattle.bit_set.proofs.BitLaws.{digit, both_digits, place, length_with, has_with_other}
+use Rattle.bit_set.specs.Bits.{has, joined}
+use Rattle.bit_set.proofs.BitLaws.{digit, both_digits, place}
 use Rattle.bit_set.proofs.RunLaws.{and_true_left, and_true_right}
+use Rattle.bit_set.proofs.SetLaws.{length-joined, has-joined, has-joined_other}
 use Rattle.constraint_list.specs.Listed.{count_in}
-use Rattle.absent_regions.specs.Absent.{row_bit, has_row, inner_at, Absent, is_absent, with_absent, words_in, all_in, InnerMarked, Puts, AllIn}
+use Rattle.absent_regions.specs.Absent.{row_bit, has_row, inner_at, Absent, is_absent, words_in, all_in, AbsentBelow, Puts, AllIn}
+use Rattle.absent_regions.proofs.MarkLaws.{one_of}
 
 -- ---- What is put into a row
 
@@ -34,40 +35,33 @@ absent ls (suc n) x e i l q =
     ]
 
 module _ (ls : List ℕ) (p : Point) (t : List ℕ) where
-  -- what comes to the table comes to row p and is absent
-  record Comes (u : List ℕ) : Type 0 where
-    as_long : length u ≡ length t
-    only : (q : Point) (x : RegionName) → x < 128 → has u (row_bit q x) ≡ true → (has t (row_bit q x) ≡ true) ⊎ ((q ≡ p) × Absent ls x)
+  module _ {set : List ℕ} (a : AbsentBelow ls (count_in ls) set) (l : p < length t / 4) where
+    abbrev after : List ℕ
+    after = joined t (4 * p) set 0 4
 
-  -- one more
-  comes_with : {u : List ℕ} (x : RegionName) → Comes u → x < 128 → Absent ls x → Comes (with_bit u (row_bit p x))
-  comes_with {u} x a l n = record { as_long = length_with u (row_bit p x) ∙ a.as_long; only = λ q y m h. go q y m h (ℕ_discrete (row_bit q y) (row_bit p x)) }
-    where
-      go : (q : Point) (y : RegionName) → y < 128 → has (with_bit u (row_bit p x)) (row_bit q y) ≡ true → Dec (row_bit q y ≡ row_bit p x) → (has t (row_bit q y) ≡ true) ⊎ ((q ≡ p) × Absent ls y)
-      go q y m h (yes e) = let s : x ≡ y = omega (arith, e, l, m) in inr (omega (arith, e, l, m), subst (λ (r : RegionName). Absent ls r) s n)
-      go q y m h (no e) = a.only q y m (sym (has_with_other u (row_bit p x) (row_bit q y) e) ∙ h)
+    row : (x : RegionName) → x < 128 → has after (row_bit p x) ≡ (has t (row_bit p x) || is_absent ls (count_in ls) x)
+    row x m =
+        has-joined t (4 * p) set 0 4 (omega (arith, l)) (omega (arith, a.sized)) x (omega (arith, m))
+        ∙ ap (λ (b : Bool). has t (row_bit p x) || b) (ap (has set) (omega arith) ∙ a.is x m)
 
-  -- all that is put
-  comes : (n : ℕ) → n ≤ 128 → Comes (with_absent ls p t n)
-  unfolding with_absent
-  comes zero l = record { as_long = refl; only = λ q x m h. inl h }
-  comes (suc n) l = go (is_absent ls (count_in ls) n) refl (comes n (omega arith))
-    where
-      go : (b : Bool) → is_absent ls (count_in ls) n ≡ b → Comes (with_absent ls p t n) → Comes (cond b (with_bit (with_absent ls p t n) (row_bit p n)) (with_absent ls p t n))
-      go true e a = comes_with n a (omega arith) (absent ls (count_in ls) n e)
-      go false e a = a
+    only : (q : Point) (x : RegionName) → x < 128 → has after (row_bit q x) ≡ true → Dec (q ≡ p) → (has t (row_bit q x) ≡ true) ⊎ ((q ≡ p) × Absent ls x)
+    only q x m h (yes e) =
+        ⊎_elim (λ z. inl (rw e z)) (λ z. inr (e, absent ls (count_in ls) x z)) (one_of _ _ (sym (row x m) ∙ ap (λ (y : Point). has after (row_bit y x)) (sym e) ∙ h))
+    only q x m h (no n) = inl (sym (has-joined_other t (4 * p) set 0 4 (row_bit q x) (elsewhere (dec_lt q p))) ∙ h)
+      where
+        elsewhere : Dec (q < p) → (row_bit q x < word_bits * (4 * p)) ⊎ (word_bits * (4 * p + 4) ≤ row_bit q x)
+        elsewhere (yes k) = inl (omega (arith, k, m))
+        elsewhere (no k) = inr (omega (arith, k, n))
 
-  pub with_none : t ≡ with_absent ls p t 0
-  unfolding with_absent
-  with_none = refl
-
-  pub with_more : {u u' marks : List ℕ} (x : RegionName) → InnerMarked ls (count_in ls) marks → x < 128 → u ≡ with_absent ls p t x
-      → u' ≡ cond (eqb (get_or marks x 0) 0) (with_bit u (row_bit p x)) u → u' ≡ with_absent ls p t (x + 1)
-  unfolding with_absent
-  with_more x m l e s = s ∙ rw (add-one, m.is x l, e)
-
-  pub puts : {u : List ℕ} → u ≡ with_absent ls p t 128 → p < length t / 4 → Puts ls p t u
-  puts e l = rw e record { as_long = (comes 128 (omega arith)).as_long; only = (comes 128 (omega arith)).only; is = rw (lt-ltb p (length t / 4) l) }
+    pub puts : Puts ls p t after
+    puts =
+        record {
+          as_long = length-joined t (4 * p) set 0 4;
+          only = λ q x m h. only q x m h (ℕ_discrete q p);
+          row = λ e. row;
+          others = λ j h. has-joined_other t (4 * p) set 0 4 j (⊎_elim (λ z. inl (omega (arith, z))) (λ z. inr (omega (arith, z))) h);
+          past = λ e. absurd (true≢false (sym (lt-ltb p (length t / 4) l) ∙ e));
+        }
 
 -- ---- A set whose regions are all in a row
 

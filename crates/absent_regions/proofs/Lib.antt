@@ -1,2 +1,2 @@
-pub mod AbsentLaws
 pub mod MarkLaws
+pub mod AbsentLaws

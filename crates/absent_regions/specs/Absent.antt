@@ -1,10 +1,9 @@
 -- For each point a row of four words: regions that are inner regions of no constraint of the point.
-use Rattle.std.specs.Prelude.{◌≡◌, ◌⊎◌, Bool, true, not, ◌&&◌, cond, List, ℕ, zero, suc, ◌+◌, ◌*◌, ◌/◌, ◌<◌, length, get_or, eqb, ltb}
+use Rattle.std.specs.Prelude.{◌≡◌, ◌⊎◌, Bool, true, false, not, ◌&&◌, ◌||◌, List, ℕ, zero, suc, ◌+◌, ◌*◌, ◌/◌, ◌<◌, ◌≤◌, length, get_or, eqb, ltb}
 use Rattle.std.specs.Int.Bits.{bit_and}
 use Rattle.nll_spec.specs.Syntax.{Point, RegionName}
 use Rattle.nll_spec.specs.Output.{word_bits}
-use Rattle.bit_set.specs.Bits.{has, with_bit}
-use Rattle.graph.specs.Search.{Marked}
+use Rattle.bit_set.specs.Bits.{has}
 use Rattle.constraint_list.specs.Listed.{outlives_from, count_in}
 
 -- number x of point p's row
@@ -28,11 +27,6 @@ unfoldable pub is_absent : List ℕ → ℕ → RegionName → Bool
 is_absent ls zero x = true
 is_absent ls (suc n) x = is_absent ls n x && not (eqb (inner_at ls n) x)
 
--- the table with each region below n that is the inner region of no constraint put into row p
-unfoldable pub with_absent : List ℕ → Point → List ℕ → ℕ → List ℕ
-with_absent ls p t zero = t
-with_absent ls p t (suc n) = cond (is_absent ls (count_in ls) n) (with_bit (with_absent ls p t n) (row_bit p n)) (with_absent ls p t n)
-
 -- the first n words of the set have no region that row p lacks
 unfoldable pub words_in : List ℕ → Point → List ℕ → ℕ → Bool
 words_in t p set zero = true
@@ -42,22 +36,24 @@ words_in t p set (suc n) = words_in t p set n && eqb (bit_and (get_or set n 0) (
 abbrev pub all_in : List ℕ → Point → List ℕ → Bool
 all_in t p set = has_row t p && words_in t p set 4
 
--- A region below 128 has a mark if one of the first n constraints has it as its inner region, and else none.
-pub record InnerMarked (ls : List ℕ) (n : ℕ) (marks : List ℕ) : Type 0 where
-  pub sized : length marks ≡ 128
-  pub is : (x : RegionName) → x < 128 → eqb (get_or marks x 0) 0 ≡ is_absent ls n x
+-- A region below 128 is in the set if none of the first n constraints has it as its inner region.
+pub record AbsentBelow (ls : List ℕ) (n : ℕ) (set : List ℕ) : Type 0 where
+  pub sized : length set ≡ 4
+  pub is : (x : RegionName) → x < 128 → has set x ≡ is_absent ls n x
 
 -- The regions below 128 that are inner regions of no constraint of the list come to row p, if it is within the table. Nothing else changes.
 pub record Puts (ls : List ℕ) (p : Point) (t t' : List ℕ) : Type 0 where
   pub as_long : length t' ≡ length t
   pub only : (q : Point) (x : RegionName) → x < 128 → has t' (row_bit q x) ≡ true → (has t (row_bit q x) ≡ true) ⊎ ((q ≡ p) × Absent ls x)
-  pub is : t' ≡ cond (has_row t p) (with_absent ls p t 128) t
+  pub row : has_row t p ≡ true → (x : RegionName) → x < 128 → has t' (row_bit p x) ≡ (has t (row_bit p x) || is_absent ls (count_in ls) x)
+  pub others : (j : ℕ) → (j < row_bit p 0) ⊎ (row_bit p 128 ≤ j) → has t' j ≡ has t j
+  pub past : has_row t p ≡ false → t' ≡ t
 
--- The set has the regions below n with a mark in one of two arrays, and no others.
-pub record Marks (last grew : List ℕ) (n : ℕ) (set : List ℕ) : Type 0 where
+-- The set has the regions of two sets, and no others.
+pub record Marks (last grew set : List ℕ) : Type 0 where
   pub sized : length set ≡ 4
-  pub all : (x : RegionName) → x < n → Marked last x ⊎ Marked grew x → has set x ≡ true
-  pub only : (x : RegionName) → has set x ≡ true → (x < n) × (Marked last x ⊎ Marked grew x)
+  pub all : (x : RegionName) → (has last x ≡ true) ⊎ (has grew x ≡ true) → has set x ≡ true
+  pub only : (x : RegionName) → has set x ≡ true → (x < 128) × ((has last x ≡ true) ⊎ (has grew x ≡ true))
 
 -- The answer is whether row p is within the table and has all regions of the set.
 pub record AllIn (t : List ℕ) (p : Point) (set : List ℕ) (r : Bool) : Type 0 where

@@ -2,33 +2,27 @@
 // For each point a row of four words: regions of which it is known that no constraint of the point has them as its inner region.
 // The public functions require nothing: a row that is not within the table stays as it is, and `all_in` says no of it.
 ghost use Rattle.constraint_list.specs.Listed.{count_in};
-ghost use Rattle.absent_regions.specs.Absent.{InnerMarked, Puts, Marks, AllIn};
+ghost use Rattle.absent_regions.specs.Absent.{AbsentBelow, Puts, Marks, AllIn};
 
-// The regions with a mark in one of two arrays of marks.
-pub fn marked(last: &[u8; 128], grew: &[u8; 128]) -> [u32; 4]
-    ensures { Marks last.now grew.now 128 result }
+// The regions of two sets.
+pub fn marked(last: &[u32; 4], grew: &[u32; 4]) -> [u32; 4]
+    ensures { Marks last.now grew.now result }
 {
-    let mut set = [0; 4];
-    for x in 0..128 {
-        if (last[x] != 0) | (grew[x] != 0) {
-            bit_set::add(&mut set, 0, x);
-        }
-    }
+    let mut set = *last;
+    bit_set::union_from(&mut set, 0, grew, 0, 4);
     set
 }
 
-// Marks of the inner regions of the list's constraints, as far as they are below 128.
-fn inner_regions(list: &[u32]) -> [u8; 128]
-    ensures { InnerMarked list.now (count_in list.now) result }
+// The regions below 128 that are inner regions of no constraint of the list.
+fn absent_in(list: &[u32]) -> [u32; 4]
+    ensures { AbsentBelow list.now (count_in list.now) result }
 {
-    let mut marks = [0; 128];
+    let mut set = [u32::MAX; 4];
     for i in 0..constraint_list::count(list) {
         let region = usize::from(constraint_list::get(list, i).sub);
-        if region < 128 {
-            marks[region] = 1;
-        }
+        bit_set::kill(&mut set, 0, region);
     }
-    marks
+    set
 }
 
 // Puts into row p the regions below 128 that are inner regions of no constraint of the list.
@@ -38,12 +32,8 @@ pub fn put(list: &[u32], p: usize, absent: &mut [u32])
     if absent.len() / 4 <= p {
         return;
     }
-    let inner = inner_regions(list);
-    for region in 0..128 {
-        if inner[region] == 0 {
-            bit_set::add(absent, 4 * p, region);
-        }
-    }
+    let set = absent_in(list);
+    bit_set::union_from(absent, 4 * p, &set, 0, 4);
 }
 
 // Whether all regions of the set are in row p.

@@ -69,7 +69,7 @@ setup input =
 abbrev setting : Setting
 setting = record { ends = every_end; graph = line; regions = 1; width = 1 }
 
-pub line-given : (input : Record) → Given setting (setup input) (0 ∷ []) (replicate 128 0)
+pub line-given : (input : Record) → Given setting (setup input) (0 ∷ []) (replicate 4 0)
 line-given input =
     record {
       edges = line-edges;

@@ -7,7 +7,7 @@ use Prim.Native.Nat.{ℕ, ◌+◌, ◌*◌, ◌/◌, ◌≤◌, ◌<◌}
 use native.Mathlib.Nat.{mul-le-mul_right, suc-mul}
 use native.Mathlib.Decide.{ℕ_discrete}
 use native.Mathlib.Omega.{arith}
-use lib.ListN.{length, get_or, set, length-set}
+use lib.ListN.{length}
 use lib.Dec.{T, leb, ltb}
 use borrow.Author.Tests.{leb-true, ltb-true}
 use Rattle.std.proofs.lemmas.Bool.{and_parts}
@@ -22,50 +22,18 @@ use Rattle.nll_spec.specs.Meaning.{Sets, Walk, begin, go_on}
 use Rattle.nll_spec.proofs.Tests.{is_true}
 use Rattle.nll_spec.proofs.Members.{member_place}
 use Rattle.nll_spec.proofs.MonotoneLaws.{looser_same}
-use Rattle.bit_set.specs.Bits.{has}
-use Rattle.graph.specs.Search.{Marked}
+use Rattle.bit_set.specs.Bits.{has, with_bit}
+use Rattle.bit_set.proofs.BitLaws.{length_with, has_with, has_with_other}
 use Rattle.graph.specs.Tables.{Edge}
 use Rattle.dfs.specs.Walk.{in_code, Reach}
 use Rattle.infer.specs.Search.{Gets, Spread, adds_nothing, in_bounds, Covered}
-use Rattle.infer.specs.Ran.{Setting, bit_at, sets_of, Met, Within, AllReady, Ran, Given, Names}
+use Rattle.infer.specs.Ran.{Setting, bit_at, sets_of, Met, Within, AllReady, Marked, Ran, Given, Names}
 use Rattle.infer.specs.declared.Setup.{Setup}
 use Rattle.infer.specs.declared.Shape.{Shape}
-use Rattle.graph.proofs.SearchLaws.{mark-kept, mark-new, mark-old}
 use Rattle.infer.proofs.TableLaws.{leaf_exit, exit_leaf, reach_below, reach_walk, walk_reach}
 use Rattle.infer.proofs.SubsetLaws.{nothing_new}
 use Rattle.infer.proofs.CoverLaws.{covered_nothing}
 use Rattle.infer.proofs.RanLaws.{bit-region, sets-has, sets_below, has-sets, walk_mono}
-
--- ---- The bounds
-
-pub record Bounds (shape : Shape) (s t p : ℕ) : Type 0 where
-  pub narrow : shape.width ≤ 32
-  pub ordered : shape.code ≤ shape.points
-  pub few : shape.points ≤ 1024
-  pub sup : s < 128
-  pub sub : t < 128
-  pub point : p < shape.code
-
-module _ (shape : Shape) (s t p : ℕ) where
-  pub bounds_in : in_bounds shape s t p ≡ true → Bounds shape s t p
-  bounds_in e =
-      let b₅ : Bool = leb shape.width 32 && leb shape.code shape.points in
-      let b₄ : Bool = b₅ && leb shape.points 1024 in
-      let b₃ : Bool = b₄ && ltb s 128 in
-      let b₂ : Bool = b₃ && ltb t 128 in
-      let e₁ = and_parts b₂ (ltb p shape.code) e in
-      let e₂ = and_parts b₃ (ltb t 128) e₁.0 in
-      let e₃ = and_parts b₄ (ltb s 128) e₂.0 in
-      let e₄ = and_parts b₅ (leb shape.points 1024) e₃.0 in
-      let e₅ = and_parts (leb shape.width 32) (leb shape.code shape.points) e₄.0 in
-      record {
-        narrow = leb-true _ _ e₅.0;
-        ordered = leb-true _ _ e₅.1;
-        few = leb-true _ _ e₄.1;
-        sup = ltb-true _ _ e₃.1;
-        sub = ltb-true _ _ e₂.1;
-        point = ltb-true _ _ e₁.1;
-      }
 
 -- ---- A constraint that is passed by
 
@@ -210,13 +178,13 @@ module _ (s : Setting) (g : Setup) (ws grew : List ℕ) (given : Given s g ws gr
           still = still;
           marked = marked;
           earned = earned;
-          met = λ ready d m. one (λ (y : Outlives). Met s (sets_of s ws') y ⊎ Marked grew' y.sub) c d (met (ℕ_discrete (get_or grew' c.sub 0) 0)) m;
+          met = λ ready d m. one (λ (y : Outlives). Met s (sets_of s ws') y ⊎ Marked grew' y.sub) c d (met (has grew' c.sub) refl) m;
           within = λ sets w met k q l h. ⊎_elim (w k q l) (λ n. subst (λ (i : RegionName). T (sets i q)) (sym n.0) (got_in sets w (met c here) q n.1)) (new k q h);
         }
       where
-        met : Dec (get_or grew' c.sub 0 ≡ 0) → Met s (sets_of s ws') c ⊎ Marked grew' c.sub
-        met (no n) = inr n
-        met (yes e) = inl (met_in ws' (λ q h. ⊎_elim (λ k. k) (λ k. absurd (k e)) (marked c.sub q h)) (x.added room))
+        met : (b : Bool) → has grew' c.sub ≡ b → Met s (sets_of s ws') c ⊎ Marked grew' c.sub
+        met true e = inr e
+        met false e = inl (met_in ws' (λ q h. ⊎_elim (λ k. k) (λ k. absurd (true≢false (sym k ∙ e))) (marked c.sub q h)) (x.added room))
 
     -- the outer set did not grow
     pub ran-still : r ≡ false → Ran s last (c ∷ []) ws grew ws' grew
@@ -224,18 +192,26 @@ module _ (s : Setting) (g : Setup) (ws grew : List ℕ) (given : Given s g ws gr
         ran_with grew refl (λ k m. m) (λ k q h. inl (has-sets s ws k q (sets_below s ws' k q h) (sym (x.same e (bit_at s.width k q)) ∙ sets-has s ws' k q h))) (λ k m. inl m)
 
     -- it did, and is marked
-    pub ran-grew : r ≡ true → Ran s last (c ∷ []) ws grew ws' (set grew c.sup 1)
-    ran-grew e =
-        ran_with (set grew c.sup 1) (length-set grew c.sup 1) (λ k m. mark-kept grew c.sup k inside m)
-        (λ k q h. ⊎_elim (λ n. inl n) (λ n. inr (subst (Marked (set grew c.sup 1)) (sym n.0) (mark-new grew c.sup inside))) (new k q h))
-        (λ k m. earned k (ℕ_discrete k c.sup) m)
+    pub ran-grew : {at : ℕ} {grew' : List ℕ} → at ≡ c.sup → grew' ≡ with_bit grew (word_bits * 0 + at) → r ≡ true → Ran s last (c ∷ []) ws grew ws' grew'
+    ran-grew {at} {grew'} ea eg e =
+        rw (eg, ea, z)
+        (ran_with (with_bit grew c.sup) (length_with grew c.sup) (λ k m. kept k m (ℕ_discrete k c.sup))
+        (λ k q h. ⊎_elim (λ n. inl n) (λ n. inr (subst (Marked (with_bit grew c.sup)) (sym n.0) mark)) (new k q h))
+        (λ k m. earned k (ℕ_discrete k c.sup) m))
       where
-        inside : c.sup < length grew
-        inside = omega (arith, names.sup, given.few, given.marks)
+        z : word_bits * 0 + c.sup ≡ c.sup
+        z = omega arith
 
-        earned : (k : RegionName) → Dec (k ≡ c.sup) → Marked (set grew c.sup 1) k
+        mark : Marked (with_bit grew c.sup) c.sup
+        mark = has_with grew c.sup (omega (arith, names.sup, given.few, given.marks))
+
+        kept : (k : RegionName) → Marked grew k → Dec (k ≡ c.sup) → Marked (with_bit grew c.sup) k
+        kept k m (yes q) = subst (Marked (with_bit grew c.sup)) (sym q) mark
+        kept k m (no n) = has_with_other grew c.sup k n ∙ m
+
+        earned : (k : RegionName) → Dec (k ≡ c.sup) → Marked (with_bit grew c.sup) k
             → Marked grew k ⊎ ((q : Point) × (q < s.graph.points) × (has ws (bit_at s.width k q) ≡ false) × (has ws' (bit_at s.width k q) ≡ true))
-        earned k (no n) m = inl (mark-old grew c.sup 1 k n m)
+        earned k (no n) m = inl (sym (has_with_other grew c.sup k n) ∙ m)
         earned k (yes z) m =
             let w = x.grew e in
             inr (subst (λ (i : RegionName). (q : Point) × (q < s.graph.points) × (has ws (bit_at s.width i q) ≡ false) × (has ws' (bit_at s.width i q) ≡ true)) (sym z) (w.0, omega (arith, w.1, given.points), w.3, w.4))

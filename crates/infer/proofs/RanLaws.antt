@@ -8,10 +8,8 @@ use native.Mathlib.Nat.{not-suc-le-zero, mul-le-mul_right, suc-mul}
 use native.Mathlib.Decide.{ℕ_discrete, dec_lt}
 use native.Mathlib.Numerals.{add-one}
 use native.Mathlib.Omega.{arith}
-use lib.ListN.{length, get_or}
+use lib.ListN.{length, get_or, replicate}
 use lib.Dec.{T, ltb, ltb→lt, lt→ltb}
-use borrow.Author.Tests.{ne_eqb, eqb-false, not-true}
-use Rattle.std.proofs.lemmas.Bool.{false_from_ne_true}
 use Rattle.std.proofs.lemmas.Float.{T_from_true}
 use Rattle.nll_spec.specs.Lists.{Member}
 use Rattle.nll_spec.specs.Syntax.{Point, RegionName}
@@ -24,18 +22,14 @@ use Rattle.nll_spec.proofs.Tests.{and_intro, and_left, and_right, is_true}
 use Rattle.nll_spec.proofs.Members.{member_place, member_left, member_right, member_append}
 use Rattle.nll_spec.proofs.MonotoneLaws.{looser_same}
 use Rattle.bit_set.specs.Bits.{has}
-use Rattle.bit_set.proofs.BitLaws.{words_ext}
-use Rattle.graph.specs.Search.{Marked, is_marked}
+use Rattle.bit_set.proofs.BitLaws.{words_ext, has-zeros}
+use Rattle.bit_slice.specs.Some.{SomeSet}
+use Rattle.graph.proofs.SearchLaws.{no_mark}
 use Rattle.bit_set.specs.Missing.{missing}
-use Rattle.infer.specs.Ran.{Setting, bit_at, sets_at, sets_of, Words, Met, Ready, AllReady, Ran, Rounds, Quiet, Given, AllNamed, any_marked}
+use Rattle.infer.specs.Ran.{Setting, bit_at, sets_at, sets_of, Words, Met, Ready, AllReady, Marked, Ran, Rounds, Quiet, Given, AllNamed, any_marked}
 use Rattle.infer.specs.declared.Setup.{Setup}
 use Rattle.bit_set.proofs.MissingLaws.{missing_lt}
 
-is-marked : (seen : List ℕ) (x : ℕ) → Marked seen x → is_marked seen x ≡ true
-is-marked seen x m = ap not (ne_eqb (get_or seen x 0) 0 m)
-
-marked-is : (seen : List ℕ) (x : ℕ) → is_marked seen x ≡ true → Marked seen x
-marked-is seen x e = eqb-false (get_or seen x 0) 0 (not-true _ e)
 
 -- ---- Bits and sets
 
@@ -106,12 +100,12 @@ ran-none s last ws grew = ran-passed s last ws grew (λ c m. absurd (no_member m
 -- a constraint that was met is met, or its inner set grew
 carry : {s : Setting} {last ws grew ws' grew' : List ℕ} {cs : List Outlives} → Ran s last cs ws grew ws' grew' → (c : Outlives) → Met s (sets_of s ws) c
     → Met s (sets_of s ws') c ⊎ Marked grew' c.sub
-carry {s} {last} {ws} {grew} {ws'} {grew'} ran c m = go (ℕ_discrete (get_or grew' c.sub 0) 0)
+carry {s} {last} {ws} {grew} {ws'} {grew'} ran c m = go (has grew' c.sub) refl
   where
-    go : Dec (get_or grew' c.sub 0 ≡ 0) → Met s (sets_of s ws') c ⊎ Marked grew' c.sub
-    go (no n) = inr n
-    go (yes e) =
-        inl (met-stays s (sets_of s ws) (sets_of s ws') c (λ q h. ⊎_elim (λ k. k) (λ k. absurd (k e)) (ran.marked c.sub q h)) (sets-kept s ws ws' ran.kept c.sup) m)
+    go : (b : Bool) → has grew' c.sub ≡ b → Met s (sets_of s ws') c ⊎ Marked grew' c.sub
+    go true e = inr e
+    go false e =
+        inl (met-stays s (sets_of s ws) (sets_of s ws') c (λ q h. ⊎_elim (λ k. k) (λ k. absurd (true≢false (sym k ∙ e))) (ran.marked c.sub q h)) (sets-kept s ws ws' ran.kept c.sup) m)
 
 -- a bit that is not there after a run was not there before
 missed : {s : Setting} {last ws grew ws' grew' : List ℕ} {cs : List Outlives} → Ran s last cs ws grew ws' grew' → (j : ℕ) → has ws' j ≡ false → has ws j ≡ false
@@ -206,7 +200,7 @@ module _ (s : Setting) where
   -- after a round without a mark every constraint is met
   pub quiet-met : {last ws grew ws' grew' : List ℕ} {cs : List Outlives} → Ran s last cs ws grew ws' grew' → AllReady s last ws grew cs → Quiet s grew'
       → AllNamed s cs → (c : Outlives) → Member c cs → Met s (sets_of s ws') c
-  quiet-met ran ready quiet named c m = ⊎_elim (λ k. k) (λ k. absurd (k (quiet c.sub (named c m).sub))) (ran.met ready c m)
+  quiet-met ran ready quiet named c m = ⊎_elim (λ k. k) (λ k. absurd (true≢false (sym k ∙ quiet c.sub (named c m).sub))) (ran.met ready c m)
 
   -- and the words are as before
   pub quiet_same : {last ws grew ws' grew' : List ℕ} {cs : List Outlives} → Ran s last cs ws grew ws' grew' → Words ws → Quiet s grew' → ws' ≡ ws
@@ -215,7 +209,7 @@ module _ (s : Setting) where
       -- a bit that is new is no region's, since none is marked
       none : (j : ℕ) → has ws j ≡ false → has ws' j ≡ true → (r : RegionName) (q : Point) → r < s.regions → q < s.graph.points → j ≡ bit_at s.width r q → ⊥
       none j ea eb r q lr lq e =
-          ⊎_elim (λ k. true≢false (sym (sets-has s ws r q k) ∙ ap (has ws) (sym e) ∙ ea)) (λ k. k (quiet r lr)) (ran.marked r q (has-sets s ws' r q lq (ap (has ws') (sym e) ∙ eb)))
+          ⊎_elim (λ k. true≢false (sym (sets-has s ws r q k) ∙ ap (has ws) (sym e) ∙ ea)) (λ k. true≢false (sym k ∙ quiet r lr)) (ran.marked r q (has-sets s ws' r q lq (ap (has ws') (sym e) ∙ eb)))
 
       go : (j : ℕ) (a b : Bool) → has ws' j ≡ a → has ws j ≡ b → a ≡ b
       go j true true ea eb = refl
@@ -224,19 +218,11 @@ module _ (s : Setting) where
       go j true false ea eb = sym ea ∙ ran.others j (none j eb ea) ∙ eb
 
   -- a round that marks a region leaves fewer 0 bits
-  pub ran-less : {last ws grew ws' grew' : List ℕ} {cs : List Outlives} → Ran s last cs ws grew ws' grew' → (r : RegionName) → get_or grew r 0 ≡ 0 → Marked grew' r → missing ws' < missing ws
+  pub ran-less : {last ws grew ws' grew' : List ℕ} {cs : List Outlives} → Ran s last cs ws grew ws' grew' → (r : RegionName) → has grew r ≡ false → Marked grew' r → missing ws' < missing ws
   ran-less {last} {ws} {grew} {ws'} {grew'} ran r blank m =
-      ⊎_elim (λ k. absurd (k blank)) (λ k. missing_lt ws ws' ran.as_long ran.kept (bit_at s.width r k.0) k.2 k.3) (ran.earned r m)
+      ⊎_elim (λ k. absurd (true≢false (sym k ∙ blank))) (λ k. missing_lt ws ws' ran.as_long ran.kept (bit_at s.width r k.0) k.2 k.3) (ran.earned r m)
 
 -- ---- The test for marks
-
-pub any-marked-none : (grew : List ℕ) → false ≡ any_marked grew 0
-unfolding any_marked
-any-marked-none grew = refl
-
-pub any-marked-more : (grew : List ℕ) (n : ℕ) → (any_marked grew n || is_marked grew n) ≡ any_marked grew (n + 1)
-unfolding any_marked
-any-marked-more grew n = ap (any_marked grew) (sym (add-one n))
 
 -- it finds a mark, or there is none
 pub found-mark : (grew : List ℕ) (n : ℕ) → any_marked grew n ≡ true → (r : RegionName) × (r < n) × Marked grew r
@@ -246,20 +232,33 @@ found-mark grew (suc n) e = go (any_marked grew n) refl (found-mark grew n)
   where
     go : (b : Bool) → any_marked grew n ≡ b → (any_marked grew n ≡ true → (r : RegionName) × (r < n) × Marked grew r) → (r : RegionName) × (r < suc n) × Marked grew r
     go true q f = let w = f q in (w.0, omega (arith, w.1), w.2)
-    go false q f = (n, omega arith, marked-is grew n (ap (λ (b : Bool). b || is_marked grew n) (sym q) ∙ e))
+    go false q f = (n, omega arith, ap (λ (b : Bool). b || has grew n) (sym q) ∙ e)
 
-pub no_marks_lem : (grew : List ℕ) (n : ℕ) → any_marked grew n ≡ false → (r : RegionName) → r < n → get_or grew r 0 ≡ 0
+pub no_marks_lem : (grew : List ℕ) (n : ℕ) → any_marked grew n ≡ false → (r : RegionName) → r < n → has grew r ≡ false
 unfolding any_marked
 no_marks_lem grew zero e r l = absurd (omega arith)
-no_marks_lem grew (suc n) e r l = go (any_marked grew n) (is_marked grew n) refl refl (ℕ_discrete (get_or grew r 0) 0) (ℕ_discrete r n) (no_marks_lem grew n)
+no_marks_lem grew (suc n) e r l = go (any_marked grew n) (has grew n) refl refl (ℕ_discrete r n) (no_marks_lem grew n)
   where
-    go : (a b : Bool) → any_marked grew n ≡ a → is_marked grew n ≡ b → Dec (get_or grew r 0 ≡ 0) → Dec (r ≡ n) → (any_marked grew n ≡ false → (k : RegionName) → k < n → get_or grew k 0 ≡ 0)
-        → get_or grew r 0 ≡ 0
-    go a b ea eb (yes z) d f = z
-    go true b ea eb (no z) d f = absurd (true≢false (sym (ap (λ (x : Bool). x || is_marked grew n) ea) ∙ e))
-    go false true ea eb (no z) d f = absurd (true≢false (sym eb ∙ ap (λ (x : Bool). x || is_marked grew n) (sym ea) ∙ e))
-    go false false ea eb (no z) (yes q) f = absurd (true≢false (sym (is-marked grew r z) ∙ ap (is_marked grew) q ∙ eb))
-    go false false ea eb (no z) (no q) f = f ea r (omega (arith, q))
+    go : (a b : Bool) → any_marked grew n ≡ a → has grew n ≡ b → Dec (r ≡ n) → (any_marked grew n ≡ false → (k : RegionName) → k < n → has grew k ≡ false) → has grew r ≡ false
+    go true b ea eb d f = absurd (true≢false (sym (ap (λ (x : Bool). x || has grew n) ea) ∙ e))
+    go false true ea eb d f = absurd (true≢false (sym eb ∙ ap (λ (x : Bool). x || has grew n) (sym ea) ∙ e))
+    go false false ea eb (yes q) f = ap (has grew) q ∙ eb
+    go false false ea eb (no q) f = f ea r (omega (arith, q))
+
+-- a word is not 0 exactly if it has a mark
+pub any-marked : (grew : List ℕ) {r : Bool} → length grew ≡ 4 → Words grew → SomeSet grew 0 4 r → r ≡ any_marked grew 128
+any-marked grew {r} size wf x = go r (any_marked grew 128) refl refl
+  where
+    go : (a b : Bool) → r ≡ a → any_marked grew 128 ≡ b → a ≡ b
+    go true true ea eb = refl
+    go false false ea eb = refl
+    go true false ea eb =
+        let zero : grew ≡ replicate 4 0 = words_ext grew (replicate 4 0) wf (λ k. rw (no_mark 4 k) (omega arith)) size (λ j l. no_marks_lem grew 128 eb j (omega (arith, l, size)) ∙ sym (has-zeros 4 j)) in
+        absurd (⊎_elim (λ l. omega (arith, l, size)) (λ k. k.2 (ap (λ (ws : List ℕ). get_or ws (0 + k.0) 0) zero ∙ no_mark 4 (0 + k.0))) (x.some ea))
+    go false true ea eb =
+        let (m, l, k) = found-mark grew 128 eb in
+        let z : word_bits * 0 + m ≡ m = omega arith in
+        absurd (true≢false (sym k ∙ ap (has grew) (sym z) ∙ x.none ea m (omega (arith, l))))
 
 pub quiet_none : (s : Setting) (grew : List ℕ) → s.regions ≤ 128 → any_marked grew 128 ≡ false → Quiet s grew
 quiet_none s grew few e r l = no_marks_lem grew 128 e r (omega arith)

@@ -9,7 +9,6 @@ use Rattle.nll_spec.specs.Output.{word_bits}
 use Rattle.nll_spec.specs.Meaning.{Sets, Meets}
 use Rattle.bit_set.specs.Bits.{has}
 use Rattle.graph.specs.Tables.{Edges}
-use Rattle.graph.specs.Search.{Marked, is_marked}
 use Rattle.infer.specs.Search.{rule_of, Linked}
 use Rattle.infer.specs.declared.Setup.{Setup}
 
@@ -27,6 +26,10 @@ bit_at width r q = word_bits * (r * width) + q
 -- The sets that the words say. Where the width is word_count points, these are `nll_spec`'s sets_in points.
 abbrev pub sets_at : ℕ → ℕ → List ℕ → Sets
 sets_at width points ws r q = ltb q points && has ws (bit_at width r q)
+
+-- the marks are a set of regions, and r is in it
+abbrev pub Marked : List ℕ → RegionName → Type 0
+Marked marks r = has marks r ≡ true
 
 -- every word fits
 abbrev pub Words : List ℕ → Type 0
@@ -52,12 +55,12 @@ module _ (s : Setting) where
 
 -- no region has a mark
 abbrev pub Quiet : Setting → List ℕ → Type 0
-Quiet s grew = (r : RegionName) → r < s.regions → get_or grew r 0 ≡ 0
+Quiet s grew = (r : RegionName) → r < s.regions → has grew r ≡ false
 
 -- one of the first n regions has a mark
 unfoldable pub any_marked : List ℕ → ℕ → Bool
 any_marked grew zero = false
-any_marked grew (suc n) = any_marked grew n || is_marked grew n
+any_marked grew (suc n) = any_marked grew n || has grew n
 
 -- The constraints cs are run: the words ws become ws', and the marks `grew` become grew'.
 pub record Ran (s : Setting) (last : List ℕ) (cs : List Outlives) (ws grew ws' grew' : List ℕ) : Type 0 where
@@ -99,7 +102,7 @@ pub record Given (s : Setting) (g : Setup) (ws grew : List ℕ) : Type 0 where
   pub narrow : s.width ≤ 32
   pub few : s.regions ≤ 128
   pub room : s.regions * s.width ≤ length ws
-  pub marks : length grew ≡ 128
+  pub marks : length grew ≡ 4
 
 -- The constraint names regions of the setting, and a point of a block.
 pub record Names (s : Setting) (c : Outlives) : Type 0 where

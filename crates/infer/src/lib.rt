@@ -2,7 +2,7 @@
 // "S outlives T at p": the points that a walk from p through T reaches are put into S, and, where it comes to a point without successors, so are the
 // declared ends that the end rule passes on.
 // Region r's set starts at word r * width.
-ghost use Rattle.std.specs.Prelude.{◌≡◌, true, cond, [], ◌∷◌, ◌+◌, ◌-◌, ◌/◌, ◌<◌, ◌≤◌, length, get_or, ltb};
+ghost use Rattle.std.specs.Prelude.{◌≡◌, true, [], ◌∷◌, ◌+◌, ◌-◌, ◌/◌, ◌<◌, ◌≤◌, length};
 ghost use Rattle.nll_spec.specs.Regions.{passes_end};
 ghost use Rattle.nll_spec.specs.Output.{word_bits};
 ghost use Rattle.bit_set.specs.Bits.{both_fit};
@@ -14,10 +14,7 @@ ghost use Rattle.infer.specs.Ran.{Setting, Given, Names, Ran, Runs, constraint, 
 use constraint_list::Constraint;
 use dfs::Walk;
 use graph::tables::FuncGraph;
-
-// A region's number.
-#[derive(Clone, Copy)]
-pub struct RegionVariable(pub u8);
+use repr::RegionName;
 
 // The declared ends that a walk which comes to a point without successors puts into its outer region: every one, or those that its inner region holds.
 #[derive(Clone, Copy)]
@@ -58,7 +55,7 @@ fn put(words: &mut [u32], to: usize, n: usize, points: &[u32]) -> bool
     requires { n ≤ 1024 }
     ensures { Below points.now n → Spread (In points.now) n words.old words.new to result }
 {
-    bit_set::union_from(words, to, points, 0, (n + 31) / 32)
+    bit_set::union_from(words, to, points, 0, n.div_ceil(32))
 }
 
 // Whether both runs of n words are among the words.
@@ -85,14 +82,6 @@ fn is_subset(words: &[u32], from: usize, to: usize, n: usize) -> bool
         lacks = lacks | (w != (w | words[from + k]));
     }
     !lacks
-}
-
-// The mark of a region, or 0 if it has no place among the marks.
-fn mark(grew: &[u8; 128], region: u8) -> u8
-    ensures { result ≡ cond (ltb region 128) (get_or grew.now region 0) 0 }
-{
-    let r = usize::from(region);
-    if r < 128 { grew[r] } else { 0 }
 }
 
 impl Setup<'_> {
@@ -203,10 +192,10 @@ impl Setup<'_> {
     pub fn outlives(
         &self,
         words: &mut [u32],
-        last: &[u8; 128],
-        grew: &mut [u8; 128],
-        sup: RegionVariable,
-        sub: RegionVariable,
+        last: &[u32; 4],
+        grew: &mut [u32; 4],
+        sup: RegionName,
+        sub: RegionName,
         point: usize,
     )
         ensures { (s : Setting) → Given s self.now words.old grew.old → Names s (constraint sup.0 sub.0 point)
@@ -217,7 +206,7 @@ impl Setup<'_> {
         if !self.in_bounds(s, t, point) {
             return;
         }
-        if (last[t] == 0) & (grew[t] == 0) {
+        if !bit_set::test(last, 0, t) & !bit_set::test(grew, 0, t) {
             return;
         }
         let from = t * self.shape.width;
@@ -232,7 +221,7 @@ impl Setup<'_> {
             return;
         }
         if self.spread(words, to, from, point) {
-            grew[s] = 1;
+            bit_set::add(grew, 0, s);
         }
     }
 
@@ -240,20 +229,21 @@ impl Setup<'_> {
     fn run_one(
         &self,
         words: &mut [u32],
-        last: &[u8; 128],
-        grew: &mut [u8; 128],
+        last: &[u32; 4],
+        grew: &mut [u32; 4],
         recent: &mut [u32],
         c: Constraint,
     )
         ensures { Runs self.now last.now (outlives_of c ∷ []) words.old grew.old words.new grew.new
             × Draws (outlives_of c ∷ []) recent.old recent.new }
     {
-        let before = mark(grew, c.sup);
-        let sup = RegionVariable(c.sup);
-        let sub = RegionVariable(c.sub);
+        let region = usize::from(c.sup);
+        let before = bit_set::test(grew, 0, region);
+        let sup = RegionName(c.sup);
+        let sub = RegionName(c.sub);
         let point = usize::from(c.point);
         self.outlives(words, last, grew, sup, sub, point);
-        if mark(grew, c.sup) == before {
+        if bit_set::test(grew, 0, region) == before {
             return;
         }
         constraint_list::add(recent, c);
@@ -263,8 +253,8 @@ impl Setup<'_> {
     pub fn run(
         &self,
         words: &mut [u32],
-        last: &[u8; 128],
-        grew: &mut [u8; 128],
+        last: &[u32; 4],
+        grew: &mut [u32; 4],
         recent: &mut [u32],
         list: &[u32],
     )
@@ -279,12 +269,8 @@ impl Setup<'_> {
 }
 
 // Whether a region is marked, so that another round is due.
-pub fn any_marked(grew: &[u8; 128]) -> bool
+pub fn any_marked(grew: &[u32; 4]) -> bool
     ensures { result ≡ any_marked grew.now 128 }
 {
-    let mut found = false;
-    for &mark in grew {
-        found = found | (mark != 0);
-    }
-    found
+    bit_slice::some_set(grew, 0, 4)
 }

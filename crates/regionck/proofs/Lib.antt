@@ -1,2 +1,3 @@
+pub mod MarkLaws
 pub mod RoundLaws
 pub mod SolvedLaws

@@ -73,7 +73,7 @@ module _ {g : Setup} {last ws : List ℕ} where
 
   -- the constraints of a point that is passed by
   pub below-passed : {absent grew marks : List ℕ} {p : Point} {b : Bool} {ws₁ grew₁ : List ℕ} → RunsBelow g last ws ws₁ grew₁ p → p < g.shape.code
-      → Sound g absent → Marks last grew 128 marks → AllIn absent p marks b → b ≡ true → RunsBelow g last ws ws₁ grew₁ (p + 1)
+      → Sound g absent → Marks last grew marks → AllIn absent p marks b → b ≡ true → RunsBelow g last ws ws₁ grew₁ (p + 1)
   below-passed {p = p} {ws₁ = ws₁} {grew₁ = grew₁} x l sound marks all e =
       record {
         ran = λ j k given.
@@ -82,7 +82,7 @@ module _ {g : Setup} {last ws : List ℕ} where
             (ran_append (x.ran j k given) (ran-passed (setting_of (rule_of g.rule) j) last ws₁ grew₁
             (λ c m z.
             let w = inner_small j k (p + 1) (subst (λ (cs : List Outlives). Member c cs) (sym next) (member_right (constraints_below j p) (walked_at j p) m)) in
-            sound.none j k p c l m (all.held e c.sub w (marks.all c.sub w (inl z))))));
+            sound.none j k p c l m (all.held e c.sub w (marks.all c.sub (inl z))))));
       }
 
   pub below_code : {ws' grew : List ℕ} (n : ℕ) → n ≡ g.shape.code → RunsBelow g last ws ws' grew n → RunsBelow g last ws ws' grew g.shape.code

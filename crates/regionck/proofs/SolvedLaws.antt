@@ -29,62 +29,47 @@ use Rattle.nll_spec.proofs.OutputLaws.{points-of, sized-sets}
 use Rattle.nll_spec.proofs.RegionLaws.{table_least}
 use Rattle.bit_set.specs.Bits.{has}
 use Rattle.bit_set.specs.Missing.{falses, missing}
-use Rattle.bit_set.proofs.BitLaws.{words_ext, has_out}
+use Rattle.bit_set.proofs.BitLaws.{words_ext, has_out, has-zeros}
 use Rattle.bit_set.proofs.RowLaws.{run_has}
 use Rattle.bit_set.proofs.MissingLaws.{missing_lt}
 use Rattle.constraint_list.specs.Listed.{count_in, first_in}
 use Rattle.constraint_list.proofs.ListLaws.{first-none}
 use Rattle.infer.specs.Search.{rule_of, Linked}
-use Rattle.infer.specs.Ran.{Setting, bit_at, sets_of as sets_in, Words, AllReady, Ran, Rounds, Quiet, Given, AllNamed, any_marked}
+use Rattle.infer.specs.Ran.{Setting, bit_at, sets_of as sets_in, Words, Marked, AllReady, Ran, Rounds, Quiet, Given, AllNamed, any_marked}
 use Rattle.infer.specs.declared.Setup.{Setup}
 use Rattle.infer.proofs.RanLaws.{no_member, sets-has, sets_below, has-sets, first_ready, next_ready, quiet_none, quiet_same, found-mark, rounds_none, rounds_more, rounds_unused, solved}
-use Rattle.rerun.specs.Rerun.{setting_of, no_marks, Known, Own, OwnKept, Noted}
+use Rattle.rerun.specs.Rerun.{setting_of, no_marks, Known, Own, OwnKept}
 use Rattle.rerun.proofs.NamedLaws.{all_named}
-use Rattle.rerun.proofs.MarkLaws.{blank}
-use Rattle.regionck.specs.Rounds.{RoundRuns, Cleared, Seeded, least_sets, Solved}
+use Rattle.absent_regions.specs.Absent.{Marks}
+use Rattle.absent_regions.proofs.MarkLaws.{all_regions, has-all}
+use Rattle.regionck.specs.Rounds.{RoundRuns, Tells, Seeded, least_sets, Solved}
 
 missed : (a b : List ℕ) → ((k : ℕ) → has a k ≡ true → has b k ≡ true) → (k : ℕ) → has b k ≡ false → has a k ≡ false
 missed a b kept k e = false_from_ne_true (has a k) (λ q. true≢false (sym (kept k q) ∙ e))
 
 -- ---- The marks of the regions that grew
 
--- Since the words were ws₀, the regions with the mark 1 grew, and no other did.
+-- Since the words were ws₀, the regions of the set grew, and no other did.
 pub record Told (e : Setting) (ws₀ ws marks : List ℕ) : Type 0 where
-  pub either : (r : RegionName) → r < e.regions → (get_or marks r 0 ≡ 0) ⊎ (get_or marks r 0 ≡ 1)
-  pub marked : (r : RegionName) (q : Point) → r < e.regions → T (sets_in e ws r q) → T (sets_in e ws₀ r q) ⊎ (get_or marks r 0 ≡ 1)
-  pub earned : (r : RegionName) → r < e.regions → get_or marks r 0 ≡ 1 → (q : Point) × (q < e.graph.points) × (has ws₀ (bit_at e.width r q) ≡ false) × (has ws (bit_at e.width r q) ≡ true)
+  pub marked : (r : RegionName) (q : Point) → T (sets_in e ws r q) → T (sets_in e ws₀ r q) ⊎ Marked marks r
+  pub earned : (r : RegionName) → Marked marks r → (q : Point) × (q < e.graph.points) × (has ws₀ (bit_at e.width r q) ≡ false) × (has ws (bit_at e.width r q) ≡ true)
 
-module _ (e : Setting) (few : e.regions ≤ 128) where
-  told_none : (ws marks : List ℕ) → Cleared marks 128 → Told e ws ws marks
-  told_none ws marks z =
-      record {
-        either = λ r l. inl (z.none r (omega arith));
-        marked = λ r q l h. inl h;
-        earned = λ r l m. absurd (let c : ◌≡◌ {A = ℕ} 0 1 = sym (z.none r (omega arith)) ∙ m in omega arith);
-      }
+module _ (e : Setting) where
+  told_none : (ws : List ℕ) → Told e ws ws no_marks
+  told_none ws = record { marked = λ r q h. inl h; earned = λ r m. absurd (true≢false (sym m ∙ has-zeros 4 r)) }
 
-  told_more : {ws₀ ws ws' last grew marks marks' : List ℕ} {cs : List Outlives} → Rounds e cs ws₀ ws → Told e ws₀ ws marks → Ran e last cs ws no_marks ws' grew → Noted grew marks marks' 128
+  told_more : {ws₀ ws ws' last grew marks marks' : List ℕ} {cs : List Outlives} → Rounds e cs ws₀ ws → Told e ws₀ ws marks → Ran e last cs ws no_marks ws' grew → Marks marks grew marks'
       → Told e ws₀ ws' marks'
-  told_more {ws₀} {ws} {ws'} {last} {grew} {marks} {marks'} rounds told ran noted =
+  told_more {ws₀} {ws} {ws'} {last} {grew} {marks} {marks'} rounds told ran both =
       record {
-        either = λ r l. either r l (ℕ_discrete (get_or grew r 0) 0);
-        marked = λ r q l h. ⊎_elim (λ k. ⊎_elim (λ i. inl i) (λ i. inr (stays r l i (ℕ_discrete (get_or grew r 0) 0))) (told.marked r q l k)) (λ k. inr (noted.marked r (omega arith) k)) (ran.marked r q h);
-        earned = λ r l m. earned r l m (ℕ_discrete (get_or grew r 0) 0);
+        marked = λ r q h. ⊎_elim (λ k. ⊎_elim (λ i. inl i) (λ i. inr (both.all r (inl i))) (told.marked r q k)) (λ k. inr (both.all r (inr k))) (ran.marked r q h);
+        earned = λ r m. earned r (both.only r m).1;
       }
     where
-      either : (r : RegionName) → r < e.regions → Dec (get_or grew r 0 ≡ 0) → (get_or marks' r 0 ≡ 0) ⊎ (get_or marks' r 0 ≡ 1)
-      either r l (yes z) = ⊎_elim (λ k. inl (noted.others r z ∙ k)) (λ k. inr (noted.others r z ∙ k)) (told.either r l)
-      either r l (no n) = inr (noted.marked r (omega arith) n)
-
-      stays : (r : RegionName) → r < e.regions → get_or marks r 0 ≡ 1 → Dec (get_or grew r 0 ≡ 0) → get_or marks' r 0 ≡ 1
-      stays r l m (yes z) = noted.others r z ∙ m
-      stays r l m (no n) = noted.marked r (omega arith) n
-
-      earned : (r : RegionName) → r < e.regions → get_or marks' r 0 ≡ 1 → Dec (get_or grew r 0 ≡ 0)
-          → (q : Point) × (q < e.graph.points) × (has ws₀ (bit_at e.width r q) ≡ false) × (has ws' (bit_at e.width r q) ≡ true)
-      earned r l m (yes z) = let (q, lq, a, b) = told.earned r l (sym (noted.others r z) ∙ m) in (q, lq, a, ran.kept (bit_at e.width r q) b)
-      earned r l m (no n) =
-          ⊎_elim (λ k. absurd (k (blank r))) (λ k. (k.0, k.1, missed ws₀ ws rounds.kept (bit_at e.width r k.0) k.2, k.3)) (ran.earned r n)
+      earned : (r : RegionName) → Marked marks r ⊎ Marked grew r → (q : Point) × (q < e.graph.points) × (has ws₀ (bit_at e.width r q) ≡ false) × (has ws' (bit_at e.width r q) ≡ true)
+      earned r (inl m) = let (q, lq, a, b) = told.earned r m in (q, lq, a, ran.kept (bit_at e.width r q) b)
+      earned r (inr m) =
+          ⊎_elim (λ k. absurd (true≢false (sym k ∙ has-zeros 4 r))) (λ k. (k.0, k.1, missed ws₀ ws rounds.kept (bit_at e.width r k.0) k.2, k.3)) (ran.earned r m)
 
 -- ---- How many rounds there are
 
@@ -139,7 +124,7 @@ module _ (e : Setting) (wide : e.graph.points ≤ word_bits * e.width) where
   round_less : {last ws ws' grew : List ℕ} {cs : List Outlives} → Ran e last cs ws no_marks ws' grew → any_marked grew 128 ≡ true → missing (take own ws') < missing (take own ws)
   round_less {ws = ws} {ws' = ws'} {grew = grew} ran m =
       let (r, l, k) = found-mark grew 128 m in
-      ⊎_elim (λ z. absurd (z (blank r)))
+      ⊎_elim (λ z. absurd (true≢false (sym z ∙ has-zeros 4 r)))
       (λ z. missing-first own ws ws' ran.as_long ran.kept (bit_at e.width r z.0) (own-bit ran (bit_at e.width r z.0) z.2 z.3) z.2 z.3)
       (ran.earned r k)
 
@@ -199,7 +184,7 @@ module _ (g : Setup) (ws₀ : List ℕ) where
           narrow = narrow;
           few = few-regions;
           room = omega (arith, el, subst (λ (n : ℕ). n * word_count (point_count j) ≤ length ws₀) rows x.seeds.room);
-          marks = length-replicate {A = ℕ} 128 0;
+          marks = length-replicate {A = ℕ} 4 0;
         }
 
     -- the seeds, as the table has them
@@ -209,12 +194,12 @@ module _ (g : Setup) (ws₀ : List ℕ) where
     named : AllNamed e cs
     named = all_named ends j x.accepted
 
-    start : {marks : List ℕ} → Cleared marks 128 → Going ends j ws₀ ws₀ (replicate 128 1) marks 131073
-    start {marks} z =
+    start : Going ends j ws₀ ws₀ all_regions no_marks 131073
+    start =
         record {
           rounds = rounds_none e cs ws₀;
-          ready = first_ready e (replicate 128 1) ws₀ no_marks cs (λ r l m. let c : ◌≡◌ {A = ℕ} 1 0 = sym (get_or-replicate 128 r 1 0 (omega (arith, few-regions))) ∙ m in omega arith) named;
-          told = told_none e few-regions ws₀ marks z;
+          ready = first_ready e all_regions ws₀ no_marks cs (λ r l. has-all r (omega (arith, l, few-regions))) named;
+          told = told_none e ws₀;
           less = omega (arith, missing-most (take (j.regions * word_count (point_count j)) ws₀), size, most);
         }
       where
@@ -224,13 +209,13 @@ module _ (g : Setup) (ws₀ : List ℕ) where
         size : length (take (j.regions * word_count (point_count j)) ws₀) ≤ j.regions * word_count (point_count j)
         size = rw length-take (omega arith)
 
-    more : {recent ws last marks ws' grew marks' : List ℕ} {left : ℕ} → Going ends j ws₀ ws last marks left → Own j recent → RoundRuns g last recent ws ws' grew → any_marked grew 128 ≡ true → Noted grew marks marks' 128
+    more : {recent ws last marks ws' grew marks' : List ℕ} {left : ℕ} → Going ends j ws₀ ws last marks left → Own j recent → RoundRuns g last recent ws ws' grew → any_marked grew 128 ≡ true → Marks marks grew marks'
         → Going ends j ws₀ ws' grew marks' (left - 1)
-    more {recent} {ws} {last} {marks} {ws'} {grew} {marks'} {left} so own y m noted =
+    more {recent} {ws} {last} {marks} {ws'} {grew} {marks'} {left} so own y m both =
         record {
           rounds = rounds_more e cs so.rounds ran;
           ready = next_ready e ran so.ready no_marks;
-          told = told_more e few-regions so.rounds so.told ran noted;
+          told = told_more e so.rounds so.told ran both;
           less = omega (arith, so.less, round_less e wide ran m);
         }
       where
@@ -308,9 +293,9 @@ module _ (g : Setup) (ws₀ : List ℕ) where
       told_last : Told e ws₀ ws' marks
       told_last = subst (λ (z : List ℕ). Told e ws₀ z marks) (sym same) so.told
 
-      grown : (r : RegionName) → r < length j.outlives → get_or marks r 0 ≡ bit (is_grown (graph_of j) (seed_table j (graph_of j)) (least_sets ends j) r)
+      grown : {bytes : List ℕ} → Tells marks bytes 128 → (r : RegionName) → r < length j.outlives → get_or bytes r 0 ≡ bit (is_grown (graph_of j) (seed_table j (graph_of j)) (least_sets ends j) r)
       unfolding is_grown
-      grown r l = ⊎_elim (λ z. z ∙ sym (ap bit (is_false (any beyond (below (graph_of j).points)) (none z)))) (λ z. z ∙ sym (ap bit (is_true (any beyond (below (graph_of j).points)) (some z)))) (told_last.either r lr)
+      grown told r l = told.is r (omega (arith, lr, few-regions)) ∙ ap bit (same_bool (has marks r) (any beyond (below (graph_of j).points)) (λ z. some (is_true _ z)) (λ w. true_T _ (mark w)))
         where
           lr : r < j.regions
           lr = omega (arith, l, (accepted-job j x.accepted).declared-named)
@@ -318,31 +303,31 @@ module _ (g : Setup) (ws₀ : List ℕ) where
           beyond : Point → Bool
           beyond p = holds (least_sets ends j) r p && not (holds (seed_table j (graph_of j)) r p)
 
-          none : get_or marks r 0 ≡ 0 → T (any beyond (below (graph_of j).points)) → ⊥
-          none z w =
+          mark : T (any beyond (below (graph_of j).points)) → Marked marks r
+          mark w =
               let (p, c, k) = any_found beyond (below (graph_of j).points) w in
               let held = and_left (holds (least_sets ends j) r p) (not (holds (seed_table j (graph_of j)) r p)) k in
               let lp = (held-inside (least_sets ends j) r p (sized-sets ends j) held).1 in
               ⊎_elim
-              (λ q. T_not (holds (seed_table j (graph_of j)) r p) (and_right (holds (least_sets ends j) r p) (not (holds (seed_table j (graph_of j)) r p)) k) (T_from_true _ (sym (seed_has r p lr lp) ∙ sets-has e ws₀ r p q)))
-              (λ q. let c : ◌≡◌ {A = ℕ} 0 1 = sym z ∙ q in omega arith)
-              (told_last.marked r p lr (has-sets e ws' r p lp (sets-has_table r p lr lp ∙ is_true _ held)))
+              (λ q. absurd (T_not (holds (seed_table j (graph_of j)) r p) (and_right (holds (least_sets ends j) r p) (not (holds (seed_table j (graph_of j)) r p)) k) (T_from_true _ (sym (seed_has r p lr lp) ∙ sets-has e ws₀ r p q))))
+              (λ q. q)
+              (told_last.marked r p (has-sets e ws' r p lp (sets-has_table r p lr lp ∙ is_true _ held)))
 
-          some : get_or marks r 0 ≡ 1 → T (any beyond (below (graph_of j).points))
+          some : Marked marks r → T (any beyond (below (graph_of j).points))
           some z =
-              let (p, lp, a, b) = told_last.earned r lr z in
+              let (p, lp, a, b) = told_last.earned r z in
               any_of beyond (below (graph_of j).points) p (contains-below (graph_of j).points p lp)
               (and_intro (holds (least_sets ends j) r p) (not (holds (seed_table j (graph_of j)) r p)) (T_from_true _ (sym (sets-has_table r p lr lp) ∙ b))
               (not_T (holds (seed_table j (graph_of j)) r p) (λ w. true≢false (sym (seed_has r p lr lp ∙ is_true _ w) ∙ a))))
 
-      done : Solved ends j ws₀ ws' marks
-      done =
+      done : (bytes : List ℕ) → Tells marks bytes 128 → Solved ends j ws₀ ws' bytes
+      done bytes told =
           record {
             as_long = all.as_long;
             fits = all.fits x.fits;
             says = record { room = omega (arith, all.as_long, rows, (sized-sets ends j).rows, subst (λ (n : ℕ). n * word_count (point_count j) ≤ length ws₀) (rows ∙ sym (sized-sets ends j).rows) x.seeds.room); bits = bits };
             tail = tail;
-            grown = grown;
+            grown = grown told;
           }
 
   -- The constraints of the list are the job's.
@@ -359,19 +344,19 @@ module _ {g : Setup} {ws₀ : List ℕ} where
   kept_more k y =
       record { own = λ j x. y.kept j (record { layout = x.layout; accepted = x.accepted; reached = x.reached; points = x.code }) (k.own j x) }
 
-  pub going_start : {marks : List ℕ} {left : ℕ} → left ≡ 131073 → Cleared marks 128 → GoingOn g ws₀ ws₀ (replicate 128 1) marks left
-  going_start e z = rw e record { going = λ j x ch. start g ws₀ j x ch z }
+  pub going_start : {left : ℕ} → left ≡ 131073 → GoingOn g ws₀ ws₀ all_regions no_marks left
+  going_start e = rw e record { going = λ j x ch. start g ws₀ j x ch }
 
   pub going_more : {recent ws last marks ws' grew marks' : List ℕ} {left next : ℕ} → next ≡ left - 1 → GoingOn g ws₀ ws last marks left → Kept g ws₀ recent
-      → RoundRuns g last recent ws ws' grew → any_marked grew 128 ≡ true → Noted grew marks marks' 128 → GoingOn g ws₀ ws' grew marks' next
-  going_more e so k y m noted = rw e record { going = λ j x ch. more g ws₀ j x ch (so.going j x ch) (k.own j x) y m noted }
+      → RoundRuns g last recent ws ws' grew → any_marked grew 128 ≡ true → Marks marks grew marks' → GoingOn g ws₀ ws' grew marks' next
+  going_more e so k y m both = rw e record { going = λ j x ch. more g ws₀ j x ch (so.going j x ch) (k.own j x) y m both }
 
   pub going_done : {recent ws last marks ws' grew : List ℕ} {left : ℕ} → GoingOn g ws₀ ws last marks left → Kept g ws₀ recent
       → RoundRuns g last recent ws ws' grew → any_marked grew 128 ≡ false
-      → (j : Job) → Seeded g.graph.now g.shape ws₀ j → Linked g → Solved (rule_of g.rule) j ws₀ ws' marks
+      → (j : Job) → Seeded g.graph.now g.shape ws₀ j → Linked g → (bytes : List ℕ) → Tells marks bytes 128 → Solved (rule_of g.rule) j ws₀ ws' bytes
   going_done so k y m j x ch = done g ws₀ j x ch (so.going j x ch) (k.own j x) y m
 
   -- the rounds do not run out
   pub going_out : {ws last marks : List ℕ} {left : ℕ} → left ≡ 0 → GoingOn g ws₀ ws last marks left
-      → (j : Job) → Seeded g.graph.now g.shape ws₀ j → Linked g → Solved (rule_of g.rule) j ws₀ ws marks
-  going_out e so j x ch = absurd (omega (arith, e, (so.going j x ch).less))
+      → (j : Job) → Seeded g.graph.now g.shape ws₀ j → Linked g → (bytes : List ℕ) → Tells marks bytes 128 → Solved (rule_of g.rule) j ws₀ ws bytes
+  going_out e so j x ch bytes told = absurd (omega (arith, e, (so.going j x ch).less))

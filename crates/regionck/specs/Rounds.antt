@@ -36,10 +36,10 @@ pub record RoundRuns (g : Setup) (last recent ws ws' grew : List ℕ) : Type 0 w
   pub ran : (j : Job) → Known g.graph.now g.shape.code j → Own j recent → Given (setting_of (rule_of g.rule) j) g ws no_marks
       → Ran (setting_of (rule_of g.rule) j) last (constraints_of j (graph_of j)) ws no_marks ws' grew
 
--- The first n regions have no mark.
-pub record Cleared (marks : List ℕ) (n : ℕ) : Type 0 where
+-- The marks of the first n regions: 1 where the set has the region, and else 0.
+pub record Tells (set marks : List ℕ) (n : ℕ) : Type 0 where
   pub sized : length marks ≡ 128
-  pub none : (r : RegionName) → r < n → get_or marks r 0 ≡ 0
+  pub is : (r : RegionName) → r < n → get_or marks r 0 ≡ bit (has set r)
 
 -- The graph is that of an accepted job, with its shape, and the words say the seeds.
 pub record Seeded (graph : FuncGraph) (shape : Shape) (ws : List ℕ) (j : Job) : Type 0 where

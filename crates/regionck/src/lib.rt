@@ -2,61 +2,61 @@
 // The regions' least sets: rounds of the constraints of all actions, until no set grows.
 mod round;
 
-ghost use Rattle.std.specs.Prelude.{◌≡◌, false, ℕ, ◌≤◌, length};
+ghost use Rattle.std.specs.Prelude.{◌≡◌, false, List, ℕ, ◌≤◌, length};
 ghost use Rattle.nll_spec.specs.Syntax.{Job};
 ghost use Rattle.bit_set.specs.Bits.{has};
 ghost use Rattle.infer.specs.Search.{rule_of, Linked};
-ghost use Rattle.regionck.specs.Rounds.{Cleared, Seeded, Solved};
+ghost use Rattle.regionck.specs.Rounds.{Tells, Seeded, Solved};
 
+use absent_regions::marked;
 use graph::tables::FuncGraph;
 use infer::{EndRule, Setup, Shape};
 use rerun::keep;
-use rerun::marks::note;
 use round::{collect, round};
 
 // Each round but the last puts a point into a region's set, and 128 sets of 1024 points hold no more.
 const ROUNDS: u32 = 131073;
 
-// Takes every mark away.
-fn clear(grown: &mut [u8; 128])
-    ensures { Cleared grown.new 128 }
+// Marks, by 1, each region of the set, and by 0 each other one.
+fn tell(grew: &[u32; 4], grown: &mut [u8; 128])
+    ensures { Tells grew.now grown.new 128 }
 {
     for r in 0..128 {
-        grown[r] = 0;
+        grown[r] = u8::from(bit_set::test(grew, 0, r));
     }
 }
 
-// Runs rounds until no set grows. `grown` marks, by 1, the regions whose sets grew. The constraints for which the list has room are derived once; `recent` gets those
+// Runs rounds until no set grows. The answer has the regions whose sets grew. The constraints for which the list has room are derived once; `recent` gets those
 // by which regions were marked; the rows of `absent` get regions that no constraint of a point has as its inner one; `before` is for the words before a round, and may be
 // shorter.
 fn solve(
     setup: &Setup<'_>,
     words: &mut [u32],
-    grown: &mut [u8; 128],
     list: &mut [u32],
     recent: &mut [u32],
     absent: &mut [u32],
     before: &mut [u32],
-)
+) -> [u32; 4]
     requires { (i : ℕ) → has absent.old i ≡ false }
     ensures { (j : Job) → Seeded setup.now.graph.now setup.now.shape words.old j → Linked setup.now
-        → Solved (rule_of setup.now.rule) j words.old words.new grown.new }
+        → (marks : List ℕ) → Tells result marks 128 → Solved (rule_of setup.now.rule) j words.old words.new marks }
 {
-    clear(grown);
     constraint_list::clear(recent);
     let to = collect(setup, list);
-    let mut last = [1; 128];
+    let mut grew = [0; 4];
+    let mut last = [u32::MAX; 4];
     for _ in 0..ROUNDS {
         keep(words, before);
         last = round(setup, words, &last, recent, absent, before, list, to);
         if !infer::any_marked(&last) {
-            return;
+            return grew;
         }
-        note(&last, grown);
+        grew = marked(&grew, &last);
     }
+    grew
 }
 
-// The same by tables of so many words each.
+// The same by tables of so many words each. `grown` marks, by 1, the regions whose sets grew.
 #[inline(never)]
 fn with_tables<const LIST: usize, const RECENT: usize, const ABSENT: usize, const BEFORE: usize>(
     setup: &Setup<'_>,
@@ -71,15 +71,15 @@ fn with_tables<const LIST: usize, const RECENT: usize, const ABSENT: usize, cons
     let mut recent = [0; RECENT];
     let mut absent = [0; ABSENT];
     let mut before = [0; BEFORE];
-    solve(
+    let grew = solve(
         setup,
         words,
-        grown,
         &mut list,
         &mut recent,
         &mut absent,
         &mut before,
     );
+    tell(&grew, grown);
 }
 
 // The words hold the regions' seeds before, and their least sets after. `grown` marks, by 1, the declared regions whose sets exceed their seeds.

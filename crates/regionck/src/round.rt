@@ -31,8 +31,8 @@ pub fn collect(setup: &Setup<'_>, list: &mut [u32]) -> usize
 fn visit(
     setup: &Setup<'_>,
     words: &mut [u32],
-    last: &[u8; 128],
-    grew: &mut [u8; 128],
+    last: &[u32; 4],
+    grew: &mut [u32; 4],
     recent: &mut [u32],
     absent: &mut [u32],
     p: usize,
@@ -57,8 +57,8 @@ fn visit(
 fn rest(
     setup: &Setup<'_>,
     words: &mut [u32],
-    last: &[u8; 128],
-    grew: &mut [u8; 128],
+    last: &[u32; 4],
+    grew: &mut [u32; 4],
     recent: &mut [u32],
     absent: &mut [u32],
     from: usize,
@@ -79,18 +79,18 @@ fn rest(
 fn sweep(
     setup: &Setup<'_>,
     words: &mut [u32],
-    last: &[u8; 128],
+    last: &[u32; 4],
     recent: &mut [u32],
     absent: &mut [u32],
     list: &[u32],
     to: usize,
-) -> [u8; 128]
+) -> [u32; 4]
     requires { Holding setup.now list.now 0 to × Sound setup.now absent.old }
     ensures { RunsBelow setup.now last.now words.old words.new result setup.now.shape.code
         × OwnKept setup.now recent.old recent.new
         × Sound setup.now absent.new }
 {
-    let mut grew = [0; 128];
+    let mut grew = [0; 4];
     make_room(recent);
     setup.run(words, last, &mut grew, recent, list);
     rest(setup, words, last, &mut grew, recent, absent, to);
@@ -101,13 +101,13 @@ fn sweep(
 pub fn round(
     setup: &Setup<'_>,
     words: &mut [u32],
-    last: &[u8; 128],
+    last: &[u32; 4],
     recent: &mut [u32],
     absent: &mut [u32],
     before: &mut [u32],
     list: &[u32],
     to: usize,
-) -> [u8; 128]
+) -> [u32; 4]
     requires { Holding setup.now list.now 0 to × Sound setup.now absent.old }
     ensures { RoundRuns setup.now last.now recent.old words.old words.new result
         × OwnKept setup.now recent.old recent.new

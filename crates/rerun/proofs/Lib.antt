@@ -1,4 +1,3 @@
 pub mod NamedLaws
-pub mod MarkLaws
 pub mod PointLaws
 pub mod RerunLaws

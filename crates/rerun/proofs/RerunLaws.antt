@@ -1,6 +1,7 @@
 -- Constraints of a job that are run more often. Assumes nothing.
-use mathlib.Core.Path.{◌≡◌, ◌∙◌, subst}
-use mathlib.Core.Logic.{⊎_elim}
+use mathlib.Core.Path.{◌≡◌, sym, ◌∙◌, subst}
+use mathlib.Core.Logic.{inl, inr, ⊎_elim}
+use mathlib.Core.Bool.{true≢false}
 use mathlib.Core.List.{List, []}
 use Prim.Native.Nat.{ℕ}
 use lib.ListN.{length, length-replicate}
@@ -9,14 +10,15 @@ use Rattle.nll_spec.specs.Syntax.{Job}
 use Rattle.nll_spec.specs.Graph.{graph_of}
 use Rattle.nll_spec.specs.Constraints.{Outlives, constraints_of}
 use Rattle.nll_spec.proofs.Members.{member_right}
+use Rattle.bit_set.proofs.BitLaws.{has-zeros}
 use Rattle.constraint_list.specs.Listed.{constraints_in, Draws}
+use Rattle.absent_regions.specs.Absent.{Marks}
 use Rattle.infer.specs.Search.{rule_of}
 use Rattle.infer.specs.Ran.{Setting, Given, Runs}
 use Rattle.infer.specs.declared.Setup.{Setup}
-use Rattle.infer.proofs.RanLaws.{no_member, ran_again}
-use Rattle.rerun.specs.Rerun.{setting_of, no_marks, constraints_below, Known, Holding, Own, OwnKept, RunsAgain, RunsMore, Noted}
+use Rattle.infer.proofs.RanLaws.{no_member, Joined, ran_again}
+use Rattle.rerun.specs.Rerun.{setting_of, no_marks, constraints_below, Known, Holding, Own, OwnKept, RunsAgain, RunsMore}
 use Rattle.rerun.proofs.NamedLaws.{own_below, all_named}
-use Rattle.rerun.proofs.MarkLaws.{blank, noted_joined}
 
 -- ---- Lists whose constraints are the job's
 
@@ -57,18 +59,27 @@ given_again given e =
       marks = given.marks;
     }
 
+-- the marks of both
+marks_joined : {a b ab : List ℕ} → length a ≡ 4 → Marks a b ab → Joined a b ab
+marks_joined e m =
+    record {
+      as_long = m.sized ∙ sym e;
+      left = λ r h. m.all r (inl h);
+      right = λ r h. m.all r (inr h);
+      either = λ r h. (m.only r h).1;
+    }
+
 module _ {g : Setup} {cs : List Outlives} {ws grew : List ℕ} where
   pub again_none : RunsAgain g cs ws grew ws grew
   again_none = record { ran = λ s last ds ws₀ given named among x. x }
 
   pub again_more : {last ws₁ grew₁ ws₂ next grew₂ : List ℕ} → RunsAgain g cs ws grew ws₁ grew₁ → Runs g last cs ws₁ no_marks ws₂ next
-      → Noted next grew₁ grew₂ 128 → RunsAgain g cs ws grew ws₂ grew₂
-  again_more {last} {ws₁} {grew₁} {ws₂} {next} {grew₂} x y noted = record {
+      → Marks grew₁ next grew₂ → RunsAgain g cs ws grew ws₂ grew₂
+  again_more {last} {ws₁} {grew₁} {ws₂} {next} {grew₂} x y marks = record {
     ran = λ s last' ds ws₀ given named among z.
         let a = x.ran s last' ds ws₀ given named among z in
         let b = y.ran s (given_again given a.as_long) (λ c m. named c (among c m)) in
-        let e = a.as_many ∙ length-replicate {A = ℕ} 128 0 in
-        ran_again a b (λ r m. m (blank r)) among (noted_joined e (b.as_many ∙ length-replicate {A = ℕ} 128 0) noted);
+        ran_again a b (λ r m. true≢false (sym m ∙ has-zeros 4 r)) among (marks_joined (a.as_many ∙ length-replicate {A = ℕ} 4 0) marks);
   }
 
 -- ---- More of the job's constraints
@@ -93,6 +104,6 @@ module _ {g : Setup} where
 
   -- those of points, which come to `recent`
   pub more-held : {ls recent recent₁ last ws grew ws₁ next grew₁ : List ℕ} {n m : ℕ} → Holding g ls n m
-      → Runs g last (constraints_in ls) ws no_marks ws₁ next × Noted next grew grew₁ 128 × Draws (constraints_in ls) recent recent₁
+      → Runs g last (constraints_in ls) ws no_marks ws₁ next × Marks grew next grew₁ × Draws (constraints_in ls) recent recent₁
       → RunsMore g recent ws grew recent₁ ws₁ grew₁
   more-held {ls} held x = more-own ls (λ j k o. own_held held j k) (own-drawn held x.2) (again_more again_none x.0 x.1)

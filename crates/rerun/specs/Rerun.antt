@@ -9,7 +9,7 @@ use Rattle.nll_spec.specs.Constraints.{Outlives, constraints_at, constraints_of}
 use Rattle.nll_spec.specs.Regions.{EndRule}
 use Rattle.nll_spec.specs.Output.{word_count}
 use Rattle.record.specs.Layout.{Holds}
-use Rattle.graph.specs.Search.{Marked, WalkedIn}
+use Rattle.graph.specs.Search.{WalkedIn}
 use Rattle.graph.specs.declared.tables.FuncGraph.{FuncGraph}
 use Rattle.infer.specs.Search.{rule_of}
 use Rattle.infer.specs.Ran.{Setting, Given, AllNamed, Ran}
@@ -22,7 +22,7 @@ setting_of ends j = record { ends = ends; graph = graph_of j; regions = j.region
 
 -- the marks before a round
 abbrev pub no_marks : List ℕ
-no_marks = replicate 128 0
+no_marks = replicate 4 0
 
 -- the constraints of a point, if its block is walked
 abbrev pub walked_at : Job → Point → List Outlives
@@ -66,12 +66,6 @@ pub record RunsMore (g : Setup) (recent ws grew recent' ws' grew' : List ℕ) : 
   pub ran : (j : Job) → Known g.graph.now g.shape.code j → Own j recent → (last ws₀ : List ℕ) → Given (setting_of (rule_of g.rule) j) g ws₀ no_marks
       → Ran (setting_of (rule_of g.rule) j) last (constraints_of j (graph_of j)) ws₀ no_marks ws grew → Ran (setting_of (rule_of g.rule) j) last (constraints_of j (graph_of j)) ws₀ no_marks ws' grew'
   pub own : OwnKept g recent recent'
-
--- The marks `grown` with 1 at each of the first n regions that `grew` marks.
-pub record Noted (grew grown grown' : List ℕ) (n : ℕ) : Type 0 where
-  pub sized : length grown' ≡ 128
-  pub marked : (r : RegionName) → r < n → Marked grew r → get_or grown' r 0 ≡ 1
-  pub others : (r : RegionName) → get_or grew r 0 ≡ 0 → get_or grown' r 0 ≡ get_or grown r 0
 
 -- The first n words of `before` become those of ws.
 pub record Keeps (ws before before' : List ℕ) (n : ℕ) : Type 0 where

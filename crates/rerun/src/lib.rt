@@ -1,60 +1,59 @@
 #![tactic(auto)]
 // The constraints of a job, run again within a round. Which ones, and by which marks, is a matter of time alone.
-pub mod marks;
 pub mod point;
 
-ghost use Rattle.std.specs.Prelude.{◌≡◌, [], ◌<◌, ◌≤◌, length};
+ghost use Rattle.std.specs.Prelude.{[], ◌<◌, ◌≤◌, length};
 ghost use Rattle.nll_spec.specs.Syntax.{Point};
 ghost use Rattle.constraint_list.specs.Listed.{constraints_in, Draws};
+ghost use Rattle.absent_regions.specs.Absent.{Marks};
 ghost use Rattle.infer.specs.Ran.{Runs};
-ghost use Rattle.rerun.specs.Rerun.{no_marks, Noted, Holding, RunsAgain, RunsMore, Keeps};
+ghost use Rattle.rerun.specs.Rerun.{no_marks, Holding, RunsAgain, RunsMore, Keeps};
 
+use absent_regions::marked;
 use infer::Setup;
-use marks::note;
 use point::point;
 
 // How often constraints are run again, and how many turns there are, at most, before a round of all is due.
 const TIMES: u32 = 65536;
 
-// Runs the constraints of the list once, those whose inner set has a mark in `last` or gets one. The answer marks, by 1, the regions whose sets grew, and so does `grew`.
+// Runs the constraints of the list once, those whose inner set has a mark in `last` or gets one. The answer marks the regions whose sets grew, and so does `grew`.
 fn rerun(
     setup: &Setup<'_>,
     words: &mut [u32],
-    last: &[u8; 128],
-    grew: &mut [u8; 128],
+    last: &[u32; 4],
+    grew: &mut [u32; 4],
     recent: &mut [u32],
     list: &[u32],
-) -> [u8; 128]
+) -> [u32; 4]
     ensures { Runs setup.now last.now (constraints_in list.now) words.old no_marks words.new result
-        × Noted result grew.old grew.new 128
+        × Marks grew.old result grew.new
         × Draws (constraints_in list.now) recent.old recent.new }
 {
-    let mut next = [0; 128];
+    let mut next = [0; 4];
     setup.run(words, last, &mut next, recent, list);
-    note(&next, grew);
+    *grew = marked(grew, &next);
     next
 }
 
-// Runs the constraints of the list until by them no set grows, at most TIMES times; at first those whose inner set has a mark in `fresh`. Marks, by 1, the regions whose
+// Runs the constraints of the list until by them no set grows, at most TIMES times; at first those whose inner set has a mark in `fresh`. Marks the regions whose
 // sets grew, in `fresh` and in `grew`.
 fn settle(
     setup: &Setup<'_>,
     words: &mut [u32],
-    fresh: &mut [u8; 128],
-    grew: &mut [u8; 128],
+    fresh: &mut [u32; 4],
+    grew: &mut [u32; 4],
     list: &[u32],
 )
     ensures { RunsAgain setup.now (constraints_in list.now) words.old grew.old words.new grew.new }
 {
     let mut none = [0; 1];
-    let mut last = [0; 128];
-    note(fresh, &mut last);
+    let mut last = *fresh;
     for _ in 0..TIMES {
         if !infer::any_marked(&last) {
             return;
         }
         last = rerun(setup, words, &last, grew, &mut none, list);
-        note(&last, fresh);
+        *fresh = marked(fresh, &last);
     }
 }
 
@@ -94,8 +93,7 @@ fn lead(words: &[u32], before: &[u32], start: usize, width: usize, near: &mut [u
     requires { (width ≤ 32) × (start ≤ 4096) }
 {
     let mut after = 0;
-    for i in 0..width {
-        let k = width - 1 - i;
+    for k in (0..width).rev() {
         let held = bit_slice::word_at(words, start + k);
         let old = bit_slice::word_at(before, start + k);
         let from = (held ^ (held & old)) | (held & after);
@@ -106,13 +104,13 @@ fn lead(words: &[u32], before: &[u32], start: usize, width: usize, near: &mut [u
 }
 
 // The same for the sets of all regions with a mark. Then `before` gets the words.
-fn leading(words: &[u32], before: &mut [u32], width: usize, marks: &[u8; 128]) -> [u32; 32] {
+fn leading(words: &[u32], before: &mut [u32], width: usize, marks: &[u32; 4]) -> [u32; 32] {
     let mut near = [0; 32];
     if 32 < width {
         return near;
     }
     for r in 0..128 {
-        if marks[r] != 0 {
+        if bit_set::test(marks, 0, r) {
             lead(words, before, r * width, width, &mut near);
         }
     }
@@ -121,13 +119,13 @@ fn leading(words: &[u32], before: &mut [u32], width: usize, marks: &[u8; 128]) -
 }
 
 // If p is among the points `near`, and a region with a mark may be the inner one of a constraint of it, by its row of `absent`, runs its constraints once, those whose inner set has
-// a mark in `last` or gets one. Marks, by 1, the regions whose sets grew, in `fresh` and in `grew`.
+// a mark in `last` or gets one. Marks the regions whose sets grew, in `fresh` and in `grew`.
 fn revisit(
     setup: &Setup<'_>,
     words: &mut [u32],
-    last: &[u8; 128],
-    fresh: &mut [u8; 128],
-    grew: &mut [u8; 128],
+    last: &[u32; 4],
+    fresh: &mut [u32; 4],
+    grew: &mut [u32; 4],
     recent: &mut [u32],
     near: &[u32; 32],
     absent: &[u32],
@@ -139,23 +137,23 @@ fn revisit(
     if !bit_set::test(near, 0, p) {
         return;
     }
-    let marks = absent_regions::marked(last, fresh);
+    let marks = marked(last, fresh);
     if absent_regions::all_in(absent, p, &marks) {
         return;
     }
     let mut list = [0; 265];
     point(setup.graph, p, &mut list);
     let next = rerun(setup, words, last, grew, recent, &list);
-    note(&next, fresh);
+    *fresh = marked(fresh, &next);
 }
 
 // The same for each point.
 fn revisit_near(
     setup: &Setup<'_>,
     words: &mut [u32],
-    last: &[u8; 128],
-    fresh: &mut [u8; 128],
-    grew: &mut [u8; 128],
+    last: &[u32; 4],
+    fresh: &mut [u32; 4],
+    grew: &mut [u32; 4],
     recent: &mut [u32],
     near: &[u32; 32],
     absent: &[u32],
@@ -168,17 +166,17 @@ fn revisit_near(
 }
 
 // Runs the constraints of the list once, then those of the points that lead to what is new since `before`, which gets the words: those whose inner set has a mark in `last` or gets one.
-// The answer marks, by 1, the regions whose sets grew, and so does `grew`. The list has the constraints of the first points.
+// The answer marks the regions whose sets grew, and so does `grew`. The list has the constraints of the first points.
 fn turn(
     setup: &Setup<'_>,
     words: &mut [u32],
-    last: &[u8; 128],
-    grew: &mut [u8; 128],
+    last: &[u32; 4],
+    grew: &mut [u32; 4],
     recent: &mut [u32],
     before: &mut [u32],
     absent: &[u32],
     list: &[u32],
-) -> [u8; 128]
+) -> [u32; 4]
     ensures { (to : Point) → Holding setup.now list.now 0 to
         → RunsMore setup.now recent.old words.old grew.old recent.new words.new grew.new }
 {
@@ -193,8 +191,8 @@ fn turn(
 fn turns(
     setup: &Setup<'_>,
     words: &mut [u32],
-    marks: [u8; 128],
-    grew: &mut [u8; 128],
+    marks: [u32; 4],
+    grew: &mut [u32; 4],
     recent: &mut [u32],
     before: &mut [u32],
     absent: &[u32],
@@ -214,11 +212,11 @@ fn turns(
 }
 
 // Runs the constraints of `recent` until by them no set grows. If there are points from `to` on, runs those of the list and of points that lead to what is new again too: `before` has
-// words as they were. `grew` marks, by 1, the regions whose sets grew. The list has the constraints of the points before `to`.
+// words as they were. `grew` marks the regions whose sets grew. The list has the constraints of the points before `to`.
 pub fn repeat(
     setup: &Setup<'_>,
     words: &mut [u32],
-    grew: &mut [u8; 128],
+    grew: &mut [u32; 4],
     recent: &mut [u32],
     before: &mut [u32],
     absent: &[u32],
@@ -228,8 +226,7 @@ pub fn repeat(
     ensures { Holding setup.now list.now 0 to
         → RunsMore setup.now recent.old words.old grew.old recent.new words.new grew.new }
 {
-    let mut last = [0; 128];
-    note(grew, &mut last);
+    let mut last = *grew;
     settle(setup, words, &mut last, grew, recent);
     if setup.shape.code <= to {
         return;

@@ -8,7 +8,7 @@ use Rattle.regionck.proofs.SolvedLaws.{kept-none, kept_more, going_start, going_
 use Rattle.regionck.proofs.solve.Goals as goal
 
 pub loop-init : goal.loop-init
-loop-init c = (sound_none c.requires, kept-none c.clear-2.ensures.1, going_start (omega arith) c.clear.ensures)
+loop-init c = (sound_none c.requires, kept-none c.clear.ensures.1, going_start (omega arith))
 
 pub returns-then-not-any_marked : goal.returns-then-not-any_marked
 returns-then-not-any_marked c =
@@ -19,7 +19,7 @@ pub loop-preserved : goal.loop-preserved
 loop-preserved c =
     let loop = c.loop in
     let r = c.round-last.ensures in
-    (r.2, kept_more loop.invariant.1 r.1, going_more (omega arith) loop.invariant.2 loop.invariant.1 r.0 (sym c.any_marked.ensures ∙ not-false _ c.if-not-any_marked.false-raw) c.note.ensures)
+    (r.2, kept_more loop.invariant.1 r.1, going_more (omega arith) loop.invariant.2 loop.invariant.1 r.0 (sym c.any_marked.ensures ∙ not-false _ c.if-not-any_marked.false-raw) c.marked-grew.ensures)
 
 pub returns : goal.returns
 returns c = going_out (omega arith) c.loop.invariant.2

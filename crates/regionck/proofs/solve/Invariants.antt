@@ -6,4 +6,4 @@ use Rattle.regionck.proofs.SolvedLaws.{GoingOn, Kept}
 use Rattle.regionck.proofs.solve.Given as goal
 
 abbrev pub invariant-loop : goal.invariant-loop
-invariant-loop l = Sound l.setup l.absent × Kept l.setup l.initial.words l.recent × GoingOn l.setup l.initial.words l.words l.last l.grown (131073 - l.counter)
+invariant-loop l = Sound l.setup l.absent × Kept l.setup l.initial.words l.recent × GoingOn l.setup l.initial.words l.words l.last l.grew (131073 - l.counter)

@@ -1,13 +1,13 @@
 -- `infer::Setup::outlives`: each return is a run of the one constraint, by a law of OneLaws. Assumes nothing.
 use mathlib.Core.Path.{sym, ◌∙◌}
 use Rattle.infer.specs.Ran.{constraint}
-use Rattle.infer.proofs.OneLaws.{bounds_in, absent_test, spread_got, ran_absent, ran_covered, ran_nothing, ran-still, ran-grew}
+use Rattle.infer.proofs.OneLaws.{absent_test, spread_got, ran_absent, ran_covered, ran_nothing, ran-still, ran-grew}
 use Rattle.infer.proofs.Setup.outlives.Goals as goal
 
 pub returns-then-not-test : goal.returns-then-not-test
 returns-then-not-test c = λ s given names.
     let a = c.args in
-    ran_absent s a.last.now a.words.now a.grew.now (constraint a.sup.0 a.sub.0 a.point) (absent_test a.words.now c.from-t.result a.sub.0 a.self.now.shape.width s.width a.point c.test.result c.from-t.ensures given.width c.test.ensures c.if-not-test.true)
+    ran_absent s a.last.now a.words.now a.grew.now (constraint a.sup.0 a.sub.0 a.point) (absent_test a.words.now c.from-t.result a.sub.0 a.self.now.shape.width s.width a.point c.test-3.result c.from-t.ensures given.width c.test-3.ensures c.if-not-test.true)
 
 pub returns-then-stays_within : goal.returns-then-stays_within
 returns-then-stays_within c = λ s given names.
@@ -25,9 +25,6 @@ returns-then-adds_nothing c = λ s given names.
     ran_nothing s a.self.now a.words.now a.grew.now given (constraint a.sup.0 a.sub.0 a.point) names a.last.now sup.result sub.result sup.ensures sub.ensures
     (sym c.adds_nothing.ensures ∙ c.if-adds_nothing.true)
 
-pub bounds-grew-s : goal.bounds-grew-s
-bounds-grew-s c = (bounds_in c.args.self.now.shape c.from-s.result c.from-t.result c.args.point (sym c.in_bounds.ensures ∙ c.if-not-in_bounds.false)).sup
-
 pub returns-then-spread : goal.returns-then-spread
 returns-then-spread c = λ s given names.
     let a = c.args in
@@ -36,10 +33,11 @@ returns-then-spread c = λ s given names.
     let x = c.spread in
     let sup = c.from-s in
     let sub = c.from-t in
-    rw sup.ensures
-    (ran-grew s a.self.now ws a.grew.now given d names a.last.now x.new.words x.result
+    ran-grew s a.self.now ws a.grew.now given d names a.last.now x.new.words x.result
     (spread_got s a.self.now ws a.grew.now given d names sup.result sub.result sup.ensures sub.ensures x.new.words x.result (x.ensures given.linked))
-    c.if-spread.true)
+    sup.ensures
+    c.add.ensures.0
+    c.if-spread.true
 
 pub returns-else-spread : goal.returns-else-spread
 returns-else-spread c = λ s given names.
