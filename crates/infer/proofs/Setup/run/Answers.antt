@@ -1,7 +1,6 @@
 -- `infer::Setup::run`. The loop's invariant: the first i constraints are run, and what is drawn is of them. Assumes nothing.
 use Rattle.constraint_list.proofs.ListLaws.{draws_none}
 use Rattle.infer.proofs.RunLaws.{first_runs, next_runs, next_drawn}
-use Rattle.std.proofs.Common.{rules}
 use Rattle.infer.proofs.Setup.run.Goals as goal
 
 pub loop-i-init : goal.loop-i-init

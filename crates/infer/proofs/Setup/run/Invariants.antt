@@ -1,6 +1,4 @@
 -- `infer::Setup::run`. The loop's invariant: the first i constraints are run, and what is drawn is of them. Assumes nothing.
-use mathlib.Core.Path.{◌≡◌}
-use lib.ListN.{length}
 use Rattle.constraint_list.specs.Listed.{first_in, Draws}
 use Rattle.infer.specs.Ran.{Runs}
 use Rattle.infer.proofs.Setup.run.Given as goal
