@@ -1,16 +1,14 @@
 -- One constraint: passed by, or run. Assumes nothing.
 use mathlib.Core.Path.{◌≡◌, refl, sym, ap, ◌∙◌, subst}
 use mathlib.Core.Logic.{◌⊎◌, inl, inr, ⊎_elim}
-use mathlib.Core.Bool.{Bool, true, false, ◌&&◌, true≢false}
+use mathlib.Core.Bool.{Bool, true, false, true≢false}
 use mathlib.Core.List.{List, [], ◌∷◌}
 use Prim.Native.Nat.{ℕ, ◌+◌, ◌*◌, ◌/◌, ◌≤◌, ◌<◌}
 use native.Mathlib.Nat.{mul-le-mul_right, suc-mul}
 use native.Mathlib.Decide.{ℕ_discrete}
 use native.Mathlib.Omega.{arith}
 use lib.ListN.{length}
-use lib.Dec.{T, leb, ltb}
-use borrow.Author.Tests.{leb-true, ltb-true}
-use Rattle.std.proofs.lemmas.Bool.{and_parts}
+use lib.Dec.{T}
 use Rattle.std.proofs.lemmas.Float.{T_from_true}
 use Rattle.nll_spec.specs.Lists.{Member, here, there}
 use Rattle.nll_spec.specs.Syntax.{Point, RegionName}
@@ -26,10 +24,9 @@ use Rattle.bit_set.specs.Bits.{has, with_bit}
 use Rattle.bit_set.proofs.BitLaws.{length_with, has_with, has_with_other}
 use Rattle.graph.specs.Tables.{Edge}
 use Rattle.dfs.specs.Walk.{in_code, Reach}
-use Rattle.infer.specs.Search.{Gets, Spread, adds_nothing, in_bounds, Covered}
+use Rattle.infer.specs.Search.{Gets, Spread, adds_nothing, Covered}
 use Rattle.infer.specs.Ran.{Setting, bit_at, sets_of, Met, Within, AllReady, Marked, Ran, Given, Names}
 use Rattle.infer.specs.declared.Setup.{Setup}
-use Rattle.infer.specs.declared.Shape.{Shape}
 use Rattle.infer.proofs.TableLaws.{leaf_exit, exit_leaf, reach_below, reach_walk, walk_reach}
 use Rattle.infer.proofs.SubsetLaws.{nothing_new}
 use Rattle.infer.proofs.CoverLaws.{covered_nothing}

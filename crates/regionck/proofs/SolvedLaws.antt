@@ -6,8 +6,8 @@ use mathlib.Core.List.{List}
 use Prim.Native.Nat.{ℕ, zero, suc, ◌+◌, ◌-◌, ◌*◌, ◌^◌, ◌≤◌, ◌<◌, min}
 use native.Mathlib.Nat.{mul-le-mul_right, suc-mul}
 use native.Mathlib.Omega.{arith}
-use native.Mathlib.Decide.{ℕ_discrete, dec_lt}
-use lib.ListN.{length, get_or, take, drop, replicate, length-take, length-drop, length-replicate, get_or-replicate, get_or-eq_default}
+use native.Mathlib.Decide.{dec_lt}
+use lib.ListN.{length, get_or, take, drop, length-take, length-drop, length-replicate, get_or-eq_default}
 use lib.Seq.{get_or-take, get_or-drop}
 use lib.Dec.{T, T_not, not_T}
 use Rattle.std.proofs.lemmas.Bool.{false_from_ne_true}

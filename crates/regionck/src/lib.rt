@@ -17,7 +17,7 @@ use round::{collect, round};
 // Each round but the last puts a point into a region's set, and 128 sets of 1024 points hold no more.
 const ROUNDS: u32 = 131073;
 
-// Marks, by 1, each region of the set, and by 0 each other one.
+// Gives each region of the set the mark 1, and each other one 0.
 fn tell(grew: &[u32; 4], grown: &mut [u8; 128])
     ensures { Tells grew.now grown.new 128 }
 {

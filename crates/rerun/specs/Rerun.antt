@@ -1,7 +1,7 @@
 -- What it does to the regions' sets, and to the marks of those that grew, to run a job's constraints again.
 use Rattle.std.specs.Prelude.{◌≡◌, cond, List, [], ◌++◌, ℕ, ◌≤◌, ◌<◌, length, get_or, replicate}
 use Rattle.nll_spec.specs.Lists.{gather, select, below, Member}
-use Rattle.nll_spec.specs.Syntax.{Job, Point, RegionName}
+use Rattle.nll_spec.specs.Syntax.{Job, Point}
 use Rattle.nll_spec.specs.Decode.{point_count}
 use Rattle.nll_spec.specs.WellFormed.{refusal}
 use Rattle.nll_spec.specs.Graph.{graph_of, action_at, is_walked}
