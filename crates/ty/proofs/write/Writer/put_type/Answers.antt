@@ -18,11 +18,7 @@ slice_bounds-put-start c = (laws.lies c.nodes.ensures (got c.ok.ensures.value c.
 pub put-requires : goal.put-requires
 put-requires c =
     let w = laws.lies c.nodes.ensures (got c.ok.ensures.value c.in_ok-rest.was) c.min.ensures in
-    let n = w.nodes in
-    let o = w.room in
-    let l = length-take (c.min.result - c.args.item.at) (drop c.args.item.at c.args.s.now) in
-    let r = c.args.self.now.room in
-    (omega arith, omega arith)
+    (omega arith, omega (arith, w.nodes, w.room, length-take (c.min.result - c.args.item.at) (drop c.args.item.at c.args.s.now), c.args.self.now.room))
 
 pub returns : goal.returns
 returns c = laws.copied c.nodes.ensures (got c.ok.ensures.value c.in_ok-rest.was) c.min.ensures c.put.ensures
