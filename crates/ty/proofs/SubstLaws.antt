@@ -1,9 +1,8 @@
 -- What each way through a substitution writes. Assumes nothing.
 use mathlib.Core.Path.{◌≡◌, refl, sym, ap, subst as transport, ◌∙◌}
-use mathlib.Core.List.{List, [], ◌∷◌, ◌++◌, append_assoc, append-nil}
+use mathlib.Core.List.{List, [], ◌∷◌, ◌++◌, append-nil}
 use Prim.Native.Nat.{ℕ, zero, suc, ◌+◌, ◌-◌, ◌*◌, ◌≤◌, ◌<◌}
 use native.Mathlib.Omega.{arith}
-use native.Mathlib.Nat.{le_refl}
 use lib.ListN.{take, drop, take-append-drop}
 use Rattle.nll_spec.specs.Syntax.{BorrowKind, Ty, UnitTy, RefTy, StructTy, BoundTy, Args, NoArgs, RegionArg, TypeArg}
 use Rattle.nll_spec.specs.Syntax as syntax

@@ -18,7 +18,6 @@ use Rattle.repr.specs.declared.Argument.TheVariants as arguments
 use Rattle.repr.specs.declared.Rest.{Rest}
 use Rattle.repr.specs.declared.refusal.Refusal.{Refusal}
 use Rattle.std.specs.Prelude.{Option, Some, None, Result, Ok, Err, min}
-use Rattle.repr.specs.declared.Region.{Region}
 use Rattle.repr.specs.Stands.{TypeTo}
 use Rattle.repr.specs.Spelling.{spell, spell_args, Fine, FineArgs}
 use Rattle.ty.specs.Written.{Given, FoundIs, FoundSays}

@@ -93,7 +93,7 @@ impl Writer<'_> {
         let out = &mut *self.out;
         put_run(out, at, bytes);
         self.left -= nodes;
-        self.at = at + bytes.len();
+        self.at += bytes.len();
     }
 
     // The type at a place, as it is.
@@ -101,7 +101,8 @@ impl Writer<'_> {
         ensures { CopySays s.now item.at next self.old self.new result }
     {
         let rest = item.nodes(s, self.left).ok()?;
-        self.put(self.left - rest.left, &s[item.at..rest.next.at.min(s.len())]);
+        let bytes = &s[item.at..rest.next.at.min(s.len())];
+        self.put(self.left - rest.left, bytes);
         Some(next)
     }
 

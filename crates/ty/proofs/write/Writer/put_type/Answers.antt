@@ -9,11 +9,11 @@ use Rattle.ty.proofs.write.Writer.put_type.Goals as goal
 pub returns-in_err-rest : goal.returns-in_err-rest
 returns-in_err-rest c = rw c.from_residual.ensures (laws.copy_over c.nodes.ensures (refused_by c.ok.ensures.value c.in_err-rest.was).1)
 
-pub slice_bounds-put-count : goal.slice_bounds-put-count
-slice_bounds-put-count c = (laws.lies c.nodes.ensures (got c.ok.ensures.value c.in_ok-rest.was) c.min.ensures).ordered
+pub slice_bounds-bytes-count : goal.slice_bounds-bytes-count
+slice_bounds-bytes-count c = (laws.lies c.nodes.ensures (got c.ok.ensures.value c.in_ok-rest.was) c.min.ensures).ordered
 
-pub slice_bounds-put-start : goal.slice_bounds-put-start
-slice_bounds-put-start c = (laws.lies c.nodes.ensures (got c.ok.ensures.value c.in_ok-rest.was) c.min.ensures).ordered
+pub slice_bounds-bytes-start : goal.slice_bounds-bytes-start
+slice_bounds-bytes-start c = (laws.lies c.nodes.ensures (got c.ok.ensures.value c.in_ok-rest.was) c.min.ensures).ordered
 
 pub put-requires : goal.put-requires
 put-requires c =
