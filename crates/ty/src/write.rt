@@ -17,7 +17,7 @@ pub struct Arguments<'a> {
 // The nodes that a type has at most.
 const NODES: u8 = 32;
 
-// Bytes that types are written into, where the next byte goes, and how many nodes more there is room for.
+// Bytes that types are written into, where the next byte goes, and how many nodes more there is room for, at 15 bytes each.
 #[derive(Drop)]
 struct Writer<'a> {
     out: &'a mut [u8; 512],
