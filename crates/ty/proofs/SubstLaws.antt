@@ -1,9 +1,8 @@
 -- What each way through a substitution writes. Assumes nothing.
 use mathlib.Core.Path.{◌≡◌, refl, sym, ap, subst as transport, ◌∙◌}
-use mathlib.Core.List.{List, [], ◌∷◌, ◌++◌, append_assoc, append-nil}
+use mathlib.Core.List.{List, [], ◌∷◌, ◌++◌, append-nil}
 use Prim.Native.Nat.{ℕ, zero, suc, ◌+◌, ◌-◌, ◌*◌, ◌≤◌, ◌<◌}
 use native.Mathlib.Omega.{arith}
-use native.Mathlib.Nat.{le_refl}
 use lib.ListN.{take, drop, take-append-drop}
 use Rattle.nll_spec.specs.Syntax.{BorrowKind, Ty, UnitTy, RefTy, StructTy, BoundTy, Args, NoArgs, RegionArg, TypeArg}
 use Rattle.nll_spec.specs.Syntax as syntax
@@ -167,8 +166,7 @@ module _ {f : List ℕ} {c n : ℕ} {a : Arguments} {w w₁ : Writer} {d : Resul
       says = λ k over g p q.
           let b = on_argument m z e p in
           let y = transport (λ (o : Option Cursor). Writes f b.mid (type_nodes (subst b.item g)) (spell (subst b.item g)) w₀ w₂ o) j (v.says b.item b.mid g b.first q) in
-          let t = l.took in
-          transport (λ (o : Args). w.left < arg_nodes (subst_args o g)) (sym b.same) (omega arith);
+          transport (λ (o : Args). w.left < arg_nodes (subst_args o g)) (sym b.same) (omega (arith, l.took, y));
       room = tt;
     }
 
@@ -188,9 +186,8 @@ module _ {f : List ℕ} {c n : ℕ} {a : Arguments} {w w₁ : Writer} {d : Resul
 
 stood : (u : Ty) (w w₁ : Writer) → w.at ≡ 0 → w.left ≡ 32 → Fine u → Puts (type_nodes u) (spell u) w w₁ → Stood w₁.out.now u w₁.at
 stood u w w₁ z n f p =
-    let t = p.took in
     let e : take w₁.at w₁.out.now ≡ spell u = rw z at p.stand in
-    record { few = omega arith; stands = transport (λ (o : List ℕ). TypeTo o u (drop w₁.at w₁.out.now)) (ap (λ (l : List ℕ). l ++ drop w₁.at w₁.out.now) (sym e) ∙ take-append-drop w₁.at w₁.out.now) (type_to u f) }
+    record { few = omega (arith, p.took); stands = transport (λ (o : List ℕ). TypeTo o u (drop w₁.at w₁.out.now)) (ap (λ (l : List ℕ). l ++ drop w₁.at w₁.out.now) (sym e) ∙ take-append-drop w₁.at w₁.out.now) (type_to u f) }
 
 by_writes : (g over : List ℕ) (w w₁ : Writer) (u : Ty) {x y : Option Cursor} → x ≡ y → Writes g over (type_nodes u) (spell u) w w₁ x → Writes g over (type_nodes u) (spell u) w w₁ y
 by_writes g over w w₁ u e q = transport (λ (z : Option Cursor). Writes g over (type_nodes u) (spell u) w w₁ z) e q

@@ -18,7 +18,6 @@ use Rattle.repr.specs.declared.Argument.TheVariants as arguments
 use Rattle.repr.specs.declared.Rest.{Rest}
 use Rattle.repr.specs.declared.refusal.Refusal.{Refusal}
 use Rattle.std.specs.Prelude.{Option, Some, None, Result, Ok, Err, min}
-use Rattle.repr.specs.declared.Region.{Region}
 use Rattle.repr.specs.Stands.{TypeTo}
 use Rattle.repr.specs.Spelling.{spell, spell_args, Fine, FineArgs}
 use Rattle.ty.specs.Written.{Given, FoundIs, FoundSays}
@@ -84,33 +83,19 @@ lies {s} {from} {left} {to} {d} {x} v e b =
 
 module _ {w w₁ : Writer} {k : ℕ} {l : List ℕ} (p : Puts k l w w₁) where
   pub writes_more : (f over : List ℕ) (w₂ : Writer) (nodes all : ℕ) (bytes : List ℕ) → k + nodes ≡ all → (r : Option Cursor) → Writes f over nodes bytes w₁ w₂ r → Writes f over all (l ++ bytes) w w₂ r
-  writes_more f over w₂ nodes all bytes g (Some c) q =
-      let t = p.took in
-      let e = p.ends in
-      let t₁ = q.1.took in
-      let e₁ = q.1.ends in
-      (q.0, record { took = omega arith; ends = simp length-append (omega arith); same = q.1.same ∙ p.same; stand = q.1.stand ∙ (ap (λ (x : List ℕ). x ++ bytes) p.stand ∙ append_assoc (take w.at w.out.now) l bytes) })
-  writes_more f over w₂ nodes all bytes g None q = let t = p.took in omega arith
+  writes_more f over w₂ nodes all bytes g (Some c) (i, q) =
+      (i, record { took = omega (arith, p.took, q.took); ends = simp length-append (omega (arith, p.ends, q.ends)); same = q.same ∙ p.same; stand = q.stand ∙ (ap (λ (x : List ℕ). x ++ bytes) p.stand ∙ append_assoc (take w.at w.out.now) l bytes) })
+  writes_more f over w₂ nodes all bytes g None q = omega (arith, p.took)
 
   pub keeps_put : (more : ℕ) → length l ≤ 15 * k + more → Keeps more w w₁
-  keeps_put more h = let t = p.took in let e = p.ends in record { same = p.same; fewer = omega arith; room = omega arith }
+  keeps_put more h = record { same = p.same; fewer = omega (arith, p.took); room = omega (arith, p.took, p.ends) }
 
   pub room-more : (more m : ℕ) (w₂ : Writer) → length l + m ≤ 15 * k + more → (r : Option Cursor) → Room m w₁ w₂ r → Room more w w₂ r
-  room-more more m w₂ h (Some c) q =
-      let t = p.took in
-      let e = p.ends in
-      let t₁ = q.fewer in
-      let e₁ = q.room in
-      record { same = q.same ∙ p.same; fewer = omega arith; room = omega arith }
+  room-more more m w₂ h (Some c) q = record { same = q.same ∙ p.same; fewer = omega (arith, p.took, q.fewer); room = omega (arith, p.took, p.ends, q.room) }
   room-more more m w₂ h None q = tt
 
 pub room-then : {w w₁ : Writer} (m : ℕ) (w₂ : Writer) → Keeps 0 w w₁ → (r : Option Cursor) → Room m w₁ w₂ r → Room m w w₂ r
-room-then m w₂ p (Some c) q =
-    let t = p.fewer in
-    let e = p.room in
-    let t₁ = q.fewer in
-    let e₁ = q.room in
-    record { same = q.same ∙ p.same; fewer = omega arith; room = omega arith }
+room-then m w₂ p (Some c) q = record { same = q.same ∙ p.same; fewer = omega (arith, p.fewer, q.fewer); room = omega (arith, p.room, q.room) }
 room-then m w₂ p None q = tt
 
 -- ---- A type as it is
@@ -126,31 +111,24 @@ module _ {s : List ℕ} {item : ℕ} {next : Cursor} {w w₁ : Writer} {d : Resu
   pub copied : {to : ℕ} {x : Rest} → d ≡ Ok x → to ≡ min x.next.at (length s) → Puts (w.left - x.left) (take (to - item) (drop item s)) w w₁ → CopySays s item next w w₁ (Some next)
   copied {to = to} {x = x} e b h =
       let y = lies v e b in
-      let n = y.nodes in
-      let o = y.room in
-      let l = length-take (to - item) (drop item s) in
-      let i : w.left - x.left ≡ type_nodes y.type = omega arith in
+      let i : w.left - x.left ≡ type_nodes y.type = omega (arith, y.nodes) in
       record {
         says = λ f t over p. transport (λ (u : Ty). Writes f (rest f next) (type_nodes u) (spell u) w w₁ (Some next)) (type_once y.stands p) (refl, rw (i, y.bytes) at h);
-        room = keeps_put h 0 (omega arith);
+        room = keeps_put h 0 (omega (arith, y.nodes, y.room, length-take (to - item) (drop item s)));
       }
 
 -- ---- What a bound index means
 
-found : {a : Arguments} {b : ℕ} {d x : Option Argument} → FoundSays a b d → d ≡ x → (g : Args) → Given a g → FoundIs a.bytes.now (bound_args g b) x
+pub found : {a : Arguments} {b : ℕ} {d x : Option Argument} → FoundSays a b d → d ≡ x → (g : Args) → Given a g → FoundIs a.bytes.now (bound_args g b) x
 found {a} {b} v e g w = transport (λ (x : Option Argument). FoundIs a.bytes.now (bound_args g b) x) e (v.says g w)
 
 pub unit_writes : (f over : List ℕ) (next : Cursor) {w w₁ : Writer} (t : Ty) → t ≡ UnitTy → rest f next ≡ over → Puts 1 (0 ∷ []) w w₁ → Writes f over (type_nodes t) (spell t) w w₁ (Some next)
 unfolding type_nodes
 unit_writes f over next t e i p = rw e (i, p)
 
-module _ {a : Arguments} {b : ℕ} {next : Cursor} {w w₁ : Writer} {d : Option Argument} (v : FoundSays a b d) where
-  pub bound_type : {item : Cursor} {r : Option Cursor} → d ≡ Some (arguments.Type item) → CopySays a.bytes.now item.at next w w₁ r → BoundSays a b next w w₁ r
-  bound_type e u = record { says = λ f g y. let x = found v e g y in u.says f (head_type (bound_args g b)) x.over x.stands; room = u.room }
+module _ {a : Arguments} {b : ℕ} {next : Cursor} {w w₁ : Writer} where
+  pub bound_type : {d : Option Argument} {item : Cursor} {r : Option Cursor} → FoundSays a b d → d ≡ Some (arguments.Type item) → CopySays a.bytes.now item.at next w w₁ r → BoundSays a b next w w₁ r
+  bound_type v e u = record { says = λ f g y. let x = found v e g y in u.says f (head_type (bound_args g b)) x.over x.stands; room = u.room }
 
-  module _ (p : Puts 1 (0 ∷ []) w w₁) where
-    pub bound_region : {x : Region} {c : Cursor} → d ≡ Some (arguments.Region x c) → BoundSays a b next w w₁ (Some next)
-    bound_region e = record { says = λ f g y. unit_writes f (rest f next) next (head_type (bound_args g b)) (found v e g y).type refl p; room = keeps_put p 0 (omega arith) }
-
-    pub bound_none : d ≡ None → BoundSays a b next w w₁ (Some next)
-    bound_none e = record { says = λ f g y. unit_writes f (rest f next) next (head_type (bound_args g b)) (found v e g y).type refl p; room = keeps_put p 0 (omega arith) }
+  pub bound_unit : ((g : Args) → Given a g → head_type (bound_args g b) ≡ UnitTy) → Puts 1 (0 ∷ []) w w₁ → BoundSays a b next w w₁ (Some next)
+  bound_unit e p = record { says = λ f g y. unit_writes f (rest f next) next (head_type (bound_args g b)) (e g y) refl p; room = keeps_put p 0 (omega arith) }

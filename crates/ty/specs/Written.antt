@@ -1,15 +1,13 @@
 -- What the writing of types says of the bytes.
-use Rattle.std.specs.Prelude.{◌≡◌, List, [], ◌∷◌, ◌++◌, ℕ, ◌+◌, ◌*◌, ◌≤◌, ◌<◌, take, drop, Option, Some, None}
+use Rattle.std.specs.Prelude.{◌≡◌, List, ℕ, ◌≤◌, ◌<◌, drop, Option, Some, None}
 use Rattle.nll_spec.specs.Syntax.{Ty, UnitTy, Args, Free}
 use Rattle.nll_spec.specs.Decode.{max_nodes}
-use Rattle.nll_spec.specs.Types.{head_region, head_type, bound_args, subst_region, subst, subst_args, type_nodes, arg_nodes}
+use Rattle.nll_spec.specs.Types.{head_region, head_type, bound_args, subst_region, subst, type_nodes, arg_nodes}
 use Rattle.repr.specs.Reading.{rest, region_of}
-use Rattle.repr.specs.declared.Cursor.{Cursor}
 use Rattle.repr.specs.declared.Region.{Region}
 use Rattle.repr.specs.declared.Argument.{Argument}
 use Rattle.repr.specs.declared.Argument.TheVariants as arguments
 use Rattle.repr.specs.Stands.{TypeTo, ArgsTo, TypeAt}
-use Rattle.repr.specs.Spelling.{spell, spell_args}
 use Rattle.ty.specs.declared.write.Arguments.{Arguments}
 
 -- ---- The arguments

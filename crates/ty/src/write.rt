@@ -17,7 +17,7 @@ pub struct Arguments<'a> {
 // The nodes that a type has at most.
 const NODES: u8 = 32;
 
-// Bytes that types are written into, where the next byte goes, and how many nodes more there is room for.
+// Bytes that types are written into, where the next byte goes, and how many nodes more there is room for, at 15 bytes each.
 #[derive(Drop)]
 struct Writer<'a> {
     out: &'a mut [u8; 512],
@@ -93,7 +93,7 @@ impl Writer<'_> {
         let out = &mut *self.out;
         put_run(out, at, bytes);
         self.left -= nodes;
-        self.at = at + bytes.len();
+        self.at += bytes.len();
     }
 
     // The type at a place, as it is.
@@ -101,7 +101,8 @@ impl Writer<'_> {
         ensures { CopySays s.now item.at next self.old self.new result }
     {
         let rest = item.nodes(s, self.left).ok()?;
-        self.put(self.left - rest.left, &s[item.at..rest.next.at.min(s.len())]);
+        let bytes = &s[item.at..rest.next.at.min(s.len())];
+        self.put(self.left - rest.left, bytes);
         Some(next)
     }
 

@@ -19,13 +19,13 @@ subst_arguments-returns-in_err-next-in-Type t c = rw c.from_residual-in_err-next
 pub subst_arguments-loop-preserved : goal.subst_arguments-loop-preserved
 subst_arguments-loop-preserved t c = elim c.match-branch-2.branch [
   | subst_arguments-in-Region w ↦ record {
-    fewer = let k = w.put.ensures.took in let f = c.loop.invariant.fewer in rw w.self-is (omega arith);
-    room = let k = w.put.ensures.took in let e = w.put.ensures.ends in let r = c.loop.invariant.room in rw w.self-is (omega arith);
+    fewer = rw w.self-is (omega (arith, w.put.ensures.took, c.loop.invariant.fewer));
+    room = rw w.self-is (omega (arith, w.put.ensures.took, w.put.ensures.ends, c.loop.invariant.room));
     onward = λ new r u. c.loop.invariant.onward new r (laws.arguments_region c.argument.ensures (λ e. omega arith) (got c.ok.ensures.value c.in_ok-region.was ∙ ap Ok w.in-Region.is) w.region.ensures (rw w.spelled.ensures at w.put.ensures) (rw (w.self-is, w.next-is, less c.args.count c.loop.counter) at u));
   }
   | subst_arguments-in-Type+in_ok-next-in-Type w ↦ record {
-    fewer = let s = laws.room_there w.subst_type.ensures.room w.in_ok-next-in-Type.was in let k = w.put-in-Type.ensures.took in let a = s.fewer in let f = c.loop.invariant.fewer in rw w.self-is (omega arith);
-    room = let s = laws.room_there w.subst_type.ensures.room w.in_ok-next-in-Type.was in let k = w.put-in-Type.ensures.took in let e = w.put-in-Type.ensures.ends in let a = s.room in let r = c.loop.invariant.room in rw w.self-is (omega arith);
+    fewer = let s = laws.room_there w.subst_type.ensures.room w.in_ok-next-in-Type.was in rw w.self-is (omega (arith, w.put-in-Type.ensures.took, s.fewer, c.loop.invariant.fewer));
+    room = let s = laws.room_there w.subst_type.ensures.room w.in_ok-next-in-Type.was in rw w.self-is (omega (arith, w.put-in-Type.ensures.took, w.put-in-Type.ensures.ends, s.room, c.loop.invariant.room));
     onward = λ new r u. c.loop.invariant.onward new r (laws.arguments_type c.argument.ensures (λ e. omega arith) (got c.ok.ensures.value c.in_ok-region.was ∙ ap Ok w.in-Type.is) w.put-in-Type.ensures w.subst_type.ensures w.in_ok-next-in-Type.was (rw (w.self-is, w.next-is, less c.args.count c.loop.counter) at u));
   }
 ]

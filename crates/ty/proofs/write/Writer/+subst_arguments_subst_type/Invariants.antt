@@ -1,4 +1,4 @@
-use Rattle.std.proofs.Common.{◌≡◌, ◌+◌, ◌*◌, ◌≤◌, ℕ, ◌-◌}
+use Rattle.std.proofs.Common.{◌+◌, ◌*◌, ◌≤◌, ◌-◌}
 use Rattle.std.specs.Prelude.{Option}
 use Rattle.repr.specs.declared.Cursor.{Cursor}
 use Rattle.ty.specs.declared.write.Writer.{Writer}

@@ -7,7 +7,7 @@ pub returns-in-Some-Type : goal.returns-in-Some-Type
 returns-in-Some-Type c = laws.bound_type c.found.ensures (c.in-Some-Type.is ∙ ap Some c.in-Some-Type.field-0-is) c.put_type.ensures
 
 pub returns-in-Some-Region : goal.returns-in-Some-Region
-returns-in-Some-Region c = laws.bound_region c.found.ensures c.put.ensures (c.in-Some-Region.is ∙ ap Some c.in-Some-Region.field-0-is)
+returns-in-Some-Region c = laws.bound_unit (λ g y. (laws.found c.found.ensures (c.in-Some-Region.is ∙ ap Some c.in-Some-Region.field-0-is) g y).type) c.put.ensures
 
 pub returns-in-None : goal.returns-in-None
-returns-in-None c = laws.bound_none c.found.ensures c.put-in-None.ensures c.in-None.is
+returns-in-None c = laws.bound_unit (λ g y. (laws.found c.found.ensures c.in-None.is g y).type) c.put-in-None.ensures
