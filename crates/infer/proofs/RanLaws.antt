@@ -29,7 +29,6 @@ use Rattle.infer.specs.Ran.{Setting, bit_at, sets_at, sets_of, Words, Met, Ready
 use Rattle.infer.specs.declared.Setup.{Setup}
 use Rattle.bit_set.proofs.MissingLaws.{missing_lt}
 
-
 -- ---- Bits and sets
 
 -- two regions' sets have no bit in common
