@@ -295,7 +295,7 @@ module _ (g : Setup) (ws₀ : List ℕ) where
 
       grown : {bytes : List ℕ} → Tells marks bytes 128 → (r : RegionName) → r < length j.outlives → get_or bytes r 0 ≡ bit (is_grown (graph_of j) (seed_table j (graph_of j)) (least_sets ends j) r)
       unfolding is_grown
-      grown told r l = told.is r (omega (arith, lr, few-regions)) ∙ ap bit (same_bool (has marks r) (any beyond (below (graph_of j).points)) (λ z. some (is_true _ z)) (λ w. true_T _ (mark w)))
+      grown told r l = told.is r (omega (arith, lr, few-regions)) ∙ ap bit (same_bool (has marks r) (any beyond (below (graph_of j).points)) (λ z. some (is_true _ z)) (λ w. T_from_true _ (mark w)))
         where
           lr : r < j.regions
           lr = omega (arith, l, (accepted-job j x.accepted).declared-named)
