@@ -21,7 +21,7 @@ use Rattle.record.specs.Layout.{Holds}
 use Rattle.graph.specs.declared.tables.FuncGraph.{FuncGraph}
 use Rattle.infer.specs.declared.Shape.{Shape}
 use Rattle.loans.specs.Loans.{LoansAt}
-use Rattle.loans.specs.declared.LoanTable.{LoanTable}
+use Rattle.loans.specs.declared.Loan.{Loan}
 use Rattle.loans.proofs.CountLaws.{loans-few}
 use Rattle.loans_in_scope.specs.Scope.{Given, ScopeSays}
 use Rattle.borrowck.specs.Faults.{bytes_to}
@@ -38,21 +38,21 @@ sets_rows : (j : Job) → length (answer every_end j).sets ≡ j.regions
 unfolding answer
 sets_rows j = (sized-sets every_end j).rows
 
-module _ {g : FuncGraph} {ws : List ℕ} {lent : LoanTable} {scope : List ℕ} (bs bs' : List ℕ) {shape : Shape} (e : shape ≡ shape_of g.input.head)
+module _ {g : FuncGraph} {ws : List ℕ} {lent : List Loan} {many : ℕ} {scope : List ℕ} (bs bs' : List ℕ) {shape : Shape} (e : shape ≡ shape_of g.input.head)
     (found : (j : Job) → Holds g.input j → T (named j) → T (paths_fit j) → WalkedIn j g.walked → length (loans_of (graph_of j)) ≤ 128
-    → LoansAt g.input.bytes.now j lent.loans lent.count)
+    → LoansAt g.input.bytes.now j lent many)
     {room : ℕ} (enough : g.input.head.code ≤ 1024 → 4 * g.input.head.code ≤ room)
-    (scoped : 4 * g.input.head.code ≤ room → ScopeSays g ws shape.width lent.loans lent.count scope)
+    (scoped : 4 * g.input.head.code ≤ room → ScopeSays g ws shape.width lent many scope)
     (checked : (length bs' ≡ length bs)
-    × ((j : Job) (u : Table) → Holds g.input j → LoansAt g.input.bytes.now j lent.loans lent.count
-    → ((p : Point) → p < code_count j.blocks → (i : ℕ) → i < lent.count → has scope (128 * p + i) ≡ holds u i p)
+    × ((j : Job) (u : Table) → Holds g.input j → LoansAt g.input.bytes.now j lent many
+    → ((p : Point) → p < code_count j.blocks → (i : ℕ) → i < many → has scope (128 * p + i) ≡ holds u i p)
     → 2 * point_count j ≤ length bs
     → bs' ≡ overwrite (bytes_to (verdict_at j (graph_of j) u (loans_of (graph_of j))) (point_count j)) bs)) where
   module _ (j : Job) (a : JobAt g.input j) (m : Mapped g j) (says : Says (word_count (point_count j)) (answer every_end j).sets ws) where
-    loans-at : LoansAt g.input.bytes.now j lent.loans lent.count
+    loans-at : LoansAt g.input.bytes.now j lent many
     loans-at = let n = names_and_paths j a.accepted in found j a.layout n.0 n.1 m.walks (let x = loans-few j in omega (arith, a.loans))
 
-    given : Given g.input ws shape.width lent.loans lent.count j (answer every_end j).sets
+    given : Given g.input ws shape.width lent many j (answer every_end j).sets
     given =
         let w = ap (λ (x : Shape). x.width) e ∙ width_is a.layout in
         record {
@@ -68,7 +68,7 @@ module _ {g : FuncGraph} {ws : List ℕ} {lent : LoanTable} {scope : List ℕ} (
     scope_table_lem : Table
     scope_table_lem = scope_table j (graph_of j) (answer every_end j).sets (loans_of (graph_of j))
 
-    in_scope : (p : Point) → p < code_count j.blocks → (i : ℕ) → i < lent.count → has scope (128 * p + i) ≡ holds scope_table_lem i p
+    in_scope : (p : Point) → p < code_count j.blocks → (i : ℕ) → i < many → has scope (128 * p + i) ≡ holds scope_table_lem i p
     unfolding scope_table_lem
     in_scope p hp i hi =
         let e : 128 * p + i ≡ word_bits * (4 * p) + i = omega arith in
