@@ -1,5 +1,5 @@
 -- The laws of `Along`, `Stopped` and `Chained`. Assumes nothing.
-use mathlib.Core.Path.{◌≡◌, refl, sym, ap, ◌∙◌, subst}
+use mathlib.Core.Path.{◌≡◌, refl, sym, ap, ◌∙◌}
 use mathlib.Core.Logic.{inl, inr, ⊎_elim}
 use mathlib.Core.Bool.{Bool, true, false, true≢false}
 use mathlib.Core.List.{List}
@@ -8,7 +8,7 @@ use native.Mathlib.Decide.{ℕ_discrete, dec_lt}
 use native.Mathlib.Omega.{arith}
 use lib.ListN.{length, replicate}
 use lib.Dec.{eqb, ltb}
-use borrow.Author.Tests.{lt-ltb, le-ltb, ltb-false}
+use borrow.Author.Tests.{ltb-false}
 use Rattle.nll_spec.specs.Output.{word_bits}
 use Rattle.bit_set.specs.Bits.{has, with_bit}
 use Rattle.bit_set.proofs.BitLaws.{digit, has_out, length_with, has_with, has_with_other, with_out}
@@ -31,14 +31,6 @@ with_sized a m j e l = ap length e ∙ length_with a j ∙ l
 -- the empty set has no number
 pub has-none : (n x : ℕ) → has (replicate n 0) x ≡ false
 has-none n x = ap (λ (w : ℕ). eqb (digit w (x % word_bits)) 1) (no_mark n (x / word_bits)) ∙ has_out (replicate 0 0) x (omega arith)
-
--- a number that is held has a word
-pub held_word : (ws : List ℕ) (from x : ℕ) → has ws (word_bits * from + x) ≡ true → from + x / 32 < length ws
-held_word ws from x e = go (dec_lt (from + x / 32) (length ws))
-  where
-    go : Dec (from + x / 32 < length ws) → from + x / 32 < length ws
-    go (yes l) = l
-    go (no l) = absurd (true≢false (sym e ∙ has_out ws (word_bits * from + x) (omega (arith, l))))
 
 -- what is in a set stays
 pub with_kept : (ws : List ℕ) (j i : ℕ) → has ws i ≡ true → has (with_bit ws j) i ≡ true
@@ -83,31 +75,11 @@ module _ (chain : List ℕ) (h : ℕ → Bool) where
         only = λ x m. ⊎_elim (λ k. ⊎_elim (λ j. inl j) (λ j. inr (j.0, omega (arith, j.1, v.up))) (u.only x k)) (λ k. inr (omega (arith, k.0, u.up), k.1)) (v.only x m);
       }
 
-  -- as the code of `follow` goes: q is put, then the points up to `at`, and after it none
-  pub follow_end : (a m u b : List ℕ) (q at next : ℕ) → m ≡ with_bit a (word_bits * 0 + q) → Along chain h m u q at → Along chain h u b at next × (next ≡ at → Stopped chain h b at) → next ≡ at
-      → Along chain h (with_bit a q) b q at × Stopped chain h b at
-  follow_end a m u b q at next e w v i = (
-    subst (λ (l : List ℕ). Along chain h l b q at) (e ∙ ap (with_bit a) (zero_at q)) (along_trans w (subst (λ (x : ℕ). Along chain h u b at x) i v.0)),
-    v.1 i,
-  )
-
 -- ---- As the code of `advance` goes
 
 module _ (chain ws : List ℕ) (from code : ℕ) (a : List ℕ) (q : ℕ) (sized : length a ≡ 32) (small : code ≤ 1024) (lq : q < 1024) where
   abbrev Advanced : List ℕ → ℕ → Type 0
   Advanced b e = Along chain (in_code ws from code) a b q e × (e ≡ q → Stopped chain (in_code ws from code) b q)
-
-  pub past_code : code ≤ q + 1 → Advanced a q
-  past_code l = stay chain (in_code ws from code) a q sized lq (λ c k. absurd (true≢false (sym k ∙ rw (le-ltb (q + 1) code l))))
-
-  pub no_link : (t : Bool) → t ≡ has chain q → t ≡ false → Advanced a q
-  no_link t e f = stay chain (in_code ws from code) a q sized lq (λ c k. absurd (true≢false (sym c ∙ sym e ∙ f)))
-
-  pub not-held : (t : Bool) → q + 1 < code → t ≡ has ws (word_bits * from + (q + 1)) → t ≡ false → Advanced a q
-  not-held t l e f = stay chain (in_code ws from code) a q sized lq (λ c k. absurd (true≢false (sym k ∙ rw (lt-ltb (q + 1) code l) (sym e ∙ f))))
-
-  pub there_yet : (t : Bool) → t ≡ has a (word_bits * 0 + (q + 1)) → t ≡ true → Advanced a q
-  there_yet t e f = stay chain (in_code ws from code) a q sized lq (λ c k. sym (at_zero a (q + 1)) ∙ sym e ∙ f)
 
 -- ---- Which points are of the chain
 

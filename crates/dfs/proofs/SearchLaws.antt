@@ -235,9 +235,6 @@ module _ {h : ℕ → Bool} {first succ : List ℕ} {q : ℕ} {ss : List ℕ} wh
         is = e ∙ rw (k, w.is, at);
       }
 
-  pub nexted_all : {i : ℕ} {st u : State} → Nexted h first succ q ss i st u → i ≡ length ss → u ≡ row h first succ q st
-  nexted_all {i} {st} {u} w e = let n : i ≡ up_to (row_end first q) - row_start first q = omega (arith, w.count) in w.is ∙ rw n
-
 -- ---- Points of blocks
 
 pub code_out : (ws : List ℕ) (from code s : ℕ) → code ≤ s → in_code ws from code s ≡ false
@@ -253,33 +250,10 @@ code_below ws from code s e = go (ltb s code) refl
 pub code-small : (ws : List ℕ) (from code : ℕ) → code ≤ 1024 → (s : ℕ) → in_code ws from code s ≡ true → s < 1024
 code-small ws from code l s e = omega (arith, code_below ws from code s e)
 
--- a visit of s, as the code goes: `at` is s, and b says whether the set holds it
-module _ (ws : List ℕ) (from code s at : ℕ) (e : at ≡ s) (st : State) where
-  pub visit_far : code ≤ at → st ≡ visited (in_code ws from code) s st
-  visit_far l = visited_out (in_code ws from code) s st (code_out ws from code s (rw e at l))
-
-  pub visit_seen : Marked st.seen at → st ≡ visited (in_code ws from code) s st
-  visit_seen m = visited-seen (in_code ws from code) s st (rw e at m)
-
-  pub visit_out : (b : Bool) → at < code → b ≡ has ws (word_bits * from + at) → b ≡ false → st ≡ visited (in_code ws from code) s st
-  visit_out b l q f = visited_out (in_code ws from code) s st (rw (lt-ltb s code (rw e at l), ← e, ← q) f)
-
-  pub visit_new : (b : Bool) → at < code → get_or st.seen at 0 ≡ 0 → b ≡ has ws (word_bits * from + at) → b ≡ true
-      → pushed s st ≡ visited (in_code ws from code) s st
-  visit_new b l m q f = visited-new (in_code ws from code) s st (rw e at m) (rw (lt-ltb s code (rw e at l), ← e, ← q) f)
-
 -- a point that is reached is one that h holds
 pub reach_held : {E : ℕ → ℕ → Type 0} {h : ℕ → Bool} {p x : ℕ} → Reach E h p x → h x ≡ true
 reach_held (here e) = e
 reach_held (step r e k) = k
-
--- the points after q are visited, where q is not of the chain
-pub left-linked : (chain : List ℕ) (h : ℕ → Bool) (first succ : List ℕ) (q : ℕ) (st : State) (t : Bool) → t ≡ has chain q → t ≡ true → st ≡ left chain h first succ q st
-left-linked chain h first succ q st t e y = rw (sym e ∙ y)
-
-pub left-row : (chain : List ℕ) (h : ℕ → Bool) (first succ : List ℕ) (q : ℕ) (st st' : State) (t : Bool) → t ≡ has chain q → t ≡ false → st' ≡ row h first succ q st
-    → st' ≡ left chain h first succ q st
-left-row chain h first succ q st st' t e n r = rw (sym e ∙ n) r
 
 -- ---- The whole search
 

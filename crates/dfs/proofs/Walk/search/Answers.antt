@@ -1,17 +1,10 @@
 -- `dfs::Walk::search`. The loop's invariant: `Going`. The measure is `work`. Assumes nothing.
 use mathlib.Core.Path.{ap, ◌∙◌}
-use native.Mathlib.Omega.{arith}
-use Rattle.graph.specs.Search.{State, pushed}
+use Rattle.graph.specs.Search.{pushed}
 use Rattle.graph.specs.Search.{state_of}
 use Rattle.dfs.specs.Walk.{in_code}
-use Rattle.dfs.proofs.SearchLaws.{going_start, popped_small, popped_roomy, turn_popped, finish, code-small}
+use Rattle.dfs.proofs.SearchLaws.{going_start, popped_small, turn_popped, finish, code-small}
 use Rattle.dfs.proofs.Walk.search.Goals as goal
-
-pub push-requires : goal.push-requires
-push-requires c = let w = c.args.self.now in
-    let p = code-small w.words.now w.from w.code c.requires.0 c.args.p c.requires.1 in
-    let z = ap (λ (st : State). st.depth) c.new-search.ensures in
-    (omega arith, omega arith)
 
 pub loop-q-init : goal.loop-q-init
 loop-q-init c = let w = c.args.self.now in
@@ -20,13 +13,6 @@ loop-q-init c = let w = c.args.self.now in
 pub follow-end-requires : goal.follow-end-requires
 follow-end-requires c = let w = c.args.self.now in
     (c.requires.0, popped_small w.chain.now w.graph.now.first w.graph.now.succ (in_code w.words.now w.from w.code) c.args.p (code-small w.words.now w.from w.code c.requires.0) c.loop-q.invariant c.in-Some.ensures)
-
-pub is_leaf-exit-requires : goal.is_leaf-exit-requires
-is_leaf-exit-requires c = c.follow-end.ensures.0.below
-
-pub leave-requires : goal.leave-requires
-leave-requires c = let w = c.args.self.now in
-    (c.requires.0, c.follow-end.ensures.0.below, popped_roomy w.chain.now w.graph.now.first w.graph.now.succ (in_code w.words.now w.from w.code) c.args.p (code-small w.words.now w.from w.code c.requires.0) c.loop-q.invariant c.in-Some.ensures)
 
 -- a turn of the loop is a turn of the search
 pub loop-q-smaller : goal.loop-q-smaller
