@@ -78,6 +78,9 @@ pub fn verdict(input: &Record<'_>, loans: &LoanTable, scope: &[u32], p: usize) -
     if 1024 <= p {
         return None;
     }
+    if 128 < loans.count {
+        return None;
+    }
     let here = InScope { loans, scope, p };
     if !here.any() {
         return None;

@@ -10,6 +10,7 @@ pub struct InScope<'a> {
     pub scope: &'a [u32],
     pub p: usize,
     ghost low: { p < 1024 },
+    ghost most: { loans.now.count ≤ 128 },
 }
 
 // Some of them, the first `count` of the array; the next part begins at loan `next`.

@@ -34,8 +34,7 @@ use Rattle.env.specs.Prefixes.{ShortestOf}
 use Rattle.env.specs.declared.Shortest.{Shortest}
 use Rattle.loans.specs.declared.LoanTable.{LoanTable}
 use Rattle.graph.specs.Search.{WalkedIn}
-use Rattle.loans.specs.Loans.{loans_below, Listed, LoansAt}
-use Rattle.loans.specs.Lends.{Given, Lends}
+use Rattle.loans.specs.Loans.{loans_below, Listed, LoansAt, Given, Lends}
 use Rattle.loans.proofs.ListLaws.{below_unwalked, below-walked, below_more, listed_more}
 use Rattle.loans.proofs.ActionLaws.{source-named, source_fits, source-short}
 use Rattle.repr.specs.declared.refusal.Refusal.{Refusal}
@@ -65,13 +64,13 @@ other_kind (syntax.Use q) h p = refl
 other_kind (syntax.Drop q) h p = refl
 other_kind (syntax.StorageDead v) h p = refl
 
-module _ {graph : FuncGraph} {p : ℕ} (lent : LoanTable) (size : length lent.loans ≡ 128) (point : p < 1024) {b : Bool} (tests : b ≡ has graph.walked (word_bits * 0 + p)) where
+module _ {graph : FuncGraph} {p : ℕ} (lent : LoanTable) (size : length lent.loans ≡ 128) (few : lent.count ≤ 128) (point : p < 1024) {b : Bool} (tests : b ≡ has graph.walked (word_bits * 0 + p)) where
   walks : (j : Job) → Given graph j → is_walked (graph_of j) p ≡ b
   walks j g = let e : word_bits * 0 + p ≡ p = omega arith in sym (tests ∙ ap (has graph.walked) e ∙ g.walks p point)
 
   -- the point lends nothing
   pub lends_nothing : ((j : Job) → Given graph j → p < code_count j.blocks → loans_below (graph_of j) (p + 1) ≡ loans_below (graph_of j) p) → Lends graph p lent lent
-  lends_nothing f = record { size = size; more = λ j g l w. subst (λ (xs : List spec.Loan). Listed graph.input.bytes.now j xs lent.loans lent.count) (sym (f j g l)) w }
+  lends_nothing f = record { size = size; few = few; more = λ j g l w. subst (λ (xs : List spec.Loan). Listed graph.input.bytes.now j xs lent.loans lent.count) (sym (f j g l)) w }
 
   pub lends_unwalked : b ≡ false → Lends graph p lent lent
   lends_unwalked e = lends_nothing λ j g l. below_unwalked (graph_of j) p (walks j g ∙ e)
@@ -104,13 +103,14 @@ module _ {graph : FuncGraph} {p : ℕ} (lent : LoanTable) (size : length lent.lo
             omega (arith, x, y, g.few)
 
         pub lends_full : lent.count ≡ 128 → Lends graph p lent lent
-        lends_full f = record { size = size; more = λ j g l w. absurd (omega (arith, room j g l, w.count)) }
+        lends_full f = record { size = size; few = few; more = λ j g l w. absurd (omega (arith, room j g l, w.count)) }
 
-        pub lends-more : {x : Shortest} {room : lent.count + 1 ≤ 128} → ((j : Job) → Holds graph.input j → source.base.0 < length j.variables → path_fits j (path_of graph.input.bytes.now source) ≡ true → length (path_of graph.input.bytes.now source).steps ≤ 8 → ShortestOf j (path_of graph.input.bytes.now source) x)
-            → Lends graph p lent (record { loans = set lent.loans lent.count (record { point = p; region = region; kind = kind; path = source; shortest = x }); count = lent.count + 1; room = room })
-        lends-more {x} {room} f =
+        pub lends-more : {x : Shortest} → ((j : Job) → Holds graph.input j → source.base.0 < length j.variables → path_fits j (path_of graph.input.bytes.now source) ≡ true → length (path_of graph.input.bytes.now source).steps ≤ 8 → ShortestOf j (path_of graph.input.bytes.now source) x)
+            → (lent.count ≡ 128 → ⊥) → Lends graph p lent (record { loans = set lent.loans lent.count (record { point = p; region = region; kind = kind; path = source; shortest = x }); count = lent.count + 1 })
+        lends-more {x} f z =
             record {
               size = length-set lent.loans lent.count _ ∙ size;
+              few = omega arith;
               more = λ j g l w.
                   let q = borrows j g l in
                   let v = source-short g.layout p q in
@@ -122,6 +122,7 @@ module _ {graph : FuncGraph} {p : ℕ} (lent : LoanTable) (size : length lent.lo
 -- What the loop keeps.
 pub record Lending (graph : FuncGraph) (p : ℕ) (lent : LoanTable) : Type 0 where
   pub size : length lent.loans ≡ 128
+  pub few : lent.count ≤ 128
   pub are : (j : Job) → Given graph j → p ≤ code_count j.blocks → Listed graph.input.bytes.now j (loans_below (graph_of j) p) lent.loans lent.count
 
 pub lending-all : {graph : FuncGraph} {p code : ℕ} {lent : LoanTable} → Lending graph p lent → p ≤ code → code ≤ p → (graph.input.head.code ≤ 1024 → code ≡ graph.input.head.code) → (j : Job) → Holds graph.input j → T (named j) → T (paths_fit j)
@@ -131,4 +132,4 @@ lending-all {graph} {p = p} {lent = lent} w a b c j l named paths walks few =
     let i = code-count j in
     let e : p ≡ (graph_of j).code = omega (arith, c (omega (arith, l.code, l.few)), l.code) in
     let v = subst (λ (q : ℕ). Listed graph.input.bytes.now j (loans_below (graph_of j) q) lent.loans lent.count) e (w.are j (record { layout = l; names = named; paths = paths; walks = walks; few = few }) (omega (arith, i))) in
-    record { count = v.count; few = lent.room; same = v.same; shortest = v.shortest }
+    record { count = v.count; few = w.few; same = v.same; shortest = v.shortest }

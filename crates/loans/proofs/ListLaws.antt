@@ -2,7 +2,7 @@
 use mathlib.Core.Path.{◌≡◌, refl, sym, ap, ◌∙◌}
 use mathlib.Core.Bool.{Bool, true, false, cond}
 use mathlib.Core.List.{List, [], ◌∷◌, ◌++◌, append_assoc, append-nil}
-use Prim.Native.Nat.{ℕ, zero, suc, ◌+◌, ◌-◌, ◌≤◌, ◌<◌}
+use Prim.Native.Nat.{ℕ, zero, suc, ◌+◌, ◌-◌, ◌≤◌, ◌<◌, min}
 use native.Mathlib.Omega.{arith}
 use native.Mathlib.Nat.{add-zero}
 use native.Mathlib.Decide.{dec_lt}
@@ -89,5 +89,5 @@ listed_more {s} {j} {xs} {t} {n} {y} w x l e z =
 
 -- ---- The loans that a table gives
 
-pub lent_at : (table : LoanTable) {lent : List Loan} → (lent ≡ take table.count table.loans) × (length lent ≡ table.count) → (i : ℕ) → i < length lent → nth_loan lent i ≡ nth_loan table.loans i
+pub lent_at : (table : LoanTable) {lent : List Loan} → (lent ≡ take table.count table.loans) × (length lent ≡ min table.count 128) → (i : ℕ) → i < length lent → nth_loan lent i ≡ nth_loan table.loans i
 lent_at table e i l = ap (λ xs. nth_loan xs i) e.0 ∙ get_or-take table.count table.loans i no_loan (omega (arith, e.1))

@@ -1,3 +1,2 @@
 -- The loans of a job.
 pub mod Loans
-pub mod Lends

@@ -1,13 +1,13 @@
 #![tactic(auto)]
 // The loans of a job, the borrows of its walked blocks in record order, in a lent table.
-ghost use Rattle.std.specs.Prelude.{◌≡◌, ◌<◌, ◌≤◌, length, take, T};
+ghost use Rattle.std.specs.Prelude.{◌≡◌, ◌<◌, ◌≤◌, min, length, take, T};
 ghost use Rattle.nll_spec.specs.Syntax.{Job};
 ghost use Rattle.nll_spec.specs.WellFormed.{named, paths_fit};
 ghost use Rattle.nll_spec.specs.Graph.{graph_of};
 ghost use Rattle.nll_spec.specs.Loans.{loans_of};
 ghost use Rattle.record.specs.Layout.{Holds};
 ghost use Rattle.graph.specs.Search.{WalkedIn};
-ghost use Rattle.loans.specs.Loans.{LoansAt};
+ghost use Rattle.loans.specs.Loans.{LoansAt, Lends};
 
 use env::Shortest;
 use env::prefixes::shortest_of;
@@ -30,12 +30,9 @@ pub struct Loan {
 pub struct LoanTable {
     pub loans: [Loan; 128],
     pub count: usize,
-    ghost room: { count ≤ 128 },
 }
 
 impl LoanTable {
-    ghost use Rattle.loans.specs.Lends.{Lends};
-
     // No loans.
     pub fn none() -> LoanTable
         ensures { result.count ≡ 0 }
@@ -64,47 +61,47 @@ impl LoanTable {
 
     // The loans that there are.
     pub fn lent(&self) -> &[Loan]
-        ensures { (result.now ≡ take self.now.count self.now.loans) × (length result.now ≡ self.now.count) }
+        ensures { (result.now ≡ take self.now.count self.now.loans) × (length result.now ≡ min self.now.count 128) }
     {
-        &self.loans[..self.count]
+        &self.loans[..self.count.min(128)]
     }
+}
 
-    // Puts the loan of point p into the table, if it is a borrow that is walked, after those that are there.
-    fn lend(&mut self, graph: &FuncGraph<'_>, p: usize)
-        requires { p < 1024 }
-        ensures { Lends graph.now p self.old self.new }
-    {
-        if !bit_set::test(&graph.walked, 0, p) {
-            return;
-        }
-        if graph.input.kind_at(p) != ActionKind::Borrow {
-            return;
-        }
-        let Ok((a, _)) = graph.input.action_at(p) else {
-            return;
-        };
-        let Action::Borrow {
-            dest: _,
-            region,
-            kind,
-            source,
-        } = a
-        else {
-            return;
-        };
-        let n = self.count;
-        if n == 128 {
-            return;
-        }
-        self.loans[n] = Loan {
-            point: p,
-            region,
-            kind,
-            path: source,
-            shortest: shortest_of(&graph.input, source),
-        };
-        self.count = n + 1;
+// Puts the loan of point p into the table, if it is a borrow that is walked, after those that are there.
+fn lend(graph: &FuncGraph<'_>, p: usize, lent: &mut LoanTable)
+    requires { (p < 1024) × (lent.old.count ≤ 128) }
+    ensures { Lends graph.now p lent.old lent.new }
+{
+    if !bit_set::test(&graph.walked, 0, p) {
+        return;
     }
+    if graph.input.kind_at(p) != ActionKind::Borrow {
+        return;
+    }
+    let Ok((a, _)) = graph.input.action_at(p) else {
+        return;
+    };
+    let Action::Borrow {
+        dest: _,
+        region,
+        kind,
+        source,
+    } = a
+    else {
+        return;
+    };
+    let n = lent.count;
+    if n == 128 {
+        return;
+    }
+    lent.loans[n] = Loan {
+        point: p,
+        region,
+        kind,
+        path: source,
+        shortest: shortest_of(&graph.input, source),
+    };
+    lent.count = n + 1;
 }
 
 // Puts the loans of a job into the table.
@@ -114,6 +111,6 @@ pub fn loans(graph: &FuncGraph<'_>, lent: &mut LoanTable)
     lent.count = 0;
     let code = usize::from(graph.input.head.code).min(1024);
     for p in 0..code {
-        lent.lend(graph, p);
+        lend(graph, p, lent);
     }
 }

@@ -85,4 +85,4 @@ module _ {v : Setup} {start₀ pass₀ region₀ start pass region : List ℕ} (
           → keeps j v region (overwritten (action_at (graph_of j) q)) q i ≡ (job_bits j sets q i).pass
       passing {j} {sets} g q i l m n =
           ap₂ (λ (x : Bool) (y : loans.Loan). x && not (killed j (overwritten (action_at (graph_of j) q)) y))
-          (filled-has {f = λ p k. inside_of v.words.now v.width (loan_in v k).region p} empty.region b q i l m (omega (arith, m, v.loans.now.room)) ∙ inside_is v g i q m n) (g.loans.same i m)
+          (filled-has {f = λ p k. inside_of v.words.now v.width (loan_in v k).region p} empty.region b q i l m (omega (arith, m, v.most)) ∙ inside_is v g i q m n) (g.loans.same i m)

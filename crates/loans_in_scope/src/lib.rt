@@ -28,6 +28,7 @@ struct Setup<'a> {
     code: usize,
     ghost narrow: { width ≤ 32 },
     ghost few: { code ≤ 1024 },
+    ghost most: { loans.now.count ≤ 128 },
     ghost whole: { code ≡ graph.now.input.head.code },
 }
 
@@ -269,7 +270,7 @@ pub fn loans_in_scope(
         → ScopeSays graph.now words.now width loans.now.loans loans.now.count scope.new }
 {
     let code = usize::from(graph.input.head.code);
-    if code > 1024 || width > 32 {
+    if code > 1024 || width > 32 || loans.count > 128 {
         return;
     }
     if loans.count == 0 || scope.len() < 4 * code {

@@ -21,5 +21,5 @@ loop-i-preserved c = let a = c.args in
 
 pub returns : goal.returns
 returns c = let l = c.loop-i in
-    let e : l.i ≡ c.args.self.now.loans.now.count = omega (arith, c.lent-loan-items.ensures.1) in
+    let e : l.i ≡ c.args.self.now.loans.now.count = omega (arith, c.lent-loan-items.ensures.1, c.args.self.now.most) in
     rw e at l.invariant.1
