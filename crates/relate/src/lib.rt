@@ -155,26 +155,24 @@ impl<'a> Relation<'a> {
         ensures { ArgumentsRelate self.now two.params two.a two.b two.left (variance_of v)
             list.old list.new result }
     {
-        let g = two.a;
-        let h = two.b;
-        if g.count == 0 {
-            let rest = h.from.arguments(self.b, h.count, 32).ok()?;
-            return Some(Both {
-                left: two.left,
-                a: g.from,
-                b: rest.next,
-            });
+        let mut rest = two;
+        for _ in 0..two.a.count {
+            let own = first_parameter(self.input.bytes, rest.params);
+            let w = within(v, own.variance);
+            let one = self.relate_first(rest, w, list)?;
+            rest = Rows {
+                params: own.others,
+                a: after(rest.a, one.a),
+                b: after(rest.b, one.b),
+                left: one.left,
+            };
         }
-        let own = first_parameter(self.input.bytes, two.params);
-        let w = within(v, own.variance);
-        let one = self.relate_first(two, w, list)?;
-        let to = Rows {
-            params: own.others,
-            a: after(g, one.a),
-            b: after(h, one.b),
-            left: one.left,
-        };
-        self.relate_arguments(to, v, list)
+        let end = rest.b.from.arguments(self.b, rest.b.count, 32).ok()?;
+        Some(Both {
+            left: rest.left,
+            a: rest.a.from,
+            b: end.next,
+        })
     }
 
     // Relates the type at x of a with the type at y of b, which has its shape.

@@ -2,20 +2,32 @@
 use Rattle.relate.proofs.RelateLaws as laws
 use Rattle.repr.proofs.ReadLaws.{ok_some, ok_none}
 use Rattle.std.specs.Prelude.{Some}
-use mathlib.Core.Path.{ap, ◌∙◌}
+use mathlib.Core.Path.{sym, ap, ◌∙◌}
+use native.Mathlib.Omega.{arith}
+use native.Mathlib.Nat.{le_refl, sub-zero}
 use Rattle.relate.proofs.Relation.+relate_arguments_relate_first_relate_types.Goals as goal
 
-pub relate_arguments-returns-in_err-rest : goal.relate_arguments-returns-in_err-rest
-relate_arguments-returns-in_err-rest t c = rw c.from_residual.ensures (laws.arguments_short c.arguments.ensures c.if-g-eq0.true (ok_none c.ok.ensures.value c.in_err-rest.was).1)
+pub relate_arguments-loop-init : goal.relate_arguments-loop-init
+relate_arguments-loop-init t c = record { count = sym (sub-zero _); fewer = le_refl _; onward = λ ls r u. u }
 
-pub relate_arguments-returns-then-g-eq0 : goal.relate_arguments-returns-then-g-eq0
-relate_arguments-returns-then-g-eq0 t c = laws.arguments_none c.arguments.ensures c.if-g-eq0.true (ok_some c.ok.ensures.value c.in_ok-rest.was)
+pub relate_arguments-relate_first-requires : goal.relate_arguments-relate_first-requires
+relate_arguments-relate_first-requires t c = let k = c.loop.invariant.count in let f = c.loop.invariant.fewer in (omega arith, λ z. omega arith)
 
 pub relate_arguments-returns-in_err-one : goal.relate_arguments-returns-in_err-one
-relate_arguments-returns-in_err-one t c = rw c.from_residual-in_err-one.ensures (laws.arguments_stopped c.first_parameter-own.ensures c.within-w.ensures c.relate_first.ensures c.in_err-one.was)
+relate_arguments-returns-in_err-one t c = rw c.from_residual.ensures (c.loop.invariant.onward _ _ (laws.arguments_stopped c.first_parameter-own.ensures c.within-w.ensures c.relate_first.ensures c.in_err-one.was))
+
+pub relate_arguments-loop-preserved : goal.relate_arguments-loop-preserved
+relate_arguments-loop-preserved t c = record {
+  count = let k = c.loop.invariant.count in let m = c.after.ensures.1 in omega arith;
+  fewer = let k = laws.rest-fewer _ c.relate_first.ensures.fewer c.in_ok-one.was in let f = c.loop.invariant.fewer in omega arith;
+  onward = λ ls r u. c.loop.invariant.onward ls r (laws.arguments_more c.first_parameter-own.ensures c.within-w.ensures c.relate_first.ensures c.in_ok-one.was c.after.ensures c.after-in-loop.ensures u);
+}
+
+pub relate_arguments-returns-in_err-end : goal.relate_arguments-returns-in_err-end
+relate_arguments-returns-in_err-end t c = let k = c.loop.invariant.count in rw c.from_residual-in_err-end.ensures (c.loop.invariant.onward _ _ (laws.arguments_short c.arguments.ensures (omega arith) (ok_none c.ok.ensures.value c.in_err-end.was).1))
 
 pub relate_arguments-returns : goal.relate_arguments-returns
-relate_arguments-returns t c = laws.arguments_more c.first_parameter-own.ensures c.within-w.ensures c.relate_first.ensures c.in_ok-one.was c.after.ensures c.after-2.ensures c.relate_arguments.ensures
+relate_arguments-returns t c = let k = c.loop.invariant.count in c.loop.invariant.onward _ _ (laws.arguments_none c.arguments.ensures (omega arith) (ok_some c.ok.ensures.value c.in_ok-end.was))
 
 pub relate_first-returns-in_err-r : goal.relate_first-returns-in_err-r
 relate_first-returns-in_err-r t c = rw c.from_residual.ensures (laws.first-differ c.requires c.first_pair.ensures c.in_err-r.was)
