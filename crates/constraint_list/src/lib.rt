@@ -18,10 +18,11 @@ impl From<u32> for Constraint {
     ghost from_gives = { λ n c. outlives_of c ≡ outlives_from n };
 
     fn from(n: u32) -> Constraint {
+        let [sup, sub, high, low] = n.to_be_bytes();
         Constraint {
-            sup: (n >> 24) as u8,
-            sub: ((n >> 16) % 256) as u8,
-            point: (n % 65536) as u16,
+            sup,
+            sub,
+            point: u16::from_be_bytes([high, low]),
         }
     }
 }
@@ -30,7 +31,8 @@ impl From<Constraint> for u32 {
     ghost from_gives = { λ c n. outlives_from n ≡ outlives_of c };
 
     fn from(c: Constraint) -> u32 {
-        (u32::from(c.sup) * 256 + u32::from(c.sub)) * 65536 + u32::from(c.point)
+        let [high, low] = c.point.to_be_bytes();
+        u32::from_be_bytes([c.sup, c.sub, high, low])
     }
 }
 

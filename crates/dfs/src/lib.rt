@@ -131,7 +131,7 @@ impl Walk<'_> {
         if self.code <= at {
             return;
         }
-        if search.seen[at] != 0 {
+        if search.seen[at] {
             return;
         }
         if !bit_set::test(self.words, self.from, at) {

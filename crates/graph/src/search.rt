@@ -4,23 +4,23 @@ ghost use Rattle.std.specs.Prelude.{◌≤◌};
 // The marks of the numbers below N that were seen, and a stack of those that are still to be left.
 #[derive(Drop)]
 pub struct Search<const N: usize> {
-    pub seen: [u8; N],
+    pub seen: [bool; N],
     pub stack: [u16; N],
     pub depth: usize,
     ghost room: { depth ≤ N },
 }
 
 impl<const N: usize> Search<N> {
-    ghost use Rattle.std.specs.Prelude.{◌≡◌, ◌<◌, replicate};
+    ghost use Rattle.std.specs.Prelude.{◌≡◌, ◌<◌, false, replicate};
     ghost use Rattle.graph.specs.Search.{state, state_of, pushed, Popped};
 
     // Nothing is seen.
     pub fn new() -> Search<N>
         requires { N ≤ 1024 }
-        ensures { state_of result ≡ state (replicate N 0) (replicate N 0) 0 }
+        ensures { state_of result ≡ state (replicate N false) (replicate N 0) 0 }
     {
         Search {
-            seen: [0; N],
+            seen: [false; N],
             stack: [0; N],
             depth: 0,
         }
@@ -31,7 +31,7 @@ impl<const N: usize> Search<N> {
         requires { (s < N) × (self.old.depth < N) }
         ensures { state_of self.new ≡ pushed s (state_of self.old) }
     {
-        self.seen[usize::from(s)] = 1;
+        self.seen[usize::from(s)] = true;
         self.stack[self.depth] = s;
         self.depth += 1;
     }

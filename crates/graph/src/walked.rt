@@ -22,7 +22,7 @@ fn visit(search: &mut Search<64>, b: u8)
     if 64 <= at {
         return;
     }
-    if search.seen[at] != 0 {
+    if search.seen[at] {
         return;
     }
     search.push(u16::from(b));
@@ -39,7 +39,7 @@ fn visit_next(search: &mut Search<64>, s: &[u8], d: Shape)
 }
 
 // The walked blocks, as marks, of a job that starts at this block.
-pub fn blocks(input: &Record<'_>, start: BasicBlockIndex) -> [u8; 64]
+pub fn blocks(input: &Record<'_>, start: BasicBlockIndex) -> [bool; 64]
     ensures { WalkedBlocks input.now.bytes.now input.now.layout.now start.0 result }
 {
     let mut search = Search::<64>::new();
@@ -64,7 +64,7 @@ fn run(words: &mut [u32; 32], p: usize, n: usize)
 // Puts the points of block b, the first of which is p, into the set if the block is marked. Returns the next block's first point.
 fn block_points(
     input: &Record<'_>,
-    seen: &[u8; 64],
+    seen: &[bool; 64],
     b: u8,
     p: usize,
     words: &mut [u32; 32],
@@ -82,7 +82,7 @@ fn block_points(
         return p;
     }
     let at = usize::from(b);
-    if seen[at] == 0 {
+    if !seen[at] {
         return next;
     }
     run(words, p, n);

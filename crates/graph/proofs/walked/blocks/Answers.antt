@@ -3,7 +3,6 @@ use mathlib.Core.Path.{ap, ◌∙◌}
 use Rattle.graph.specs.Search.{visited}
 use Rattle.graph.proofs.SearchLaws.{roomy_none}
 use Rattle.graph.proofs.WalkLaws.{turned_none, turned_more, turned_less, turned_all, popped_roomy, popped_visits, popped_says}
-use native.Mathlib.Omega.{arith}
 use Rattle.graph.proofs.walked.blocks.Goals as goal
 
 pub visit-requires : goal.visit-requires
