@@ -2,12 +2,15 @@
 use mathlib.Core.Path.{◌≡◌, refl, sym, ap, ◌∙◌}
 use mathlib.Core.Logic.{inl, inr}
 use mathlib.Core.Bool.{Bool, true, false, not, ◌&&◌, ◌||◌, true≢false}
-use mathlib.Core.List.{List}
+use mathlib.Core.List.{List, [], ◌∷◌, ◌++◌}
 use Prim.Native.Nat.{ℕ, zero, suc, ◌+◌, ◌-◌, ◌*◌, ◌≤◌, ◌<◌}
 use native.Mathlib.Decide.{ℕ_discrete}
 use native.Mathlib.Omega.{arith}
-use lib.ListN.{length}
-use lib.Dec.{ltb}
+use lib.ListN.{length, get_or, take, drop, length-take}
+use lib.Seq.{get_or-take, get_or-drop}
+use lib.Dec.{eqb, ltb}
+use Rattle.std.specs.Int.Bits.{bit_or}
+use Rattle.std.proofs.lemmas.List.{length-append}
 use Rattle.nll_spec.specs.Regions.{EndRule, every_end, held_ends, passes_end}
 use Rattle.nll_spec.specs.Output.{word_bits}
 use Rattle.bit_set.specs.Bits.{has, or_grows, both_fit}
@@ -19,12 +22,20 @@ use Rattle.dfs.proofs.SearchLaws.{reach_held, code_below}
 
 -- ---- Words
 
--- what holds after k turns
-pub record Comparing (ws : List ℕ) (from to n : ℕ) (lacks : Bool) (k : ℕ) : Type 0 where
-  pub turns : k ≤ n
-  pub into : to + n ≤ length ws
-  pub inner : from + n ≤ length ws
-  pub flag : lacks ≡ or_grows ws to ws from k
+-- what `&words[start..end]` lends
+abbrev pub run : List ℕ → ℕ → ℕ → List ℕ
+run ws start end = take (end - start) (drop start ws)
+
+-- one turn more: w and v are the next words of the two runs
+pub compare_more : {A : Type 0} (ws : List ℕ) (from to n w v : ℕ) (lacks : Bool) (xs : List A) (x : A) → lacks ≡ or_grows ws to ws from (length xs) → length xs < length (run ws from (from + n))
+    → length xs < length (run ws to (to + n)) → w ≡ get_or (run ws from (from + n)) (length xs) 0 → v ≡ get_or (run ws to (to + n)) (length xs) 0
+    → (lacks || not (eqb v (bit_or v w))) ≡ or_grows ws to ws from (length (xs ++ x ∷ []))
+compare_more ws from to n w v lacks xs x e lw lv ew ev =
+    let k = length xs in
+    let a : w ≡ get_or ws (from + k) 0 = ew ∙ get_or-take (from + n - from) (drop from ws) k 0 (omega (arith, lw, length-take (from + n - from) (drop from ws))) ∙ get_or-drop from ws k 0 in
+    let b : v ≡ get_or ws (to + k) 0 = ev ∙ get_or-take (to + n - to) (drop to ws) k 0 (omega (arith, lv, length-take (to + n - to) (drop to ws))) ∙ get_or-drop to ws k 0 in
+    let m : length (xs ++ x ∷ []) ≡ suc k = omega (arith, length-append xs (x ∷ [])) in
+    rw (a, b, e, m) refl
 
 module _ (ws : List ℕ) (from to n : ℕ) where
   -- each number of the run from `from` is in the run from `to`

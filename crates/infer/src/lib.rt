@@ -77,9 +77,8 @@ fn is_subset(words: &[u32], from: usize, to: usize, n: usize) -> bool
         return false;
     }
     let mut lacks = false;
-    for k in 0..n {
-        let w = words[to + k];
-        lacks = lacks | (w != (w | words[from + k]));
+    for (inner, outer) in words[from..from + n].iter().zip(&words[to..to + n]) {
+        lacks = lacks | (*outer != (*outer | *inner));
     }
     !lacks
 }
