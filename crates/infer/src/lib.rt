@@ -136,11 +136,7 @@ impl Setup<'_> {
         if !passes_end(self.rule, false) {
             return true;
         }
-        let mut held = true;
-        for end in self.shape.code..self.shape.points {
-            held = held & bit_set::test(words, to, end);
-        }
-        held
+        (self.shape.code..self.shape.points).all(|end| bit_set::test(words, to, end))
     }
 
     // Whether the words show that no constraint with these sets puts a point into the set from word to, where the inner set starts at word from.
