@@ -61,8 +61,8 @@ fn settle(
 pub fn keep(words: &[u32], before: &mut [u32])
     ensures { Keeps words.now before.old before.new (length before.old) }
 {
-    for i in 0..before.len() {
-        before[i] = bit_slice::word_at(words, i);
+    for (i, word) in before.iter_mut().enumerate() {
+        *word = bit_slice::word_at(words, i);
     }
 }
 
