@@ -2,7 +2,7 @@
 // "S outlives T at p": the points that a walk from p through T reaches are put into S, and, where it comes to a point without successors, so are the
 // declared ends that the end rule passes on.
 // Region r's set starts at word r * width.
-ghost use Rattle.std.specs.Prelude.{◌≡◌, true, [], ◌∷◌, ◌+◌, ◌-◌, ◌/◌, ◌<◌, ◌≤◌, length};
+ghost use Rattle.std.specs.Prelude.{◌≡◌, true, [], ◌∷◌, ◌+◌, ◌/◌, ◌<◌, ◌≤◌, length};
 ghost use Rattle.nll_spec.specs.Regions.{passes_end};
 ghost use Rattle.nll_spec.specs.Output.{word_bits};
 ghost use Rattle.bit_set.specs.Bits.{both_fit};
