@@ -1,5 +1,4 @@
 // Which access of an action conflicts with a loan in scope.
-ghost use Rattle.std.specs.Prelude.{◌≡◌};
 ghost use Rattle.borrowck.specs.Faults.{Checked};
 
 use super::accesses::Accesses;

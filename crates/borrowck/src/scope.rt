@@ -1,5 +1,5 @@
 // The loans in scope at a point, in parts.
-ghost use Rattle.std.specs.Prelude.{◌≡◌, ◌≤◌, ◌<◌};
+ghost use Rattle.std.specs.Prelude.{◌≤◌, ◌<◌};
 
 use loans::{Loan, LoanTable};
 

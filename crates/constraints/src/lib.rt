@@ -1,6 +1,6 @@
 #![tactic(auto)]
 // The constraints of an action.
-ghost use Rattle.std.specs.Prelude.{◌≡◌, List, ℕ, ◌≤◌};
+ghost use Rattle.std.specs.Prelude.{List, ℕ};
 ghost use Rattle.env.specs.Steps.{kinds_of, names_of};
 ghost use Rattle.env.specs.Paths.{PathSays};
 ghost use Rattle.constraint_list.specs.Listed.{Adds};

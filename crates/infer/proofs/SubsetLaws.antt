@@ -1,13 +1,19 @@
 -- The laws of `is_subset`, `has_run` and `adds_nothing`: where nothing is put, what a constraint puts into its outer set is there. Assumes nothing.
 use mathlib.Core.Path.{◌≡◌, refl, sym, ap, ◌∙◌}
 use mathlib.Core.Logic.{inl, inr}
-use mathlib.Core.Bool.{Bool, true, false, not, ◌&&◌, ◌||◌, true≢false}
-use mathlib.Core.List.{List}
+use mathlib.Core.Bool.{Bool, true, false, not, ◌||◌, true≢false}
+use mathlib.Core.List.{List, [], ◌∷◌, ◌++◌}
 use Prim.Native.Nat.{ℕ, zero, suc, ◌+◌, ◌-◌, ◌*◌, ◌≤◌, ◌<◌}
 use native.Mathlib.Decide.{ℕ_discrete}
 use native.Mathlib.Omega.{arith}
-use lib.ListN.{length}
-use lib.Dec.{ltb}
+use lib.ListN.{length, get_or, take, drop, length-take}
+use lib.Seq.{get_or-take, get_or-drop}
+use lib.Dec.{eqb, ltb}
+use Rattle.std.specs.Bool.{MatchBool}
+use Rattle.std.specs.Int.Bits.{bit_or}
+use Rattle.std.specs.List.{range_with_len, AllWithin, HoldsAt}
+use Rattle.std.proofs.lemmas.List.{length-append}
+use Rattle.std.proofs.lemmas.List.FromFn.{length-range_with_len, get_or-range_with_len}
 use Rattle.nll_spec.specs.Regions.{EndRule, every_end, held_ends, passes_end}
 use Rattle.nll_spec.specs.Output.{word_bits}
 use Rattle.bit_set.specs.Bits.{has, or_grows, both_fit}
@@ -19,12 +25,20 @@ use Rattle.dfs.proofs.SearchLaws.{reach_held, code_below}
 
 -- ---- Words
 
--- what holds after k turns
-pub record Comparing (ws : List ℕ) (from to n : ℕ) (lacks : Bool) (k : ℕ) : Type 0 where
-  pub turns : k ≤ n
-  pub into : to + n ≤ length ws
-  pub inner : from + n ≤ length ws
-  pub flag : lacks ≡ or_grows ws to ws from k
+-- what `&words[start..end]` lends
+abbrev pub run : List ℕ → ℕ → ℕ → List ℕ
+run ws start end = take (end - start) (drop start ws)
+
+-- one turn more: w and v are the next words of the two runs
+pub compare_more : {A : Type 0} (ws : List ℕ) (from to n w v : ℕ) (lacks : Bool) (xs : List A) (x : A) → lacks ≡ or_grows ws to ws from (length xs) → length xs < length (run ws from (from + n))
+    → length xs < length (run ws to (to + n)) → w ≡ get_or (run ws from (from + n)) (length xs) 0 → v ≡ get_or (run ws to (to + n)) (length xs) 0
+    → (lacks || not (eqb v (bit_or v w))) ≡ or_grows ws to ws from (length (xs ++ x ∷ []))
+compare_more ws from to n w v lacks xs x e lw lv ew ev =
+    let k = length xs in
+    let a : w ≡ get_or ws (from + k) 0 = ew ∙ get_or-take (from + n - from) (drop from ws) k 0 (omega (arith, lw, length-take (from + n - from) (drop from ws))) ∙ get_or-drop from ws k 0 in
+    let b : v ≡ get_or ws (to + k) 0 = ev ∙ get_or-take (to + n - to) (drop to ws) k 0 (omega (arith, lv, length-take (to + n - to) (drop to ws))) ∙ get_or-drop to ws k 0 in
+    let m : length (xs ++ x ∷ []) ≡ suc k = omega (arith, length-append xs (x ∷ [])) in
+    rw (a, b, e, m) refl
 
 module _ (ws : List ℕ) (from to n : ℕ) where
   -- each number of the run from `from` is in the run from `to`
@@ -46,17 +60,6 @@ module _ (ws : List ℕ) (from to n : ℕ) where
 -- ---- Ends
 
 module _ (ws : List ℕ) (to a : ℕ) where
-  pub run_none : true ≡ has_run ws to a (a - a)
-  unfolding has_run
-  run_none = let e : a - a ≡ 0 = omega arith in rw e
-
-  pub run_more : (i : ℕ) → a ≤ i → (has_run ws to a (i - a) && has ws (word_bits * to + i)) ≡ has_run ws to a (i + 1 - a)
-  unfolding has_run
-  run_more i l =
-      let e : i + 1 - a ≡ suc (i - a) = omega arith in
-      let q : a + (i - a) ≡ i = omega arith in
-      rw (e, q)
-
   run_has : (n : ℕ) → has_run ws to a n ≡ true → (x : ℕ) → a ≤ x → x < a + n → has ws (word_bits * to + x) ≡ true
   unfolding has_run
   run_has zero e x l h = absurd (omega arith)
@@ -65,6 +68,28 @@ module _ (ws : List ℕ) (to a : ℕ) where
       go : Dec (x ≡ a + n) → (x < a + n → has ws (word_bits * to + x) ≡ true) → has ws (word_bits * to + x) ≡ true
       go (yes q) r = rw q (and_true_right (has_run ws to a n) (has ws (word_bits * to + (a + n))) e)
       go (no q) r = r (omega (arith, q))
+
+  run_holds : (n : ℕ) → ((k : ℕ) → k < n → has ws (word_bits * to + (a + k)) ≡ true) → true ≡ has_run ws to a n
+  unfolding has_run
+  run_holds zero h = refl
+  run_holds (suc n) h = rw (← run_holds n (λ k l. h k (omega (arith, l))), h n (omega arith)) refl
+
+  -- what `all` shows of the numbers from a on
+  pub run_all : (n : ℕ) (r : Bool)
+      → MatchBool r (AllWithin (λ x. has ws (word_bits * to + x) ≡ true) (range_with_len a n) 0 (length (range_with_len a n))) ((k : ℕ) × (k < length (range_with_len a n)) × HoldsAt (λ x. has ws (word_bits * to + x) ≡ false) (range_with_len a n) k)
+      → r ≡ has_run ws to a n
+  run_all n true h = run_holds n (λ k l. rw (← get_or-range_with_len a n k 0 l) (h k 0 (omega arith) (omega (arith, l, length-range_with_len a n))))
+  run_all n false h = go (has_run ws to a n) refl
+    where
+      k : ℕ
+      k = h.0
+
+      l : k < n
+      l = omega (arith, h.1, length-range_with_len a n)
+
+      go : (b : Bool) → has_run ws to a n ≡ b → false ≡ has_run ws to a n
+      go true q = absurd (true≢false (sym (run_has n q (a + k) (omega arith) (omega (arith, l))) ∙ rw (← get_or-range_with_len a n k 0 l) (h.2 0)))
+      go false q = sym q
 
 -- an end that is passed on is in the outer set
 ends-has : (rule : EndRule) (ws : List ℕ) (to code points : ℕ) (held : Bool) → (not (passes_end rule false) || has_run ws to code (points - code)) ≡ true → (e : ℕ) → code ≤ e → e < points

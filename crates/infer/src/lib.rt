@@ -2,7 +2,7 @@
 // "S outlives T at p": the points that a walk from p through T reaches are put into S, and, where it comes to a point without successors, so are the
 // declared ends that the end rule passes on.
 // Region r's set starts at word r * width.
-ghost use Rattle.std.specs.Prelude.{◌≡◌, true, [], ◌∷◌, ◌+◌, ◌-◌, ◌/◌, ◌<◌, ◌≤◌, length};
+ghost use Rattle.std.specs.Prelude.{◌≡◌, true, [], ◌∷◌, ◌+◌, ◌/◌, ◌<◌, ◌≤◌, length};
 ghost use Rattle.nll_spec.specs.Regions.{passes_end};
 ghost use Rattle.nll_spec.specs.Output.{word_bits};
 ghost use Rattle.bit_set.specs.Bits.{both_fit};
@@ -77,9 +77,8 @@ fn is_subset(words: &[u32], from: usize, to: usize, n: usize) -> bool
         return false;
     }
     let mut lacks = false;
-    for k in 0..n {
-        let w = words[to + k];
-        lacks = lacks | (w != (w | words[from + k]));
+    for (inner, outer) in words[from..from + n].iter().zip(&words[to..to + n]) {
+        lacks = lacks | (*outer != (*outer | *inner));
     }
     !lacks
 }
@@ -137,11 +136,7 @@ impl Setup<'_> {
         if !passes_end(self.rule, false) {
             return true;
         }
-        let mut held = true;
-        for end in self.shape.code..self.shape.points {
-            held = held & bit_set::test(words, to, end);
-        }
-        held
+        (self.shape.code..self.shape.points).all(|end| bit_set::test(words, to, end))
     }
 
     // Whether the words show that no constraint with these sets puts a point into the set from word to, where the inner set starts at word from.

@@ -1,5 +1,5 @@
 // From the points' sets of variables to the variables' rows of points.
-ghost use Rattle.std.specs.Prelude.{◌≡◌, ◌*◌, ◌<◌, ◌≤◌, length};
+ghost use Rattle.std.specs.Prelude.{◌*◌, ◌<◌, ◌≤◌, length};
 ghost use Rattle.liveness.specs.Needs.{start_of};
 ghost use Rattle.liveness.specs.Rows.{in_set, in_word, Column, Columns};
 

@@ -1,5 +1,5 @@
 // The words of an answer: the regions' sets.
-ghost use Rattle.std.specs.Prelude.{◌≡◌, ◌*◌, ◌≤◌, length};
+ghost use Rattle.std.specs.Prelude.{◌*◌, ◌≤◌, length};
 ghost use Rattle.nll.specs.Steps.{Seeds, Solves};
 
 use super::room::shape_of;

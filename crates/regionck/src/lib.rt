@@ -21,8 +21,8 @@ const ROUNDS: u32 = 131073;
 fn tell(grew: &[u32; 4], grown: &mut [u8; 128])
     ensures { Tells grew.now grown.new 128 }
 {
-    for r in 0..128 {
-        grown[r] = u8::from(bit_set::test(grew, 0, r));
+    for (r, mark) in grown.iter_mut().enumerate() {
+        *mark = u8::from(bit_set::test(grew, 0, r));
     }
 }
 

@@ -1,8 +1,5 @@
 // One round of the constraints.
-ghost use Rattle.std.specs.Prelude.{◌≡◌, cond, List, [], ℕ, ◌+◌, ◌*◌, ◌≤◌, ◌<◌, length, eqb};
-ghost use Rattle.nll_spec.specs.Output.{word_bits};
-ghost use Rattle.bit_set.specs.Bits.{with_bit};
-ghost use Rattle.constraint_list.specs.Listed.{count_in, Draws};
+ghost use Rattle.std.specs.Prelude.{List, ℕ, ◌+◌, ◌≤◌, ◌<◌};
 ghost use Rattle.rerun.specs.Rerun.{Holding, OwnKept};
 ghost use Rattle.regionck.specs.Rounds.{Sound, RunsBelow, RoundRuns};
 

@@ -1,5 +1,5 @@
 // How many entries of a file agree with the call.
-ghost use Rattle.std.specs.Prelude.{◌≡◌, ◌≤◌, length};
+ghost use Rattle.std.specs.Prelude.{◌≤◌, length};
 ghost use Rattle.replay.specs.File.{Replayed};
 
 use super::compare::agree;

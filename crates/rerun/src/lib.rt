@@ -61,9 +61,11 @@ fn settle(
 pub fn keep(words: &[u32], before: &mut [u32])
     ensures { Keeps words.now before.old before.new (length before.old) }
 {
-    for i in 0..before.len() {
-        before[i] = bit_slice::word_at(words, i);
+    let n = words.len().min(before.len());
+    for i in 0..n {
+        before[i] = words[i];
     }
+    before[n..].fill(0);
 }
 
 // Empties the list if it has no room for a constraint of each region.

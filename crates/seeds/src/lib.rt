@@ -5,7 +5,7 @@ mod declared;
 mod regions;
 mod rows;
 
-ghost use Rattle.std.specs.Prelude.{◌≡◌, ◌*◌, ◌≤◌, ◌<◌, length, T};
+ghost use Rattle.std.specs.Prelude.{◌≡◌, ◌*◌, ◌≤◌, length, T};
 ghost use Rattle.nll_spec.specs.Syntax.{Job};
 ghost use Rattle.nll_spec.specs.Decode.{point_count};
 ghost use Rattle.nll_spec.specs.WellFormed.{named};

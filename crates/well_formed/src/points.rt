@@ -1,12 +1,11 @@
 // Refusals 8 and 9: the actions of all points.
-ghost use Rattle.std.specs.Prelude.{◌≡◌, true, T};
+ghost use Rattle.std.specs.Prelude.{◌≡◌, T};
 ghost use Rattle.nll_spec.specs.Syntax as syntax;
 ghost use Rattle.nll_spec.specs.Syntax.{Job};
 ghost use Rattle.nll_spec.specs.WellFormed.{named, paths_fit, shape_fits, shapes_fit};
-ghost use Rattle.repr.specs.Reading.{path_of};
 ghost use Rattle.record.specs.Layout.{Holds};
 ghost use Rattle.record.specs.Access.{Acts};
-ghost use Rattle.well_formed.specs.Tests.{number_in, refusal_of, path_taken, action_taken, own_taken, own_shape};
+ghost use Rattle.well_formed.specs.Tests.{number_in, refusal_of, action_taken, own_taken, own_shape};
 
 use super::paths::{path_fits, sources_fit};
 use super::shapes::{Wanted, pair_refusal};

@@ -1,10 +1,8 @@
--- `infer::is_subset`. The loop's invariant: lacks is `or_grows` of the first k words. Assumes nothing.
-use Prim.Native.Nat.{◌-◌}
-use Rattle.infer.proofs.SubsetLaws.{Comparing}
+-- `infer::is_subset`. The loop's invariant: lacks is `or_grows` of the words so far. Assumes nothing.
+use lib.ListN.{length}
+use mathlib.Core.Path.{◌≡◌}
+use Rattle.bit_set.specs.Bits.{or_grows}
 use Rattle.infer.proofs.is_subset.Given as goal
 
-abbrev pub invariant-loop-k : goal.invariant-loop-k
-invariant-loop-k l = Comparing l.words l.from l.to l.n l.lacks l.k
-
-abbrev pub decreases-loop-k : goal.decreases-loop-k
-decreases-loop-k l = l.n - l.k
+abbrev pub invariant-loop-inner : goal.invariant-loop-inner
+invariant-loop-inner l = l.lacks ≡ or_grows l.words l.to l.words l.from (length l.yielded)

@@ -1,12 +1,21 @@
--- `infer::Setup::has_ends`. The loop's invariant: held is `has_run` of the ends below end. Assumes nothing.
-use native.Mathlib.Omega.{arith}
-use Rattle.infer.proofs.SubsetLaws.{run_none, run_more}
+-- `infer::Setup::has_ends`: what `all` shows of the ends. Assumes nothing.
+use mathlib.Core.Path.{◌≡◌, refl}
+use mathlib.Core.Bool.{true, false}
+use Prim.Native.Nat.{◌+◌, ◌-◌, ◌*◌}
+use Rattle.std.proofs.Common.{rules, tests}
+use Rattle.std.proofs.lemmas.Iterator.{cases_from_all, YieldsList-from_range}
+use Rattle.nll_spec.specs.Output.{word_bits}
+use Rattle.bit_set.specs.Bits.{has}
+use Rattle.infer.specs.Search.{has_run}
+use Rattle.infer.proofs.SubsetLaws.{run_all}
 use Rattle.infer.proofs.Setup.has_ends.Goals as goal
 
-pub loop-end-init : goal.loop-end-init
-loop-end-init c = (omega arith, omega arith, run_none _ _ _)
-
-pub loop-end-preserved : goal.loop-end-preserved
-loop-end-preserved c = let l = c.loop-end in
-    let a = c.args in
-    (omega arith, omega arith, rw (c.test-held.ensures, l.invariant.2) (run_more a.words.now a.to a.self.now.shape.code l.end l.invariant.0))
+pub returns : goal.returns
+returns c =
+    let ws = c.args.words.now in
+    let code = c.args.self.now.shape.code in
+    let many = c.args.self.now.shape.points - code in
+    let r : c.all.result ≡ has_run ws c.args.to code many = run_all ws c.args.to code many c.all.result
+    (cases_from_all _ _ _ (λ x. has ws (word_bits * c.args.to + x) ≡ true) (λ x. has ws (word_bits * c.args.to + x) ≡ false) c.all.ensures.ran (YieldsList-from_range code c.args.self.now.shape.points many refl refl)
+    (λ x q k. search (rules, tests)) (λ x q k. search (rules, tests))) in
+    search (rules, tests)
