@@ -1,20 +1,17 @@
 -- Parts that hold rows: a row only counted, a row passed over, and where such a part ends. Assumes nothing.
-use mathlib.Core.Path.{◌≡◌, refl, sym, ap, subst, ◌∙◌}
+use mathlib.Core.Path.{◌≡◌, refl, sym, ap, ◌∙◌}
 use mathlib.Core.List.{List, ◌∷◌}
 use Prim.Native.Nat.{ℕ, zero, suc, ◌+◌, ◌-◌, ◌<◌}
 use native.Mathlib.Omega.{arith}
 use native.Mathlib.Numerals.{sub-one}
 use lib.ListN.{drop}
-use Rattle.nll_spec.specs.Decode.{Reading, refused, read, Reader, done, ◌>>=◌, count, items, counted, path, field, struct_decl}
+use Rattle.nll_spec.specs.Decode.{Reading, refused, read, Reader, done, ◌>>=◌, count, items, counted, path}
 use Rattle.repr.specs.Reading.{rest, ended}
-use Rattle.repr.specs.Parts.{Readable, struct_of, struct_says, StructSays, ParametersRead, action_read, sources_of}
+use Rattle.repr.specs.Parts.{Readable, action_read, sources_of}
 use Rattle.repr.specs.declared.Cursor.{Cursor}
 use Rattle.repr.specs.declared.Action.{Action}
 use Rattle.repr.specs.declared.Action.TheVariants.{Noop, Init, Borrow, Assign, Constraint, Use, Drop, StorageDead}
-use Rattle.repr.specs.declared.StructDecl.{StructDecl}
-use Rattle.repr.proofs.ReadLaws.{step, stop, told}
-use Rattle.repr.specs.declared.refusal.Refusal.{Refusal}
-use Rattle.std.specs.Prelude.{Result, Ok}
+use Rattle.repr.proofs.ReadLaws.{step, stop}
 
 -- ---- A row that is counted, and what follows it
 
@@ -114,9 +111,6 @@ module _ {A : Type 0} (item : Reader A) (bs : List ℕ) where
 pub record Passed {A : Type 0} (item : Reader A) (s : List ℕ) (at count c over : ℕ) : Type 0 where
   pub same : ended (items count item (drop at s)) ≡ ended (items (count - over) item (drop c s))
 
-pub passed-none : {A : Type 0} {item : Reader A} {s : List ℕ} {at count : ℕ} → Passed item s at count at 0
-passed-none {A} {item} {s} {at} {count} = record { same = ap (λ (n : ℕ). ended (items n item (drop at s))) (omega arith) }
-
 module _ {A : Type 0} {item : Reader A} {s : List ℕ} {at count c over : ℕ} (p : Passed item s at count c over) where
   pub passed_more : {next : ℕ} → over < count → ended (item (drop c s)) ≡ read tt (drop next s) → Passed item s at count next (over + 1)
   passed_more {next} h e = record { same = p.same ∙ row_step item (drop c s) (count - over) (omega arith) e ∙ ap (λ (n : ℕ). ended (items n item (drop next s))) (omega arith) }
@@ -128,12 +122,6 @@ module _ {A : Type 0} {item : Reader A} {s : List ℕ} {at count c over : ℕ} (
   passed-all e = sym (p.same ∙ row-none item (drop c s) (omega arith))
 
 -- ---- A struct ends after its fields
-
-pub struct_rest : {s : List ℕ} {at : ℕ} {r : Result StructDecl Refusal} (d : StructDecl) → StructSays s at r → r ≡ Ok d → ended (struct_decl (drop at s)) ≡ ended (items d.fields.count field (rest s d.fields.from))
-unfolding struct_of
-struct_rest {s} d h i =
-    let p = subst (λ (x : Result StructDecl Refusal). ParametersRead s x) i h.declared in
-    ap ended (told (struct_says s) h.same i ∙ step _ _ _ p.reads) ∙ end-done (items d.fields.count field) _ (rest s d.fields.from)
 
 -- ---- An action ends after its sources
 

@@ -4,7 +4,7 @@ use mathlib.Core.List.{List, [], ◌∷◌}
 use mathlib.Core.Logic.{◌⊎◌, inl, inr}
 use Prim.Native.Nat.{ℕ, zero, suc, ◌+◌, ◌-◌, ◌*◌, ◌≤◌, ◌<◌}
 use native.Mathlib.Omega.{arith}
-use native.Mathlib.Nat.{le_refl, zero-add}
+use native.Mathlib.Nat.{zero-add}
 use lib.ListN.{drop}
 use borrow.Author.Tests.{eq-eqb, ne_eqb}
 use Rattle.nll_spec.specs.Syntax as syntax
@@ -133,9 +133,6 @@ pub record Down (s : List ℕ) (at left c few : ℕ) : Type 0 where
   pub same : (depth : ℕ) → left < depth → left_of (type_within depth left (drop at s)) ≡ left_of (type_within depth few (drop c s))
   pub fewer : few ≤ left
 
-pub down_none : {s : List ℕ} {at left : ℕ} → Down s at left at left
-down_none {left = left} = record { same = λ depth h. refl; fewer = le_refl left }
-
 module _ {s : List ℕ} {at left c few : ℕ} (x : Down s at left c few) where
   -- the tag is missing
   pub opened_missing : {k : Refusal} → byte (drop c s) ≡ refused (number_of k) → OpenedSays s at left (Err k)
@@ -242,9 +239,6 @@ module _ {s : List ℕ} {at count left c n few : ℕ} (x : Along s at count left
     falls = let p = subst (Falls few) e f.falls in omega (arith, x.falls, p, z);
   }
 
-  pub along-less : {r : Result Opened Refusal} {more l : ℕ} {next : Cursor} → FirstSays s c few r → (n ≡ 0 → ⊥) → r ≡ opened more l next → n - 1 + more + 256 * l < n + 256 * few
-  along-less f z e = let p = subst (Falls few) e f.falls in omega (arith, p, z)
-
   pub along-ended : {c' : Cursor} → c'.at ≡ c → n ≡ 0 → ArgumentsSay s at count left (rest_at few c')
   unfolding args done
   along-ended {c'} i z = record { same = λ depth h. sym (x.same depth h ∙ ap (λ (m : ℕ). left_of (args (type_within depth) m few (drop c s))) z ∙ ap (λ (m : ℕ). read few (drop m s)) (sym i)); fewer = depth-left }
@@ -268,10 +262,6 @@ module _ {s : List ℕ} {at left : ℕ} {r : Result Opened Refusal} (o : OpenedS
       fewer-still : (x : Reading ℕ) → AtMost few x → few ≤ left → AtMost left x
       fewer-still (read k over) h g = omega arith
       fewer-still (refused k) h g = tt
-
-  -- without arguments
-  pub type-ended : {count few : ℕ} {next : Cursor} → r ≡ opened count few next → count ≡ 0 → TypeSays s at left (rest_at few next)
-  type-ended {count} {few} {next} e z = type_arguments e (along-ended (along-none {s = s} {at = next.at} {count = count} {left = few} refl) (omega (arith, z)) refl z)
 
 -- ---- A whole type
 
