@@ -8,6 +8,7 @@ use lib.ListN.{drop}
 use Rattle.nll_spec.specs.Decode.{Reading, refused, read, Reader, done, ◌>>=◌, count, items, counted, path}
 use Rattle.repr.specs.Reading.{rest, ended}
 use Rattle.repr.specs.Parts.{Readable, action_read, sources_of}
+use Rattle.std.proofs.Common.{rules}
 use Rattle.repr.specs.declared.Cursor.{Cursor}
 use Rattle.repr.specs.declared.Action.{Action}
 use Rattle.repr.specs.declared.Action.TheVariants.{Noop, Init, Borrow, Assign, Constraint, Use, Drop, StorageDead}
@@ -39,14 +40,14 @@ module _ {A B : Type 0} (m : Reader A) (f : A → Reader B) (bs : List ℕ) wher
     where
       go : (x : Reading A) → ended x ≡ refused k → ended {A = B} (elim x as (λ y. Reading B) [ refused n ↦ refused n | read a over ↦ f a over ]) ≡ refused k
       go (refused n) e = e
-      go (read a over) e = absurd (let z : ◌≡◌ {A = ℕ} 0 1 = cc in omega arith)
+      go (read a over) e = absurd (search rules)
 
   pub end_then : {after : List ℕ} {y : Reading (Unit {0})} → ended (m bs) ≡ read tt after → ((a : A) → ended (f a after) ≡ y) → ended (◌>>=◌ m f bs) ≡ y
   unfolding ◌>>=◌
   end_then {after} {y} e k = go (m bs) e
     where
       go : (x : Reading A) → ended x ≡ read tt after → ended {A = B} (elim x as (λ y. Reading B) [ refused n ↦ refused n | read a over ↦ f a over ]) ≡ y
-      go (refused n) e = absurd (let z : ◌≡◌ {A = ℕ} 0 1 = cc in omega arith)
+      go (refused n) e = absurd (search rules)
       go (read a over) e = let i : over ≡ after = cc in rw i (k a)
 
 module _ {A : Type 0} (m : Reader A) (bs : List ℕ) where
@@ -54,7 +55,7 @@ module _ {A : Type 0} (m : Reader A) (bs : List ℕ) where
   end_readable {after} e = go (m bs) refl e
     where
       go : (x : Reading A) → m bs ≡ x → ended x ≡ read tt after → Readable m bs
-      go (refused k) i e = absurd (let z : ◌≡◌ {A = ℕ} 0 1 = cc in omega arith)
+      go (refused k) i e = absurd (search rules)
       go (read a over) i e = record { item = a; over = over; reads = i }
 
   pub end_refused : {k : ℕ} → ended (m bs) ≡ refused k → m bs ≡ refused k
@@ -62,7 +63,7 @@ module _ {A : Type 0} (m : Reader A) (bs : List ℕ) where
     where
       go : (x : Reading A) → m bs ≡ x → ended x ≡ refused k → m bs ≡ refused k
       go (refused n) i e = let z : n ≡ k = cc in i ∙ ap (λ (l : ℕ). refused l) z
-      go (read a over) i e = absurd (let z : ◌≡◌ {A = ℕ} 0 1 = cc in omega arith)
+      go (read a over) i e = absurd (search rules)
 
   -- where m ends is where it goes on
   pub end-over : {a : A} {over after : List ℕ} → m bs ≡ read a over → ended (m bs) ≡ read tt after → over ≡ after

@@ -12,6 +12,7 @@ use Rattle.nll_spec.specs.Syntax.{Ty, Args, RegionArg, TypeArg}
 use Rattle.nll_spec.specs.Decode.{Reading, refused, read, Reader, done, refuse, ◌>>=◌, byte, pick, one_of, Part, part, region, node_tag, args, type_within, type, max_nodes}
 use Rattle.repr.specs.Reading.{rest, ended}
 use Rattle.repr.specs.Types.{Inner, node, node_says, NodeSays, argument_says, ArgumentSays, left_of, nodes_says, AtMost, onward, opened_says, Falls, OpenedSays, FirstSays, TypeSays, ArgumentsSay}
+use Rattle.std.proofs.Common.{rules}
 use Rattle.repr.specs.declared.Cursor.{Cursor}
 use Rattle.repr.specs.declared.BorrowKind.{BorrowKind}
 use Rattle.repr.specs.declared.Region.{Region}
@@ -55,14 +56,14 @@ module _ {A B : Type 0} (m : Reader (Part A)) (f : Part A → Reader (Part B)) (
     where
       go : (x : Reading (Part A)) → left_of x ≡ refused k → left_of {A = B} (elim x as (λ y. Reading (Part B)) [ refused n ↦ refused n | read t over ↦ f t over ]) ≡ refused k
       go (refused n) e = let z : n ≡ k = cc in rw z
-      go (read t over) e = absurd (let z : ◌≡◌ {A = ℕ} 0 1 = cc in omega arith)
+      go (read t over) e = absurd (search rules)
 
   pub left_then : {l : ℕ} {after : List ℕ} {y : Reading ℕ} → left_of (m bs) ≡ read l after → ((t : Part A) → t.left ≡ l → left_of (f t after) ≡ y) → left_of (◌>>=◌ m f bs) ≡ y
   unfolding ◌>>=◌
   left_then {l} {after} {y} e k = go (m bs) e
     where
       go : (x : Reading (Part A)) → left_of x ≡ read l after → left_of {A = B} (elim x as (λ y. Reading (Part B)) [ refused n ↦ refused n | read t over ↦ f t over ]) ≡ y
-      go (refused n) e = absurd (let z : ◌≡◌ {A = ℕ} 0 1 = cc in omega arith)
+      go (refused n) e = absurd (search rules)
       go (read t over) e = let i : t.left ≡ l = cc in let j : over ≡ after = cc in rw j (k t i)
 
 -- ---- Arguments
