@@ -1,10 +1,7 @@
--- Parts that hold rows: a row only counted, a row passed over, and where such a part ends. Assumes nothing.
+-- Parts that hold rows: a row only counted, and where such a part ends. Assumes nothing.
 use mathlib.Core.Path.{◌≡◌, refl, sym, ap, ◌∙◌}
-use mathlib.Core.List.{List, ◌∷◌}
-use Prim.Native.Nat.{ℕ, zero, suc, ◌+◌, ◌-◌, ◌<◌}
-use native.Mathlib.Omega.{arith}
-use native.Mathlib.Numerals.{sub-one}
-use lib.ListN.{drop}
+use mathlib.Core.List.{List}
+use Prim.Native.Nat.{ℕ}
 use Rattle.nll_spec.specs.Decode.{Reading, refused, read, Reader, done, ◌>>=◌, count, items, counted, path}
 use Rattle.repr.specs.Reading.{rest, ended}
 use Rattle.repr.specs.Parts.{Readable, action_read, sources_of}
@@ -90,39 +87,6 @@ module _ {A B : Type 0} (m : Reader A) (g : A → B) (bs : List ℕ) where
       go : (x : Reading A) → ended {A = B} (elim x as (λ y. Reading B) [ refused n ↦ refused n | read a over ↦ read (g a) over ]) ≡ ended x
       go (refused n) = refl
       go (read a over) = refl
-
--- ---- A row passed over, item by item
-
-module _ {A : Type 0} (item : Reader A) (bs : List ℕ) where
-  pub row-none : {n : ℕ} → n ≡ 0 → ended (items n item bs) ≡ read tt bs
-  unfolding items done
-  row-none z = rw z
-
-  pub row_stop : (n : ℕ) {k : ℕ} → (n ≡ 0 → ⊥) → ended (item bs) ≡ refused k → ended (items n item bs) ≡ refused k
-  unfolding items
-  row_stop zero z e = absurd (z refl)
-  row_stop (suc n) z e = end_stop item _ bs e
-
-  pub row_step : (n : ℕ) {after : List ℕ} → (n ≡ 0 → ⊥) → ended (item bs) ≡ read tt after → ended (items n item bs) ≡ ended (items (n - 1) item after)
-  unfolding items
-  row_step zero z e = absurd (z refl)
-  row_step (suc n) {after} z e = end_then item _ bs e (λ x. end-done (items n item) (λ xs. x ∷ xs) after) ∙ rw (sub-one (suc n))
-
--- Of `count` items, `over` are passed over up to c.
-pub record Passed {A : Type 0} (item : Reader A) (s : List ℕ) (at count c over : ℕ) : Type 0 where
-  pub same : ended (items count item (drop at s)) ≡ ended (items (count - over) item (drop c s))
-
-module _ {A : Type 0} {item : Reader A} {s : List ℕ} {at count c over : ℕ} (p : Passed item s at count c over) where
-  pub passed_more : {next : ℕ} → over < count → ended (item (drop c s)) ≡ read tt (drop next s) → Passed item s at count next (over + 1)
-  passed_more {next} h e = record { same = p.same ∙ row_step item (drop c s) (count - over) (omega arith) e ∙ ap (λ (n : ℕ). ended (items n item (drop next s))) (omega arith) }
-
-  pub passed_stop : {k : ℕ} → over < count → ended (item (drop c s)) ≡ refused k → refused k ≡ ended (items count item (drop at s))
-  passed_stop h e = sym (p.same ∙ row_stop item (drop c s) (count - over) (omega arith) e)
-
-  pub passed-all : over ≡ count → read tt (drop c s) ≡ ended (items count item (drop at s))
-  passed-all e = sym (p.same ∙ row-none item (drop c s) (omega arith))
-
--- ---- A struct ends after its fields
 
 -- ---- An action ends after its sources
 
