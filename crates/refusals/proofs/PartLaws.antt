@@ -32,17 +32,8 @@ use Rattle.refusals.specs.Tests.{Sized, pass, pass_says, Passes, Tested, all_bel
 -- ---- What was read
 
 module _ {A : Type 0} {m : Reader A} {f : A → Bool} {s : List ℕ} {at : ℕ} where
-  pub none_passes : {k : ℕ} {r : Result Cursor Refusal} → m (drop at s) ≡ refused k → Passes m f s at r
-  none_passes e = record { says = λ x bs i. absurd (clash (sym e ∙ i)) }
-
   pub none_tested : {k : ℕ} {r : Bool} → m (drop at s) ≡ refused k → Tested m f s at r
   none_tested e = record { says = λ x bs i. absurd (clash (sym e ∙ i)) }
-
-  pub read-passes : {x : A} {c : Cursor} → m (drop at s) ≡ read x (rest s c) → f x ≡ true → Passes m f s at (Ok c)
-  read-passes {x} {c} e k = record { says = λ y bs i. carry (λ z o. pass_says s (Ok c) ≡ pass (f z) o) (sym e ∙ i) (rw k) }
-
-  pub read-fails : {x : A} {bs : List ℕ} {l : Refusal} → m (drop at s) ≡ read x bs → f x ≡ false → Passes m f s at (Err l)
-  read-fails {l = l} e k = record { says = λ y o i. carry (λ z p. pass_says s (Err l) ≡ pass (f z) p) (sym e ∙ i) (rw k) }
 
 -- ---- A field
 

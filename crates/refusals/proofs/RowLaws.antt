@@ -11,6 +11,7 @@ use Rattle.nll_spec.specs.Decode.{read, Reader, done, byte, items, counted, max_
 use Rattle.repr.specs.declared.Cursor.{Cursor}
 use Rattle.repr.specs.declared.StructDecl as declared
 use Rattle.repr.specs.declared.refusal.Refusal.{Refusal}
+use Rattle.std.proofs.Common.{rules}
 use Rattle.std.specs.Prelude.{Result, Ok, Err, is_ok}
 use Rattle.repr.specs.Stands.{Stands}
 use Rattle.record.specs.Layout.{Layout}
@@ -37,7 +38,7 @@ use Rattle.std.proofs.lemmas.List.FromFn.{get_or-range_with_len, length-range_wi
 -- ---- What the answer tells of the test
 
 pub told_fails : (z : Bool) (p : List ℕ) → fails ≡ pass z p → z ≡ false
-told_fails true p e = absurd (let z : ◌≡◌ {A = ℕ} 0 1 = cc in omega arith)
+told_fails true p e = absurd (search rules)
 told_fails false p e = refl
 
 pub record Over (z : Bool) (p q : List ℕ) : Type 0 where
@@ -46,7 +47,7 @@ pub record Over (z : Bool) (p q : List ℕ) : Type 0 where
 
 pub told_over : (z : Bool) {p : List ℕ} (q : List ℕ) → over p ≡ pass z q → Over z p q
 told_over true q e = record { passes = refl; ends = cc }
-told_over false q e = absurd (let z : ◌≡◌ {A = ℕ} 0 1 = cc in omega arith)
+told_over false q e = absurd (search rules)
 
 -- whether it passed, and no more
 pub only_test : {A : Type 0} {m : Reader A} {f : A → Bool} {s : List ℕ} {at : ℕ} {d : Result Cursor Refusal} {r : Bool} → Passes m f s at d → r ≡ is_ok d → Tested m f s at r
