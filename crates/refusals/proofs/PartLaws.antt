@@ -2,10 +2,10 @@
 use mathlib.Core.Path.{◌≡◌, refl, sym, ap, ◌∙◌}
 use mathlib.Core.Bool.{Bool, true, false, ◌&&◌, and-true, not}
 use mathlib.Core.List.{List, [], ◌∷◌, ◌++◌}
-use Prim.Native.Nat.{ℕ, zero, suc, ◌≤◌, ◌<◌}
+use Prim.Native.Nat.{ℕ, zero, suc, ◌<◌}
 use native.Mathlib.Omega.{arith}
 use native.Mathlib.Decide.{dec_lt}
-use lib.ListN.{length, take, drop, drop_of_length-le}
+use lib.ListN.{length, take, drop}
 use lib.Dec.{eqb, ltb, leb}
 use borrow.Author.Tests.{lt-ltb, ne_eqb}
 use Rattle.nll_spec.specs.Lists.{every, gather}
@@ -63,13 +63,6 @@ module _ (j : Job) (n : ℕ) (t : Ty) where
   field_numbered z = let h : ltb 0 n ≡ true = lt-ltb 0 n (omega arith) in rw h
 
 -- ---- Bytes below a limit
-
-below_nothing : (limit n : ℕ) → all_below limit (take n []) ≡ true
-below_nothing limit zero = refl
-below_nothing limit (suc n) = refl
-
-pub below_out : (limit n : ℕ) (s : List ℕ) (at : ℕ) → length s < at → true ≡ all_below limit (take n (drop at s))
-below_out limit n s at h = let l : length s ≤ at = omega arith in rw (drop_of_length-le s l, below_nothing limit n)
 
 bytes-are : (n : ℕ) (bs : List ℕ) {xs end : List ℕ} → items n byte bs ≡ read xs end → xs ≡ take n bs
 bytes-are n bs {xs} {end} e = go (dec_lt (length bs) n)
