@@ -29,9 +29,8 @@ use Rattle.record.specs.declared.Record.{Record}
 use Rattle.record.specs.declared.Offsets.{Offsets}
 use Rattle.repr.proofs.SpellLaws.{clash, carry, then}
 use Rattle.env.specs.Prefixes.{ShortestIn}
-use Rattle.env.specs.Paths.{PathResult, PathSays}
-use Rattle.env.specs.declared.paths.PathType.{PathType}
-use Rattle.env.specs.declared.paths.PathType.TheVariants as path_type
+use Rattle.env.specs.Paths.{PathType, PathResult, PathSays}
+use Rattle.env.specs.declared.paths.Found.TheVariants as found
 use Rattle.env.proofs.PathLaws.{stepless}
 use Rattle.env.proofs.PrefixLaws.{shortest-of}
 use Rattle.env.proofs.ShortestLaws.{taken-leaves}
@@ -96,7 +95,7 @@ module _ {input : Record} {q : Path} {b kinds names : List ℕ} {d : Option Path
       ∙ source-same j accepted (path_of input.bytes.now q) leaves w.short o at r.0
 
 -- the type stands in the record
-stays : {s out : List ℕ} {x : Place} → x.bytes.now ≡ s → PlaceSays s out (path_type.Inside x.at) x
+stays : {s out : List ℕ} {x : Place} → x.bytes.now ≡ s → PlaceSays s out (found.Inside x.at) x
 stays e = record { says = λ j p k n r. rw e r }
 
 module _ {pair : Pair} {ls : List ℕ} where

@@ -14,8 +14,7 @@ use Rattle.repr.specs.declared.RegionName as repr
 use Rattle.record.specs.Layout.{Holds}
 use Rattle.record.specs.declared.Record.{Record}
 use Rattle.repr.specs.Stands.{TypeAt}
-use Rattle.env.specs.Paths.{PathIs, PathResult}
-use Rattle.env.specs.declared.paths.PathType.{PathType}
+use Rattle.env.specs.Paths.{PathType, PathIs, PathResult}
 use Rattle.env.specs.Prefixes.{ShortestIn}
 use Rattle.env.specs.declared.Shortest.{Shortest}
 use Rattle.constraint_list.specs.Listed.{Adds}

@@ -7,7 +7,7 @@ ghost use Rattle.constraint_list.specs.Listed.{Adds};
 ghost use Rattle.constraints.specs.Constraining.{step_constraints, source_constraints, SourceSays, PlaceSays, TypesAdd, PathsAdd, PairAdds, Constrains};
 
 use env::Step;
-use env::paths::{PathType, path_type};
+use env::paths::{Found, PathType, path_type};
 use env::prefixes::{shortest, steps_of};
 use record::Record;
 use relate::{Relation, require_outlives};
@@ -78,8 +78,8 @@ fn place_of<'a>(s: &'a [u8], out: &'a [u8], found: PathType) -> Place<'a>
     ensures { PlaceSays s.now out.now found result }
 {
     match found {
-        PathType::Inside(at) => Place { bytes: s, at },
-        PathType::Written(at) => Place { bytes: out, at },
+        Found::Inside(at) => Place { bytes: s, at },
+        Found::Written(at) => Place { bytes: out, at },
     }
 }
 

@@ -41,16 +41,12 @@ use Rattle.ty.specs.declared.write.Arguments.{Arguments}
 use Rattle.repr.proofs.StandLaws.{NodeIs, on-node, type-stands}
 use Rattle.env.specs.Fields.{TypeThere, FieldIs, FieldSays}
 use Rattle.env.specs.Prefixes.{kind_code, Leaves}
-use Rattle.env.specs.Paths.{PathResult, PathSays, Named, Noted, small, Moves, FieldStepSays, StepIs, StepSays, CopyIs, CopiedSays, Stage, Reached, AlongIs, AlongSays, OnwardIs, OnwardSays}
+use Rattle.env.specs.Paths.{PathType, PathResult, PathSays, Named, Noted, small, Moves, FieldStepSays, StepIs, StepSays, CopyIs, CopiedSays, Stage, Reached, AlongIs, AlongSays, OnwardIs, OnwardSays}
 use Rattle.env.specs.Steps.{kind_number, kind_in, name_in, kinds_of, names_of}
 use Rattle.env.specs.declared.Step.{Step}
 use Rattle.env.specs.declared.paths.Ahead.{Ahead}
-use Rattle.env.specs.declared.paths.PathType.{PathType}
-use Rattle.env.specs.declared.paths.PathType.TheVariants as path_types
-use Rattle.env.specs.declared.paths.Along.{Along}
-use Rattle.env.specs.declared.paths.Along.TheVariants as along
-use Rattle.env.specs.declared.paths.Stepped.{Stepped}
-use Rattle.env.specs.declared.paths.Stepped.TheVariants as stepped
+use Rattle.env.specs.declared.paths.Found.{Found}
+use Rattle.env.specs.declared.paths.Found.TheVariants as found
 use Rattle.env.proofs.FieldLaws.{type-few}
 use Rattle.env.proofs.StepLaws.{steps_out, steps_first}
 
@@ -92,7 +88,7 @@ module _ (input : Record) {name f : ℕ} {a : Arguments} {to : List ℕ} {d : de
           ap small (a_field j.structs name f g y.same) ∙ lt-leb (type_nodes (subst y.type g)) max_nodes k;
     }
 
-    pub field_written : {end : ℕ} → q ≡ Some end → FieldStepSays input name f a to (Some stepped.Written)
+    pub field_written : {end : ℕ} → q ≡ Some end → FieldStepSays input name f a to (Some (found.Written tt))
     field_written {end} i = record {
       says = λ j l g few.
           let y = there j l in
@@ -109,9 +105,9 @@ long taken h = (length-map taken kind_in ∙ h, length-map taken name_in ∙ h)
 pub noted : (taken : List Step) {taken' : List Step} (i : ℕ) (x : Step) → taken' ≡ set taken i x → (kinds_of taken' ≡ set (kinds_of taken) i (kind_in x)) × (names_of taken' ≡ set (names_of taken) i (name_in x))
 noted taken i x e = (rw e (map-set kind_in taken i x), rw e (map-set name_in taken i x))
 
-noting : (from to : List ℕ) (o : Option Ty) {noted : Type 0} → noted → (r : std.Option Stepped) → Moves from to o r → StepIs from to o noted r
-noting from to o n (Some (stepped.Inside c)) m = (m, n)
-noting from to o n (Some stepped.Written) m = (m, n)
+noting : (from to : List ℕ) (o : Option Ty) {noted : Type 0} → noted → (r : std.Option (Found (Unit {0}))) → Moves from to o r → StepIs from to o noted r
+noting from to o n (Some (found.Inside c)) m = (m, n)
+noting from to o n (Some (found.Written u)) m = (m, n)
 noting from to o n None m = m
 
 kind-of_ref : (k : BorrowKind) (r : syntax.Region) (t : Ty) → kind_number k ≡ kind_code (RefTy k r t)
@@ -163,7 +159,7 @@ module _ {input : Record} {from : List ℕ} {at f i : ℕ} {to kinds names : Lis
     pub step_other : (f ≡ 0 → ⊥) → StepSays input from at f i to kinds names kinds names None
     step_other z = record { says = λ j l u p few. let w = on-node v e p.stands in ap (λ (x : Ty). small (step_type j.structs x f)) w.same ∙ ap small (other_step j.structs (borrow_kind_of k) (region_of r) w.referent f z); kind_size = refl; name_size = refl }
 
-    pub step-star : {kinds' names' : List ℕ} {m n : ℕ} → f ≡ 0 → m ≡ kind_number (borrow_kind_of k) → Named (region_of r) n → (kinds' ≡ set kinds i m) × (names' ≡ set names i n) → StepSays input from at f i to kinds names kinds' names' (Some (stepped.Inside c))
+    pub step-star : {kinds' names' : List ℕ} {m n : ℕ} → f ≡ 0 → m ≡ kind_number (borrow_kind_of k) → Named (region_of r) n → (kinds' ≡ set kinds i m) × (names' ≡ set names i n) → StepSays input from at f i to kinds names kinds' names' (Some (found.Inside c))
     step-star {m = m} {n = n} z a b o = record {
       says = λ j l u p few.
           let w = on-node v e p.stands in
@@ -175,7 +171,7 @@ module _ {input : Record} {from : List ℕ} {at f i : ℕ} {to kinds names : Lis
       name_size = ap length o.1 ∙ length-set names i n;
     }
 
-  pub step_struct : {kinds' names' : List ℕ} {name : StructName} {a : Arguments} {r : std.Option Stepped} → a.bytes.now ≡ from → d ≡ Ok (nodes.Struct name a.count a.from) → (kinds' ≡ set kinds i 0) × (names' ≡ set names i 0) → FieldStepSays input name.0 f a to r → StepSays input from at f i to kinds names kinds' names' r
+  pub step_struct : {kinds' names' : List ℕ} {name : StructName} {a : Arguments} {r : std.Option (Found (Unit {0}))} → a.bytes.now ≡ from → d ≡ Ok (nodes.Struct name a.count a.from) → (kinds' ≡ set kinds i 0) × (names' ≡ set names i 0) → FieldStepSays input name.0 f a to r → StepSays input from at f i to kinds names kinds' names' r
   step_struct {a = a} {r = r} y e o m = record {
     says = λ j l u p few.
         let w = on-node v e p.stands in
@@ -185,8 +181,8 @@ module _ {input : Record} {from : List ℕ} {at f i : ℕ} {to kinds names : Lis
     name_size = ap length o.1 ∙ length-set names i 0;
   }
 
-step_is : {input : Record} {from : List ℕ} {at f i : ℕ} {to kinds names kinds' names' : List ℕ} {d x : std.Option Stepped} → StepSays input from at f i to kinds names kinds' names' d → d ≡ x → (j : Job) → Holds input j → (u : Ty) → TypeAt from at u → type_nodes u ≤ max_nodes → StepIs from to (step_type j.structs u f) (Noted u i kinds names kinds' names') x
-step_is {from = from} {f = f} {i = i} {to = to} {kinds = kinds} {names = names} {kinds' = kinds'} {names' = names'} v e j l u p few = transport (λ (y : std.Option Stepped). StepIs from to (step_type j.structs u f) (Noted u i kinds names kinds' names') y) e (v.says j l u p few)
+step_is : {input : Record} {from : List ℕ} {at f i : ℕ} {to kinds names kinds' names' : List ℕ} {d x : std.Option (Found (Unit {0}))} → StepSays input from at f i to kinds names kinds' names' d → d ≡ x → (j : Job) → Holds input j → (u : Ty) → TypeAt from at u → type_nodes u ≤ max_nodes → StepIs from to (step_type j.structs u f) (Noted u i kinds names kinds' names') x
+step_is {from = from} {f = f} {i = i} {to = to} {kinds = kinds} {names = names} {kinds' = kinds'} {names' = names'} v e j l u p few = transport (λ (y : std.Option (Found (Unit {0}))). StepIs from to (step_type j.structs u f) (Noted u i kinds names kinds' names') y) e (v.says j l u p few)
 
 -- ---- The steps that are taken
 
@@ -280,53 +276,53 @@ onward input bytes c kinds names i at left = record { goes = λ j l u all g. g }
 -- steps within the same bytes
 module _ {input : Record} {bytes : List ℕ} {c : ℕ} {kinds names : List ℕ} {i at left : ℕ} {c' : ℕ} {kinds' names' : List ℕ} {i' at' left' : ℕ}
     (g : Onward input bytes c kinds names i at left bytes c' kinds' names' i' at' left') (size : (length kinds' ≡ 8) × (length names' ≡ 8)) where
-  pub along-end : {to : List ℕ} (x : Cursor) → x.at ≡ c' → left' ≡ 0 → AlongSays input bytes c kinds names i at left to kinds' names' (Some (along.Inside x))
+  pub along-end : {to : List ℕ} (x : Cursor) → x.at ≡ c' → left' ≡ 0 → AlongSays input bytes c kinds names i at left to kinds' names' (Some (found.Inside x))
   along-end x o z = record { says = λ j l u all a. rw o (stage_end (g.goes j l u all a) (rw z)); sizes = size; taken = tt }
 
   module _ {b : Result (ℕ × Cursor) Refusal} (m : says itself input.bytes.now b ≡ byte (drop at' input.bytes.now)) where
-    pub along_out : {to : List ℕ} (x : Cursor) → x.at ≡ c' → {k : Refusal} → b ≡ Err k → AlongSays input bytes c kinds names i at left to kinds' names' (Some (along.Inside x))
+    pub along_out : {to : List ℕ} (x : Cursor) → x.at ≡ c' → {k : Refusal} → b ≡ Err k → AlongSays input bytes c kinds names i at left to kinds' names' (Some (found.Inside x))
     along_out x o e = record { says = λ j l u all a. rw o (stage_end (g.goes j l u all a) (steps_out input.bytes.now at' left' m e)); sizes = size; taken = tt }
 
-    module _ {f : ℕ} {next : Cursor} (e : b ≡ Ok (f, next)) (z : left' ≡ 0 → ⊥) {to kinds'' names'' : List ℕ} {d : std.Option Stepped} (v : StepSays input bytes c' f i' to kinds' names' kinds'' names'' d) where
+    module _ {f : ℕ} {next : Cursor} (e : b ≡ Ok (f, next)) (z : left' ≡ 0 → ⊥) {to kinds'' names'' : List ℕ} {d : std.Option (Found (Unit {0}))} (v : StepSays input bytes c' f i' to kinds' names' kinds'' names'' d) where
       sized : (length kinds'' ≡ 8) × (length names'' ≡ 8)
       sized = (v.kind_size ∙ size.0, v.name_size ∙ size.1)
 
       pub along-refused : d ≡ None → AlongSays input bytes c kinds names i at left to kinds'' names'' None
       along-refused o = record { says = λ j l u all a. let w = g.goes j l u all a in stage_fails w (steps_first input.bytes.now at' left' m e z) (step_is v o j l (type_after j.structs u w.taken) w.stands w.few); sizes = sized; taken = tt }
 
-      pub along_written : d ≡ Some stepped.Written → left' ≤ left → i' + left' ≤ i + left → AlongSays input bytes c kinds names i at left to kinds'' names'' (Some (along.Written (record { at = next; left = left' - 1; i = i' + 1 })))
+      pub along_written : d ≡ Some (found.Written tt) → left' ≤ left → i' + left' ≤ i + left → AlongSays input bytes c kinds names i at left to kinds'' names'' (Some (found.Written (record { at = next; left = left' - 1; i = i' + 1 })))
       along_written o p q = record {
         says = λ j l u all a. let w = g.goes j l u all a in stage_more w (steps_first input.bytes.now at' left' m e z) size (step_is v o j l (type_after j.structs u w.taken) w.stands w.few);
         sizes = sized;
         taken = (omega (arith, p, z), omega (arith, q, z));
       }
 
-      pub onward-more : {y : Cursor} → d ≡ Some (stepped.Inside y) → Onward input bytes c kinds names i at left bytes y.at kinds'' names'' (i' + 1) next.at (left' - 1)
+      pub onward-more : {y : Cursor} → d ≡ Some (found.Inside y) → Onward input bytes c kinds names i at left bytes y.at kinds'' names'' (i' + 1) next.at (left' - 1)
       onward-more o = record { goes = λ j l u all a. let w = g.goes j l u all a in stage_more w (steps_first input.bytes.now at' left' m e z) size (step_is v o j l (type_after j.structs u w.taken) w.stands w.few) }
 
-along-is : {input : Record} {from : List ℕ} {c : ℕ} {kinds names : List ℕ} {i at left : ℕ} {to kinds' names' : List ℕ} {r x : std.Option Along} → AlongSays input from c kinds names i at left to kinds' names' r → r ≡ x → AlongSays input from c kinds names i at left to kinds' names' x
-along-is {input} {from} {c} {kinds} {names} {i} {at} {left} {to} {kinds'} {names'} v e = transport (λ (y : std.Option Along). AlongSays input from c kinds names i at left to kinds' names' y) e v
+along-is : {input : Record} {from : List ℕ} {c : ℕ} {kinds names : List ℕ} {i at left : ℕ} {to kinds' names' : List ℕ} {r x : std.Option (Found Ahead)} → AlongSays input from c kinds names i at left to kinds' names' r → r ≡ x → AlongSays input from c kinds names i at left to kinds' names' x
+along-is {input} {from} {c} {kinds} {names} {i} {at} {left} {to} {kinds'} {names'} v e = transport (λ (y : std.Option (Found Ahead)). AlongSays input from c kinds names i at left to kinds' names' y) e v
 
 -- what was reached in the bytes `from` is reached where they were copied to
 copy_reached : (ss : List StructDecl) (t : Ty) (all s from out : List ℕ) {at : ℕ} {kinds names : List ℕ} → (m : Reached ss t all from at kinds names) (r : std.Option PathType) → CopyIs out (type_after ss t all) r → OnwardIs ss t all s out kinds names r
-copy_reached ss t all s from out m (Some (path_types.Inside c)) w = absurd w
-copy_reached ss t all s from out m (Some (path_types.Written c)) w = record { fits = m.fits; stands = w; few = m.few; leaves = m.leaves }
+copy_reached ss t all s from out m (Some (found.Inside c)) w = absurd w
+copy_reached ss t all s from out m (Some (found.Written c)) w = record { fits = m.fits; stands = w; few = m.few; leaves = m.leaves }
 copy_reached ss t all s from out m None w = absurd w
 
 -- then steps within the bytes that were written
 module _ {input : Record} {bytes : List ℕ} {c : ℕ} {kinds names : List ℕ} {i at left : ℕ} {bytes' : List ℕ} {c' : ℕ} {kinds' names' : List ℕ} {i' at' left' : ℕ}
     (g : Onward input bytes c kinds names i at left bytes' c' kinds' names' i' at' left') where
-  pub onward-end : (length kinds' ≡ 8) × (length names' ≡ 8) → (x : Cursor) → x.at ≡ c' → left' ≡ 0 → OnwardSays input bytes c kinds names i at left bytes' kinds' names' (Some (path_types.Written x))
+  pub onward-end : (length kinds' ≡ 8) × (length names' ≡ 8) → (x : Cursor) → x.at ≡ c' → left' ≡ 0 → OnwardSays input bytes c kinds names i at left bytes' kinds' names' (Some (found.Written x))
   onward-end size x o z = record { says = λ j l u all a. rw o (stage_end (g.goes j l u all a) (rw z)); sizes = size }
 
-  module _ {to kinds'' names'' : List ℕ} {r : std.Option Along} (v : AlongSays input bytes' c' kinds' names' i' at' left' to kinds'' names'' r) where
+  module _ {to kinds'' names'' : List ℕ} {r : std.Option (Found Ahead)} (v : AlongSays input bytes' c' kinds' names' i' at' left' to kinds'' names'' r) where
     pub onward-refused : {end : List ℕ} → r ≡ None → OnwardSays input bytes c kinds names i at left end kinds'' names'' None
     onward-refused e = record { says = λ j l u all a. (along-is v e).says j l u all (g.goes j l u all a); sizes = v.sizes }
 
-    pub onward-inside : {x : Cursor} → r ≡ Some (along.Inside x) → OnwardSays input bytes c kinds names i at left bytes' kinds'' names'' (Some (path_types.Written x))
+    pub onward-inside : {x : Cursor} → r ≡ Some (found.Inside x) → OnwardSays input bytes c kinds names i at left bytes' kinds'' names'' (Some (found.Written x))
     onward-inside e = record { says = λ j l u all a. (along-is v e).says j l u all (g.goes j l u all a); sizes = v.sizes }
 
-    pub onward_copied : {x : Cursor} {out : List ℕ} {q : std.Option PathType} → r ≡ Some (along.Inside x) → CopiedSays bytes' x.at out q → OnwardSays input bytes c kinds names i at left out kinds'' names'' q
+    pub onward_copied : {x : Cursor} {out : List ℕ} {q : std.Option PathType} → r ≡ Some (found.Inside x) → CopiedSays bytes' x.at out q → OnwardSays input bytes c kinds names i at left out kinds'' names'' q
     onward_copied {x} {out} {q} e w = record {
       says = λ j l u all a.
           let m = (along-is v e).says j l u all (g.goes j l u all a) in
@@ -334,31 +330,31 @@ module _ {input : Record} {bytes : List ℕ} {c : ℕ} {kinds names : List ℕ} 
       sizes = v.sizes;
     }
 
-    pub onward_written : {a : Ahead} → r ≡ Some (along.Written a) → Onward input bytes c kinds names i at left to 0 kinds'' names'' a.i a.at.at a.left
+    pub onward_written : {a : Ahead} → r ≡ Some (found.Written a) → Onward input bytes c kinds names i at left to 0 kinds'' names'' a.i a.at.at a.left
     onward_written e = record { goes = λ j l u all o. (along-is v e).says j l u all (g.goes j l u all o) }
 
 -- ---- The whole path
 
 path-result : (j : Job) (p : syntax.Path) (s out kinds names : List ℕ) (r : std.Option PathType) → OnwardIs j.structs (variable_type j p.base) p.steps s out kinds names r → PathResult j p s out kinds names r
 unfolding path_fits path_type
-path-result j p s out kinds names (Some (path_types.Inside c)) w = record { fits = w.fits; stands = w.stands; few = w.few; leaves = w.leaves }
-path-result j p s out kinds names (Some (path_types.Written c)) w = record { fits = w.fits; stands = w.stands; few = w.few; leaves = w.leaves }
+path-result j p s out kinds names (Some (found.Inside c)) w = record { fits = w.fits; stands = w.stands; few = w.few; leaves = w.leaves }
+path-result j p s out kinds names (Some (found.Written c)) w = record { fits = w.fits; stands = w.stands; few = w.few; leaves = w.leaves }
 path-result j p s out kinds names None w = w
 
-module _ {input : Record} (p : repr.Path) {c : ℕ} {kinds names : List ℕ} {out kinds' names' : List ℕ} {r : std.Option Along} (v : c ≡ get_or input.layout.now.variables p.base.0 0)
+module _ {input : Record} (p : repr.Path) {c : ℕ} {kinds names : List ℕ} {out kinds' names' : List ℕ} {r : std.Option (Found Ahead)} (v : c ≡ get_or input.layout.now.variables p.base.0 0)
     (g : AlongSays input input.bytes.now c kinds names 0 p.from.at p.steps out kinds' names' r) where
-  reaches : (j : Job) → Holds input j → p.base.0 < length j.variables → {x : std.Option Along} → r ≡ x → AlongIs j.structs (variable_type j p.base.0) (path_of input.bytes.now p).steps input.bytes.now input.bytes.now out kinds' names' x
+  reaches : (j : Job) → Holds input j → p.base.0 < length j.variables → {x : std.Option (Found Ahead)} → r ≡ x → AlongIs j.structs (variable_type j p.base.0) (path_of input.bytes.now p).steps input.bytes.now input.bytes.now out kinds' names' x
   reaches j l o e =
       let w = variable_at l p.base.0 UnitTy o in
       (along-is g e).says j l (variable_type j p.base.0) (path_of input.bytes.now p).steps (stage_start (rw v (type-stands w.reads)) (type-few (drop (get_or input.layout.now.variables p.base.0 0) input.bytes.now) w.reads))
 
-  pub path_inside : {x : Cursor} {end : List ℕ} → r ≡ Some (along.Inside x) → PathSays input p end kinds' names' (Some (path_types.Inside x))
-  path_inside {x} {end} e = record { says = λ j l o. path-result j (path_of input.bytes.now p) input.bytes.now end kinds' names' (Some (path_types.Inside x)) (reaches j l o e); sizes = g.sizes }
+  pub path_inside : {x : Cursor} {end : List ℕ} → r ≡ Some (found.Inside x) → PathSays input p end kinds' names' (Some (found.Inside x))
+  path_inside {x} {end} e = record { says = λ j l o. path-result j (path_of input.bytes.now p) input.bytes.now end kinds' names' (Some (found.Inside x)) (reaches j l o e); sizes = g.sizes }
 
   pub path-refused : {end : List ℕ} → r ≡ None → PathSays input p end kinds' names' None
   path-refused {end} e = record { says = λ j l o. path-result j (path_of input.bytes.now p) input.bytes.now end kinds' names' None (reaches j l o e); sizes = g.sizes }
 
-  pub path-onward : {a : Ahead} {end kinds'' names'' : List ℕ} {q : std.Option PathType} → r ≡ Some (along.Written a) → OnwardSays input out 0 kinds' names' a.i a.at.at a.left end kinds'' names'' q → PathSays input p end kinds'' names'' q
+  pub path-onward : {a : Ahead} {end kinds'' names'' : List ℕ} {q : std.Option PathType} → r ≡ Some (found.Written a) → OnwardSays input out 0 kinds' names' a.i a.at.at a.left end kinds'' names'' q → PathSays input p end kinds'' names'' q
   path-onward {end = end} {kinds'' = kinds''} {names'' = names''} {q = q} e u = record {
     says = λ j l o. path-result j (path_of input.bytes.now p) input.bytes.now end kinds'' names'' q (u.says j l (variable_type j p.base.0) (path_of input.bytes.now p).steps (reaches j l o e));
     sizes = u.sizes;
@@ -371,5 +367,5 @@ abbrev pub no_entries : List ℕ
 no_entries = 0 ∷ 0 ∷ 0 ∷ 0 ∷ 0 ∷ 0 ∷ 0 ∷ 0 ∷ []
 
 -- its type stands where its variable's does
-pub stepless : {input : Record} (p : repr.Path) (x : Cursor) → p.steps ≡ 0 → x.at ≡ get_or input.layout.now.variables p.base.0 0 → PathSays input p [] no_entries no_entries (Some (path_types.Inside x))
+pub stepless : {input : Record} (p : repr.Path) (x : Cursor) → p.steps ≡ 0 → x.at ≡ get_or input.layout.now.variables p.base.0 0 → PathSays input p [] no_entries no_entries (Some (found.Inside x))
 stepless {input} p x z v = path_inside p v (along-end (onward input input.bytes.now x.at no_entries no_entries 0 p.from.at p.steps) (refl, refl) {to = []} x refl z) refl

@@ -15,10 +15,9 @@ use Rattle.record.specs.Layout.{Holds}
 use Rattle.record.specs.declared.Record.{Record}
 use Rattle.std.specs.Prelude.{Option, Some, None}
 use Rattle.env.specs.Prefixes.{Leaves, ShortestIn, ShortestOf}
-use Rattle.env.specs.Paths.{PathResult, PathSays}
+use Rattle.env.specs.Paths.{PathType, PathResult, PathSays}
 use Rattle.env.specs.declared.Shortest.{Shortest}
-use Rattle.env.specs.declared.paths.PathType.{PathType}
-use Rattle.env.specs.declared.paths.PathType.TheVariants.{Inside, Written}
+use Rattle.env.specs.declared.paths.Found.TheVariants.{Inside, Written}
 use Rattle.env.proofs.PathLaws.{no_leaves, no_entries}
 use Rattle.env.proofs.PrefixLaws.{shortest-of, shortest-none}
 

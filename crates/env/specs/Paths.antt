@@ -15,12 +15,14 @@ use Rattle.ty.specs.Written.{Given}
 use Rattle.ty.specs.declared.write.Arguments.{Arguments}
 use Rattle.env.specs.Fields.{TypeThere}
 use Rattle.env.specs.Prefixes.{kind_code, Leaves}
-use Rattle.env.specs.declared.paths.PathType.{PathType}
-use Rattle.env.specs.declared.paths.PathType.TheVariants as path_types
-use Rattle.env.specs.declared.paths.Along.{Along}
-use Rattle.env.specs.declared.paths.Along.TheVariants as along
-use Rattle.env.specs.declared.paths.Stepped.{Stepped}
-use Rattle.env.specs.declared.paths.Stepped.TheVariants as stepped
+use Rattle.repr.specs.declared.Cursor.{Cursor}
+use Rattle.env.specs.declared.paths.Ahead.{Ahead}
+use Rattle.env.specs.declared.paths.Found.{Found}
+use Rattle.env.specs.declared.paths.Found.TheVariants as found
+
+-- the type of a path, in the record or from a place of the lent bytes on
+abbrev pub PathType : Type 0
+PathType = Found Cursor
 
 -- ---- The whole path
 
@@ -33,8 +35,8 @@ pub record PathIs (j : Job) (p : Path) (bytes : List ℕ) (at : ℕ) (kinds name
 
 -- Its type stands in the record s or in the lent bytes, or it may not be taken.
 abbrev pub PathResult : Job → Path → List ℕ → List ℕ → List ℕ → List ℕ → std.Option PathType → Type 0
-PathResult j p s out kinds names (Some (path_types.Inside c)) = PathIs j p s c.at kinds names
-PathResult j p s out kinds names (Some (path_types.Written c)) = PathIs j p out c.at kinds names
+PathResult j p s out kinds names (Some (found.Inside c)) = PathIs j p s c.at kinds names
+PathResult j p s out kinds names (Some (found.Written c)) = PathIs j p out c.at kinds names
 PathResult j p s out kinds names None = path_fits j p ≡ false
 
 -- What `path_type` says of a path whose base the job has.
@@ -61,22 +63,22 @@ small none = false
 small (some u) = leb (type_nodes u) max_nodes
 
 -- The step reaches a type of `from` or of `to`, or none that it may reach.
-abbrev pub Moves : List ℕ → List ℕ → Option Ty → std.Option Stepped → Type 0
-Moves from to o (Some (stepped.Inside c)) = TypeThere from c.at o
-Moves from to o (Some stepped.Written) = TypeThere to 0 o
+abbrev pub Moves : List ℕ → List ℕ → Option Ty → std.Option (Found (Unit {0})) → Type 0
+Moves from to o (Some (found.Inside c)) = TypeThere from c.at o
+Moves from to o (Some (found.Written u)) = TypeThere to 0 o
 Moves from to o None = small o ≡ false
 
 -- The same for a field of a struct with the arguments that stand there.
-pub record FieldStepSays (input : Record) (name f : ℕ) (a : Arguments) (to : List ℕ) (r : std.Option Stepped) : Type 0 where
+pub record FieldStepSays (input : Record) (name f : ℕ) (a : Arguments) (to : List ℕ) (r : std.Option (Found (Unit {0}))) : Type 0 where
   pub says : (j : Job) → Holds input j → (g : Args) → Given a g → Moves a.bytes.now to (step_type j.structs (StructTy name g) f) r
 
 -- The same, and what it leaves is noted.
-abbrev pub StepIs : List ℕ → List ℕ → Option Ty → Type 0 → std.Option Stepped → Type 0
-StepIs from to o noted (Some (stepped.Inside c)) = TypeThere from c.at o × noted
-StepIs from to o noted (Some stepped.Written) = TypeThere to 0 o × noted
+abbrev pub StepIs : List ℕ → List ℕ → Option Ty → Type 0 → std.Option (Found (Unit {0})) → Type 0
+StepIs from to o noted (Some (found.Inside c)) = TypeThere from c.at o × noted
+StepIs from to o noted (Some (found.Written u)) = TypeThere to 0 o × noted
 StepIs from to o noted None = small o ≡ false
 
-pub record StepSays (input : Record) (from : List ℕ) (at f i : ℕ) (to kinds names kinds' names' : List ℕ) (r : std.Option Stepped) : Type 0 where
+pub record StepSays (input : Record) (from : List ℕ) (at f i : ℕ) (to kinds names kinds' names' : List ℕ) (r : std.Option (Found (Unit {0}))) : Type 0 where
   pub says : (j : Job) → Holds input j → (u : Ty) → TypeAt from at u → type_nodes u ≤ max_nodes → StepIs from to (step_type j.structs u f) (Noted u i kinds names kinds' names') r
   pub kind_size : length kinds' ≡ length kinds
   pub name_size : length names' ≡ length names
@@ -85,8 +87,8 @@ pub record StepSays (input : Record) (from : List ℕ) (at f i : ℕ) (to kinds 
 
 -- the type u stands in the lent bytes
 abbrev pub CopyIs : List ℕ → Ty → std.Option PathType → Type 0
-CopyIs out u (Some (path_types.Inside c)) = ⊥
-CopyIs out u (Some (path_types.Written c)) = TypeAt out c.at u
+CopyIs out u (Some (found.Inside c)) = ⊥
+CopyIs out u (Some (found.Written c)) = TypeAt out c.at u
 CopyIs out u None = ⊥
 
 pub record CopiedSays (s : List ℕ) (at : ℕ) (out : List ℕ) (r : std.Option PathType) : Type 0 where
@@ -112,26 +114,26 @@ pub record Reached (ss : List StructDecl) (t : Ty) (all bytes : List ℕ) (at : 
   pub leaves : Leaves ss t all kinds names
 
 -- The steps end in the bytes `from`, or one is written into `to` with steps that are left, or they may not be taken.
-abbrev pub AlongIs : List StructDecl → Ty → List ℕ → List ℕ → List ℕ → List ℕ → List ℕ → List ℕ → std.Option Along → Type 0
-AlongIs ss t all s from to kinds names (Some (along.Inside c)) = Reached ss t all from c.at kinds names
-AlongIs ss t all s from to kinds names (Some (along.Written a)) = Stage ss t all to 0 kinds names a.i (take a.left (drop a.at.at s))
+abbrev pub AlongIs : List StructDecl → Ty → List ℕ → List ℕ → List ℕ → List ℕ → List ℕ → List ℕ → std.Option (Found Ahead) → Type 0
+AlongIs ss t all s from to kinds names (Some (found.Inside c)) = Reached ss t all from c.at kinds names
+AlongIs ss t all s from to kinds names (Some (found.Written a)) = Stage ss t all to 0 kinds names a.i (take a.left (drop a.at.at s))
 AlongIs ss t all s from to kinds names None = steps_fit ss t all ≡ false
 
 -- Where a type is written, fewer steps are left, and their numbers end no later.
-abbrev pub Taken : ℕ → ℕ → std.Option Along → Type 0
-Taken i left (Some (along.Inside c)) = Unit {0}
-Taken i left (Some (along.Written a)) = (a.left < left) × (a.i + a.left ≤ i + left)
+abbrev pub Taken : ℕ → ℕ → std.Option (Found Ahead) → Type 0
+Taken i left (Some (found.Inside c)) = Unit {0}
+Taken i left (Some (found.Written a)) = (a.left < left) × (a.i + a.left ≤ i + left)
 Taken i left None = Unit {0}
 
 -- What steps from the type that stands there reach.
-pub record AlongSays (input : Record) (from : List ℕ) (c : ℕ) (kinds names : List ℕ) (i at left : ℕ) (to kinds' names' : List ℕ) (r : std.Option Along) : Type 0 where
+pub record AlongSays (input : Record) (from : List ℕ) (c : ℕ) (kinds names : List ℕ) (i at left : ℕ) (to kinds' names' : List ℕ) (r : std.Option (Found Ahead)) : Type 0 where
   pub says : (j : Job) → Holds input j → (u : Ty) (all : List ℕ) → Stage j.structs u all from c kinds names i (take left (drop at input.bytes.now)) → AlongIs j.structs u all input.bytes.now from to kinds' names' r
   pub sizes : (length kinds' ≡ 8) × (length names' ≡ 8)
   pub taken : Taken i left r
 
 abbrev pub OnwardIs : List StructDecl → Ty → List ℕ → List ℕ → List ℕ → List ℕ → List ℕ → std.Option PathType → Type 0
-OnwardIs ss t all s out kinds names (Some (path_types.Inside c)) = Reached ss t all s c.at kinds names
-OnwardIs ss t all s out kinds names (Some (path_types.Written c)) = Reached ss t all out c.at kinds names
+OnwardIs ss t all s out kinds names (Some (found.Inside c)) = Reached ss t all s c.at kinds names
+OnwardIs ss t all s out kinds names (Some (found.Written c)) = Reached ss t all out c.at kinds names
 OnwardIs ss t all s out kinds names None = steps_fit ss t all ≡ false
 
 -- The same, to the last step.

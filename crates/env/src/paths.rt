@@ -10,19 +10,15 @@ use record::Record;
 use repr::{Cursor, FieldName, Node, Path, Region, RegionName, StructName};
 use ty::write::{Arguments, copy, subst};
 
-// The type of a path, in the record or written into the lent bytes, from a place on.
+// A type that steps reach: in the bytes that they begin in, or written into others.
 #[derive(Clone, Copy)]
-pub enum PathType {
+pub enum Found<T> {
     Inside(Cursor),
-    Written(Cursor),
+    Written(T),
 }
 
-// What a step reaches: a type in the same bytes, or one that was written into the others from the first on.
-#[derive(Clone, Copy)]
-enum Stepped {
-    Inside(Cursor),
-    Written,
-}
+// The type of a path, in the record or written into the lent bytes, from a place on.
+pub type PathType = Found<Cursor>;
 
 // The steps of a path that are left: so many, at a place, the first of them number i.
 #[derive(Clone, Copy)]
@@ -30,13 +26,6 @@ struct Ahead {
     at: Cursor,
     left: u8,
     i: usize,
-}
-
-// What the steps within the same bytes reach: a type in these bytes, or one that a step wrote into the others, from the first on, with the steps that are left.
-#[derive(Clone, Copy)]
-enum Along {
-    Inside(Cursor),
-    Written(Ahead),
 }
 
 // The name of a region, or 0 where it has none.
@@ -58,22 +47,22 @@ fn note(taken: &mut [Step; 8], i: usize, step: Step)
     }
 }
 
-// A field of a struct with these arguments.
+// A field of a struct with these arguments, written from the first byte on.
 fn field_step(
     input: &Record<'_>,
     name: StructName,
     f: FieldName,
     given: &Arguments<'_>,
     to: &mut [u8; 512],
-) -> Option<Stepped>
+) -> Option<Found<()>>
     ensures { FieldStepSays input.now name.0 f.0 given.now to.new result }
 {
     let x = field_type(input.bytes, input.struct_decl_at(name), f)?;
     subst(input.bytes, x, given, to)?;
-    Some(Stepped::Written)
+    Some(Found::Written(()))
 }
 
-// Step i, from the type at c.
+// Step i, from the type at c. What it writes begins at the first byte.
 fn take_step(
     input: &Record<'_>,
     from: &[u8],
@@ -82,7 +71,7 @@ fn take_step(
     i: usize,
     to: &mut [u8; 512],
     taken: &mut [Step; 8],
-) -> Option<Stepped>
+) -> Option<Found<()>>
     ensures { StepSays input.now from.now c.at f.0 i to.new (kinds_of taken.old) (names_of taken.old) (kinds_of taken.new) (names_of taken.new) result }
 {
     match c.type_node(from).ok()? {
@@ -96,7 +85,7 @@ fn take_step(
             }
             let region = name_of(region);
             note(taken, i, Step::Ref { kind, region });
-            Some(Stepped::Inside(referent))
+            Some(Found::Inside(referent))
         }
         Node::Struct {
             name,
@@ -120,10 +109,10 @@ fn copied(s: &[u8], c: Cursor, out: &mut [u8; 512]) -> Option<PathType>
     ensures { CopiedSays s.now c.at out.new result }
 {
     copy(s, c, out)?;
-    Some(PathType::Written(Cursor { at: 0 }))
+    Some(Found::Written(Cursor { at: 0 }))
 }
 
-// The steps ahead from the type at `start`, as long as they stay in the same bytes. The one that does not is written into the others.
+// The steps ahead from the type at `start`, as long as they stay in the same bytes. The type that one does not is written into the others, from the first on, and comes with the steps that are left.
 fn steps_within(
     input: &Record<'_>,
     from: &[u8],
@@ -131,7 +120,7 @@ fn steps_within(
     ahead: Ahead,
     to: &mut [u8; 512],
     taken: &mut [Step; 8],
-) -> Option<Along>
+) -> Option<Found<Ahead>>
     requires { ahead.i + ahead.left ≤ 255 }
     ensures { AlongSays input.now from.now start.at (kinds_of taken.old) (names_of taken.old) ahead.i ahead.at.at ahead.left to.new (kinds_of taken.new) (names_of taken.new) result }
 {
@@ -139,23 +128,23 @@ fn steps_within(
     let mut at = ahead.at;
     for k in 0..ahead.left {
         let Ok((f, next)) = at.byte(input.bytes) else {
-            return Some(Along::Inside(c));
+            return Some(Found::Inside(c));
         };
         let i = ahead.i + usize::from(k);
         match take_step(input, from, c, FieldName(f), i, to, taken)? {
-            Stepped::Written => {
+            Found::Written(()) => {
                 let left = ahead.left - k - 1;
-                return Some(Along::Written(Ahead {
+                return Some(Found::Written(Ahead {
                     at: next,
                     left,
                     i: i + 1,
                 }));
             }
-            Stepped::Inside(d) => c = d,
+            Found::Inside(d) => c = d,
         }
         at = next;
     }
-    Some(Along::Inside(c))
+    Some(Found::Inside(c))
 }
 
 // The steps ahead from the type that the lent bytes begin with. What a step writes goes into the other bytes in turn.
@@ -173,14 +162,14 @@ fn steps_on(
     let mut ahead = from;
     while ahead.left != 0 {
         match steps_within(input, out, start, ahead, spare, taken)? {
-            Along::Inside(c) => return Some(PathType::Written(c)),
-            Along::Written(more) => match steps_within(input, spare, start, more, out, taken)? {
-                Along::Inside(c) => return copied(spare, c, out),
-                Along::Written(rest) => ahead = rest,
+            Found::Inside(c) => return Some(Found::Written(c)),
+            Found::Written(more) => match steps_within(input, spare, start, more, out, taken)? {
+                Found::Inside(c) => return copied(spare, c, out),
+                Found::Written(rest) => ahead = rest,
             },
         }
     }
-    Some(PathType::Written(start))
+    Some(Found::Written(start))
 }
 
 // The type of a path whose steps may be taken, and what each of its first 8 steps leaves.
@@ -200,7 +189,7 @@ pub fn path_type(
         i: 0,
     };
     match steps_within(input, input.bytes, c, ahead, out, taken)? {
-        Along::Inside(d) => Some(PathType::Inside(d)),
-        Along::Written(rest) => steps_on(input, rest, out, spare, taken),
+        Found::Inside(d) => Some(Found::Inside(d)),
+        Found::Written(rest) => steps_on(input, rest, out, spare, taken),
     }
 }

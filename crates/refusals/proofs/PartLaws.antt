@@ -2,10 +2,10 @@
 use mathlib.Core.Path.{◌≡◌, refl, sym, ap, ◌∙◌}
 use mathlib.Core.Bool.{Bool, true, false, ◌&&◌, and-true, not}
 use mathlib.Core.List.{List, [], ◌∷◌, ◌++◌}
-use Prim.Native.Nat.{ℕ, zero, suc, ◌≤◌, ◌<◌}
+use Prim.Native.Nat.{ℕ, zero, suc, ◌<◌}
 use native.Mathlib.Omega.{arith}
 use native.Mathlib.Decide.{dec_lt}
-use lib.ListN.{length, take, drop, drop_of_length-le}
+use lib.ListN.{length, take, drop}
 use lib.Dec.{eqb, ltb, leb}
 use borrow.Author.Tests.{lt-ltb, ne_eqb}
 use Rattle.nll_spec.specs.Lists.{every, gather}
@@ -32,17 +32,8 @@ use Rattle.refusals.specs.Tests.{Sized, pass, pass_says, Passes, Tested, all_bel
 -- ---- What was read
 
 module _ {A : Type 0} {m : Reader A} {f : A → Bool} {s : List ℕ} {at : ℕ} where
-  pub none_passes : {k : ℕ} {r : Result Cursor Refusal} → m (drop at s) ≡ refused k → Passes m f s at r
-  none_passes e = record { says = λ x bs i. absurd (clash (sym e ∙ i)) }
-
   pub none_tested : {k : ℕ} {r : Bool} → m (drop at s) ≡ refused k → Tested m f s at r
   none_tested e = record { says = λ x bs i. absurd (clash (sym e ∙ i)) }
-
-  pub read-passes : {x : A} {c : Cursor} → m (drop at s) ≡ read x (rest s c) → f x ≡ true → Passes m f s at (Ok c)
-  read-passes {x} {c} e k = record { says = λ y bs i. carry (λ z o. pass_says s (Ok c) ≡ pass (f z) o) (sym e ∙ i) (rw k) }
-
-  pub read-fails : {x : A} {bs : List ℕ} {l : Refusal} → m (drop at s) ≡ read x bs → f x ≡ false → Passes m f s at (Err l)
-  read-fails {l = l} e k = record { says = λ y o i. carry (λ z p. pass_says s (Err l) ≡ pass (f z) p) (sym e ∙ i) (rw k) }
 
 -- ---- A field
 
@@ -72,13 +63,6 @@ module _ (j : Job) (n : ℕ) (t : Ty) where
   field_numbered z = let h : ltb 0 n ≡ true = lt-ltb 0 n (omega arith) in rw h
 
 -- ---- Bytes below a limit
-
-below_nothing : (limit n : ℕ) → all_below limit (take n []) ≡ true
-below_nothing limit zero = refl
-below_nothing limit (suc n) = refl
-
-pub below_out : (limit n : ℕ) (s : List ℕ) (at : ℕ) → length s < at → true ≡ all_below limit (take n (drop at s))
-below_out limit n s at h = let l : length s ≤ at = omega arith in rw (drop_of_length-le s l, below_nothing limit n)
 
 bytes-are : (n : ℕ) (bs : List ℕ) {xs end : List ℕ} → items n byte bs ≡ read xs end → xs ≡ take n bs
 bytes-are n bs {xs} {end} e = go (dec_lt (length bs) n)

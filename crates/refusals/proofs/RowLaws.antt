@@ -2,7 +2,7 @@
 use mathlib.Core.Path.{◌≡◌, refl, sym, ap, ◌∙◌}
 use mathlib.Core.Bool.{Bool, true, false, ◌&&◌, and-false}
 use mathlib.Core.List.{List, [], ◌∷◌}
-use Prim.Native.Nat.{ℕ, zero, suc, ◌+◌, ◌-◌, ◌<◌}
+use Prim.Native.Nat.{ℕ, zero, suc, ◌-◌, ◌<◌}
 use native.Mathlib.Omega.{arith}
 use lib.ListN.{length, get_or, drop}
 use Rattle.nll_spec.specs.Lists.{every}
@@ -11,6 +11,7 @@ use Rattle.nll_spec.specs.Decode.{read, Reader, done, byte, items, counted, max_
 use Rattle.repr.specs.declared.Cursor.{Cursor}
 use Rattle.repr.specs.declared.StructDecl as declared
 use Rattle.repr.specs.declared.refusal.Refusal.{Refusal}
+use Rattle.std.proofs.Common.{rules}
 use Rattle.std.specs.Prelude.{Result, Ok, Err, is_ok}
 use Rattle.repr.specs.Stands.{Stands}
 use Rattle.record.specs.Layout.{Layout}
@@ -20,7 +21,7 @@ use Rattle.record.specs.declared.Offsets.{Offsets}
 use Rattle.record.proofs.AccessLaws.{outlives-at, variable_at, block-at}
 use Rattle.repr.proofs.ItemLaws.{first_of, none_of}
 use Rattle.refusals.specs.Tests.{Sized, over, fails, pass, pass_says, Passes, Tested, ItemTested, no_block}
-use Rattle.refusals.specs.Rows.{Along, none, more, stop}
+use Rattle.repr.specs.Rows.{Along, none, more, stop}
 use Rattle.repr.specs.Reading.{rest}
 use native.Mathlib.Numerals.{sub-one}
 use native.Mathlib.Nat.{zero-add}
@@ -37,7 +38,7 @@ use Rattle.std.proofs.lemmas.List.FromFn.{get_or-range_with_len, length-range_wi
 -- ---- What the answer tells of the test
 
 pub told_fails : (z : Bool) (p : List ℕ) → fails ≡ pass z p → z ≡ false
-told_fails true p e = absurd (let z : ◌≡◌ {A = ℕ} 0 1 = cc in omega arith)
+told_fails true p e = absurd (search rules)
 told_fails false p e = refl
 
 pub record Over (z : Bool) (p q : List ℕ) : Type 0 where
@@ -46,7 +47,7 @@ pub record Over (z : Bool) (p q : List ℕ) : Type 0 where
 
 pub told_over : (z : Bool) {p : List ℕ} (q : List ℕ) → over p ≡ pass z q → Over z p q
 told_over true q e = record { passes = refl; ends = cc }
-told_over false q e = absurd (let z : ◌≡◌ {A = ℕ} 0 1 = cc in omega arith)
+told_over false q e = absurd (search rules)
 
 -- whether it passed, and no more
 pub only_test : {A : Type 0} {m : Reader A} {f : A → Bool} {s : List ℕ} {at : ℕ} {d : Result Cursor Refusal} {r : Bool} → Passes m f s at d → r ≡ is_ok d → Tested m f s at r
@@ -75,20 +76,6 @@ along_passes m f s h (stop {n = n} {c = c} {k = k} p) = record {
       let t = told_fails (f u.item) u.mid ((h c (Err k) p).says u.item u.mid u.first) in
       ap (λ (z : Bool). pass z end) (sym (ap (every f) u.same ∙ ap (λ (z : Bool). z && every f u.others) t));
 }
-
--- Of n tests from one place on, `over` were passed, up to c.
-pub record Going (Test : Cursor → Result Cursor Refusal → Type 0) (n : ℕ) (from : Cursor) (over : ℕ) (c : Cursor) : Type 0 where
-  pub whole : (r : Result Cursor Refusal) → Along Test (n - over) c r → Along Test n from r
-
-module _ {Test : Cursor → Result Cursor Refusal → Type 0} {n over : ℕ} {from c : Cursor} (g : Going Test n from over c) where
-  pub going_more : {next : Cursor} → over < n → Test c (Ok next) → Going Test n from (over + 1) next
-  going_more h t = record { whole = λ r p. g.whole r (let e : n - over ≡ suc (n - (over + 1)) = omega arith in rw e (more t p)) }
-
-  pub going_stop : {k : Refusal} → over < n → Test c (Err k) → Along Test n from (Err k)
-  going_stop {k} h t = g.whole (Err k) (let e : n - over ≡ suc (n - (over + 1)) = omega arith in rw e (stop t))
-
-  pub going_end : over ≡ n → Along Test n from (Ok c)
-  going_end h = g.whole (Ok c) (let e : n - over ≡ 0 = omega arith in rw e none)
 
 -- ---- A row of the table
 

@@ -19,6 +19,7 @@ use Rattle.repr.specs.Stands.{TypeTo, ArgsTo, FirstType}
 use Rattle.repr.proofs.StandLaws.{LeafIs, on-node, on_argument, none_is, args-bytes, whole}
 use Rattle.repr.proofs.NodeLaws.{type-nodes, ref_nodes, struct_nodes, first-nodes}
 use Rattle.refusals.specs.Tests.{onto, stays, walk, walk_says, FewerNodes, TypeWalk, ArgsWalk, Passes}
+use Rattle.std.proofs.Common.{rules}
 use Rattle.std.specs.Prelude.{Result, Ok, Err}
 use Rattle.repr.specs.declared.Node.{Node}
 use Rattle.repr.specs.declared.Node.TheVariants as nodes
@@ -30,7 +31,7 @@ use Rattle.repr.specs.declared.refusal.Refusal.{Refusal}
 -- ---- What the answer tells of the test
 
 pub told_stays : (z : Bool) (l : ℕ) (p : List ℕ) → stays ≡ walk z l p → z ≡ false
-told_stays true l p e = absurd (let z : ◌≡◌ {A = ℕ} 0 1 = cc in omega arith)
+told_stays true l p e = absurd (search rules)
 told_stays false l p e = refl
 
 pub record Onto (z : Bool) (k l : ℕ) (p q : List ℕ) : Type 0 where
@@ -40,7 +41,7 @@ pub record Onto (z : Bool) (k l : ℕ) (p q : List ℕ) : Type 0 where
 
 pub told_onto : (z : Bool) {k : ℕ} (l : ℕ) {p : List ℕ} (q : List ℕ) → onto k p ≡ walk z l q → Onto z k l p q
 told_onto true l q e = record { passes = refl; nodes = cc; ends = cc }
-told_onto false l q e = absurd (let z : ◌≡◌ {A = ℕ} 0 1 = cc in omega arith)
+told_onto false l q e = absurd (search rules)
 
 pub fewer-still : {l left : ℕ} (r : Result Rest Refusal) → FewerNodes l r → l ≤ left → FewerNodes left r
 fewer-still (Ok e) h g = omega arith

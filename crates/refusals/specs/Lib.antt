@@ -1,4 +1,3 @@
 -- What the tests of refusals 6 and 7 say.
 pub mod Tests
 pub mod Fits
-pub mod Rows

@@ -7,7 +7,6 @@ ghost use Rattle.record.specs.Layout.{Holds};
 ghost use Rattle.refusals.specs.Tests.{Sized, Passes, ItemTested, no_block, own_named, block_named, blocks_named};
 
 use super::parts::all_below;
-use super::rows::each;
 use record::Record;
 use repr::{Action, BasicBlockIndex, Cursor, Refusal, RegionName, Variable};
 
@@ -67,7 +66,7 @@ fn action_named(input: &Record<'_>, c: Cursor) -> Result<Cursor, Refusal>
 {
     let (a, next) = c.action(input.bytes)?;
     if own_named(input, a) {
-        each(next, a.sources(), |c| path_named(input, c))
+        next.each(a.sources(), |c| path_named(input, c))
     } else {
         Err(Refusal::Name)
     }
@@ -81,7 +80,7 @@ fn block_named(input: &Record<'_>, index: BasicBlockIndex) -> bool
         return false;
     };
     all_below(input.bytes, b.targets, b.successors, input.head.blocks)
-        && each(b.code, b.actions, |c| action_named(input, c)).is_ok()
+        && b.code.each(b.actions, |c| action_named(input, c)).is_ok()
 }
 
 // The same of all blocks, reached or not.

@@ -5,7 +5,6 @@ mod fits;
 mod names;
 mod part_fits;
 mod parts;
-pub mod rows;
 
 ghost use Rattle.std.specs.Prelude.{◌≡◌};
 ghost use Rattle.nll_spec.specs.Syntax.{Job};

@@ -9,7 +9,6 @@ ghost use Rattle.refusals.specs.Tests.{Passes, ItemTested};
 ghost use Rattle.refusals.specs.Fits.{Within, field_fits, struct_fits};
 
 use super::fits::ty_fits;
-use super::rows::each;
 use record::Record;
 use repr::{Cursor, Refusal, Row, StructName, Variable};
 
@@ -27,12 +26,10 @@ fn struct_fits(input: &Record<'_>, name: StructName) -> bool
 {
     let d = input.struct_decl_at(name);
     let around = d.parameters;
-    each(
-        d.fields.from,
-        d.fields.count,
-        |c| field_fits(input, c, around),
-    )
-    .is_ok()
+    d.fields
+        .from
+        .each(d.fields.count, |c| field_fits(input, c, around))
+        .is_ok()
 }
 
 pub fn structs_fit(input: &Record<'_>) -> bool

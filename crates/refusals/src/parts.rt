@@ -8,7 +8,6 @@ ghost use Rattle.record.specs.Layout.{Holds};
 ghost use Rattle.refusals.specs.Tests.{Sized, Passes, ItemTested, all_below, struct_named};
 
 use super::names::ty_named;
-use super::rows::each;
 use record::Record;
 use repr::{Cursor, Refusal, RegionName, StructName, Variable};
 
@@ -27,7 +26,10 @@ fn struct_named(input: &Record<'_>, name: StructName) -> bool
     ensures { (j : Job) → Holds input.now j → result ≡ struct_named j (struct_of j.structs name.0) }
 {
     let d = input.struct_decl_at(name);
-    each(d.fields.from, d.fields.count, |c| field_named(input, c)).is_ok()
+    d.fields
+        .from
+        .each(d.fields.count, |c| field_named(input, c))
+        .is_ok()
 }
 
 pub fn structs_named(input: &Record<'_>) -> bool

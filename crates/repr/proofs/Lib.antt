@@ -1,5 +1,6 @@
 pub mod ReadLaws
 pub mod PartLaws
+pub mod RowLaws
 pub mod SpellLaws
 pub mod DepthLaws
 pub mod TypeLaws

@@ -24,10 +24,6 @@ pub struct_nodes : {t : Ty} {name : ℕ} {g : Args} → t ≡ StructTy name g �
 unfolding type_nodes
 struct_nodes e = rw e
 
-pub none-nodes : {g : Args} → g ≡ NoArgs → arg_nodes g ≡ 0
-unfolding arg_nodes
-none-nodes e = rw e
-
 pub region-nodes : {g more : Args} {r : Region} → g ≡ RegionArg r more → arg_nodes g ≡ arg_nodes more
 unfolding arg_nodes
 region-nodes e = rw e

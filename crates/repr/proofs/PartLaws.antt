@@ -1,20 +1,15 @@
--- Parts that hold rows: a row only counted, a row passed over, and where such a part ends. Assumes nothing.
-use mathlib.Core.Path.{◌≡◌, refl, sym, ap, subst, ◌∙◌}
-use mathlib.Core.List.{List, ◌∷◌}
-use Prim.Native.Nat.{ℕ, zero, suc, ◌+◌, ◌-◌, ◌<◌}
-use native.Mathlib.Omega.{arith}
-use native.Mathlib.Numerals.{sub-one}
-use lib.ListN.{drop}
-use Rattle.nll_spec.specs.Decode.{Reading, refused, read, Reader, done, ◌>>=◌, count, items, counted, path, field, struct_decl}
+-- Parts that hold rows: a row only counted, and where such a part ends. Assumes nothing.
+use mathlib.Core.Path.{◌≡◌, refl, sym, ap, ◌∙◌}
+use mathlib.Core.List.{List}
+use Prim.Native.Nat.{ℕ}
+use Rattle.nll_spec.specs.Decode.{Reading, refused, read, Reader, done, ◌>>=◌, count, items, counted, path}
 use Rattle.repr.specs.Reading.{rest, ended}
-use Rattle.repr.specs.Parts.{Readable, struct_of, struct_says, StructSays, ParametersRead, action_read, sources_of}
+use Rattle.repr.specs.Parts.{Readable, action_read, sources_of}
+use Rattle.std.proofs.Common.{rules}
 use Rattle.repr.specs.declared.Cursor.{Cursor}
 use Rattle.repr.specs.declared.Action.{Action}
 use Rattle.repr.specs.declared.Action.TheVariants.{Noop, Init, Borrow, Assign, Constraint, Use, Drop, StorageDead}
-use Rattle.repr.specs.declared.StructDecl.{StructDecl}
-use Rattle.repr.proofs.ReadLaws.{step, stop, told}
-use Rattle.repr.specs.declared.refusal.Refusal.{Refusal}
-use Rattle.std.specs.Prelude.{Result, Ok}
+use Rattle.repr.proofs.ReadLaws.{step, stop}
 
 -- ---- A row that is counted, and what follows it
 
@@ -42,14 +37,14 @@ module _ {A B : Type 0} (m : Reader A) (f : A → Reader B) (bs : List ℕ) wher
     where
       go : (x : Reading A) → ended x ≡ refused k → ended {A = B} (elim x as (λ y. Reading B) [ refused n ↦ refused n | read a over ↦ f a over ]) ≡ refused k
       go (refused n) e = e
-      go (read a over) e = absurd (let z : ◌≡◌ {A = ℕ} 0 1 = cc in omega arith)
+      go (read a over) e = absurd (search rules)
 
   pub end_then : {after : List ℕ} {y : Reading (Unit {0})} → ended (m bs) ≡ read tt after → ((a : A) → ended (f a after) ≡ y) → ended (◌>>=◌ m f bs) ≡ y
   unfolding ◌>>=◌
   end_then {after} {y} e k = go (m bs) e
     where
       go : (x : Reading A) → ended x ≡ read tt after → ended {A = B} (elim x as (λ y. Reading B) [ refused n ↦ refused n | read a over ↦ f a over ]) ≡ y
-      go (refused n) e = absurd (let z : ◌≡◌ {A = ℕ} 0 1 = cc in omega arith)
+      go (refused n) e = absurd (search rules)
       go (read a over) e = let i : over ≡ after = cc in rw i (k a)
 
 module _ {A : Type 0} (m : Reader A) (bs : List ℕ) where
@@ -57,7 +52,7 @@ module _ {A : Type 0} (m : Reader A) (bs : List ℕ) where
   end_readable {after} e = go (m bs) refl e
     where
       go : (x : Reading A) → m bs ≡ x → ended x ≡ read tt after → Readable m bs
-      go (refused k) i e = absurd (let z : ◌≡◌ {A = ℕ} 0 1 = cc in omega arith)
+      go (refused k) i e = absurd (search rules)
       go (read a over) i e = record { item = a; over = over; reads = i }
 
   pub end_refused : {k : ℕ} → ended (m bs) ≡ refused k → m bs ≡ refused k
@@ -65,7 +60,7 @@ module _ {A : Type 0} (m : Reader A) (bs : List ℕ) where
     where
       go : (x : Reading A) → m bs ≡ x → ended x ≡ refused k → m bs ≡ refused k
       go (refused n) i e = let z : n ≡ k = cc in i ∙ ap (λ (l : ℕ). refused l) z
-      go (read a over) i e = absurd (let z : ◌≡◌ {A = ℕ} 0 1 = cc in omega arith)
+      go (read a over) i e = absurd (search rules)
 
   -- where m ends is where it goes on
   pub end-over : {a : A} {over after : List ℕ} → m bs ≡ read a over → ended (m bs) ≡ read tt after → over ≡ after
@@ -92,48 +87,6 @@ module _ {A B : Type 0} (m : Reader A) (g : A → B) (bs : List ℕ) where
       go : (x : Reading A) → ended {A = B} (elim x as (λ y. Reading B) [ refused n ↦ refused n | read a over ↦ read (g a) over ]) ≡ ended x
       go (refused n) = refl
       go (read a over) = refl
-
--- ---- A row passed over, item by item
-
-module _ {A : Type 0} (item : Reader A) (bs : List ℕ) where
-  pub row-none : {n : ℕ} → n ≡ 0 → ended (items n item bs) ≡ read tt bs
-  unfolding items done
-  row-none z = rw z
-
-  pub row_stop : (n : ℕ) {k : ℕ} → (n ≡ 0 → ⊥) → ended (item bs) ≡ refused k → ended (items n item bs) ≡ refused k
-  unfolding items
-  row_stop zero z e = absurd (z refl)
-  row_stop (suc n) z e = end_stop item _ bs e
-
-  pub row_step : (n : ℕ) {after : List ℕ} → (n ≡ 0 → ⊥) → ended (item bs) ≡ read tt after → ended (items n item bs) ≡ ended (items (n - 1) item after)
-  unfolding items
-  row_step zero z e = absurd (z refl)
-  row_step (suc n) {after} z e = end_then item _ bs e (λ x. end-done (items n item) (λ xs. x ∷ xs) after) ∙ rw (sub-one (suc n))
-
--- Of `count` items, `over` are passed over up to c.
-pub record Passed {A : Type 0} (item : Reader A) (s : List ℕ) (at count c over : ℕ) : Type 0 where
-  pub same : ended (items count item (drop at s)) ≡ ended (items (count - over) item (drop c s))
-
-pub passed-none : {A : Type 0} {item : Reader A} {s : List ℕ} {at count : ℕ} → Passed item s at count at 0
-passed-none {A} {item} {s} {at} {count} = record { same = ap (λ (n : ℕ). ended (items n item (drop at s))) (omega arith) }
-
-module _ {A : Type 0} {item : Reader A} {s : List ℕ} {at count c over : ℕ} (p : Passed item s at count c over) where
-  pub passed_more : {next : ℕ} → over < count → ended (item (drop c s)) ≡ read tt (drop next s) → Passed item s at count next (over + 1)
-  passed_more {next} h e = record { same = p.same ∙ row_step item (drop c s) (count - over) (omega arith) e ∙ ap (λ (n : ℕ). ended (items n item (drop next s))) (omega arith) }
-
-  pub passed_stop : {k : ℕ} → over < count → ended (item (drop c s)) ≡ refused k → refused k ≡ ended (items count item (drop at s))
-  passed_stop h e = sym (p.same ∙ row_stop item (drop c s) (count - over) (omega arith) e)
-
-  pub passed-all : over ≡ count → read tt (drop c s) ≡ ended (items count item (drop at s))
-  passed-all e = sym (p.same ∙ row-none item (drop c s) (omega arith))
-
--- ---- A struct ends after its fields
-
-pub struct_rest : {s : List ℕ} {at : ℕ} {r : Result StructDecl Refusal} (d : StructDecl) → StructSays s at r → r ≡ Ok d → ended (struct_decl (drop at s)) ≡ ended (items d.fields.count field (rest s d.fields.from))
-unfolding struct_of
-struct_rest {s} d h i =
-    let p = subst (λ (x : Result StructDecl Refusal). ParametersRead s x) i h.declared in
-    ap ended (told (struct_says s) h.same i ∙ step _ _ _ p.reads) ∙ end-done (items d.fields.count field) _ (rest s d.fields.from)
 
 -- ---- An action ends after its sources
 

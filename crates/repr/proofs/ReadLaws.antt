@@ -87,7 +87,7 @@ module _ {A : Type 0} (alternatives : List (Reader A)) (bs : List ℕ) where
   unknown {n} e h = sym (step _ _ _ (sym e) ∙ rw (get_or-eq_default alternatives (refuse 3) h))
 
 pub clash : {A : Type 0} {a : A} {k : ℕ} {bs : List ℕ} → refused k ≡ read a bs → ⊥
-clash e = let z : ◌≡◌ {A = ℕ} 0 1 = cc in omega arith
+clash e = search rules
 
 -- ---- Bytes in a row
 

@@ -71,13 +71,6 @@ whole {bs} e =
 pub type-stands : {s : List ℕ} {at : ℕ} {t : Ty} {over : List ℕ} → type (drop at s) ≡ read t over → TypeAt s at t
 type-stands {over = over} e = record { over = over; stands = (whole e).stands }
 
-pub type-read : {s : List ℕ} {at : ℕ} {t : Ty} (p : TypeAt s at t) → type_nodes t ≤ max_nodes → type (drop at s) ≡ read t p.over
-unfolding type done
-type-read {s} {at} p h = step (type_within (suc max_nodes) max_nodes) _ (drop at s) (type_again p.stands h (omega arith))
-
-pub type_unique : {s : List ℕ} {at : ℕ} {t u : Ty} → TypeAt s at t → TypeAt s at u → t ≡ u
-type_unique p q = type_once p.stands q.stands
-
 -- ---- By the first node
 
 -- a type with no parts, which ends at c

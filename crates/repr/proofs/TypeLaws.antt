@@ -4,7 +4,7 @@ use mathlib.Core.List.{List, [], ◌∷◌}
 use mathlib.Core.Logic.{◌⊎◌, inl, inr}
 use Prim.Native.Nat.{ℕ, zero, suc, ◌+◌, ◌-◌, ◌*◌, ◌≤◌, ◌<◌}
 use native.Mathlib.Omega.{arith}
-use native.Mathlib.Nat.{le_refl, zero-add}
+use native.Mathlib.Nat.{zero-add}
 use lib.ListN.{drop}
 use borrow.Author.Tests.{eq-eqb, ne_eqb}
 use Rattle.nll_spec.specs.Syntax as syntax
@@ -12,6 +12,7 @@ use Rattle.nll_spec.specs.Syntax.{Ty, Args, RegionArg, TypeArg}
 use Rattle.nll_spec.specs.Decode.{Reading, refused, read, Reader, done, refuse, ◌>>=◌, byte, pick, one_of, Part, part, region, node_tag, args, type_within, type, max_nodes}
 use Rattle.repr.specs.Reading.{rest, ended}
 use Rattle.repr.specs.Types.{Inner, node, node_says, NodeSays, argument_says, ArgumentSays, left_of, nodes_says, AtMost, onward, opened_says, Falls, OpenedSays, FirstSays, TypeSays, ArgumentsSay}
+use Rattle.std.proofs.Common.{rules}
 use Rattle.repr.specs.declared.Cursor.{Cursor}
 use Rattle.repr.specs.declared.BorrowKind.{BorrowKind}
 use Rattle.repr.specs.declared.Region.{Region}
@@ -55,14 +56,14 @@ module _ {A B : Type 0} (m : Reader (Part A)) (f : Part A → Reader (Part B)) (
     where
       go : (x : Reading (Part A)) → left_of x ≡ refused k → left_of {A = B} (elim x as (λ y. Reading (Part B)) [ refused n ↦ refused n | read t over ↦ f t over ]) ≡ refused k
       go (refused n) e = let z : n ≡ k = cc in rw z
-      go (read t over) e = absurd (let z : ◌≡◌ {A = ℕ} 0 1 = cc in omega arith)
+      go (read t over) e = absurd (search rules)
 
   pub left_then : {l : ℕ} {after : List ℕ} {y : Reading ℕ} → left_of (m bs) ≡ read l after → ((t : Part A) → t.left ≡ l → left_of (f t after) ≡ y) → left_of (◌>>=◌ m f bs) ≡ y
   unfolding ◌>>=◌
   left_then {l} {after} {y} e k = go (m bs) e
     where
       go : (x : Reading (Part A)) → left_of x ≡ read l after → left_of {A = B} (elim x as (λ y. Reading (Part B)) [ refused n ↦ refused n | read t over ↦ f t over ]) ≡ y
-      go (refused n) e = absurd (let z : ◌≡◌ {A = ℕ} 0 1 = cc in omega arith)
+      go (refused n) e = absurd (search rules)
       go (read t over) e = let i : t.left ≡ l = cc in let j : over ≡ after = cc in rw j (k t i)
 
 -- ---- Arguments
@@ -132,9 +133,6 @@ node_of depth left bs z = go (byte bs) refl
 pub record Down (s : List ℕ) (at left c few : ℕ) : Type 0 where
   pub same : (depth : ℕ) → left < depth → left_of (type_within depth left (drop at s)) ≡ left_of (type_within depth few (drop c s))
   pub fewer : few ≤ left
-
-pub down_none : {s : List ℕ} {at left : ℕ} → Down s at left at left
-down_none {left = left} = record { same = λ depth h. refl; fewer = le_refl left }
 
 module _ {s : List ℕ} {at left c few : ℕ} (x : Down s at left c few) where
   -- the tag is missing
@@ -242,9 +240,6 @@ module _ {s : List ℕ} {at count left c n few : ℕ} (x : Along s at count left
     falls = let p = subst (Falls few) e f.falls in omega (arith, x.falls, p, z);
   }
 
-  pub along-less : {r : Result Opened Refusal} {more l : ℕ} {next : Cursor} → FirstSays s c few r → (n ≡ 0 → ⊥) → r ≡ opened more l next → n - 1 + more + 256 * l < n + 256 * few
-  along-less f z e = let p = subst (Falls few) e f.falls in omega (arith, p, z)
-
   pub along-ended : {c' : Cursor} → c'.at ≡ c → n ≡ 0 → ArgumentsSay s at count left (rest_at few c')
   unfolding args done
   along-ended {c'} i z = record { same = λ depth h. sym (x.same depth h ∙ ap (λ (m : ℕ). left_of (args (type_within depth) m few (drop c s))) z ∙ ap (λ (m : ℕ). read few (drop m s)) (sym i)); fewer = depth-left }
@@ -268,10 +263,6 @@ module _ {s : List ℕ} {at left : ℕ} {r : Result Opened Refusal} (o : OpenedS
       fewer-still : (x : Reading ℕ) → AtMost few x → few ≤ left → AtMost left x
       fewer-still (read k over) h g = omega arith
       fewer-still (refused k) h g = tt
-
-  -- without arguments
-  pub type-ended : {count few : ℕ} {next : Cursor} → r ≡ opened count few next → count ≡ 0 → TypeSays s at left (rest_at few next)
-  type-ended {count} {few} {next} e z = type_arguments e (along-ended (along-none {s = s} {at = next.at} {count = count} {left = few} refl) (omega (arith, z)) refl z)
 
 -- ---- A whole type
 

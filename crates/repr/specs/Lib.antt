@@ -5,3 +5,4 @@ pub mod Types
 pub mod Parts
 pub mod Spelling
 pub mod Stands
+pub mod Rows

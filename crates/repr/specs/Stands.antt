@@ -27,11 +27,6 @@ pub record TypeAt (s : List ℕ) (at : ℕ) (t : Ty) : Type 0 where
   pub over : List ℕ
   pub stands : TypeTo (drop at s) t over
 
--- n arguments stand there.
-pub record ArgsAt (s : List ℕ) (at n : ℕ) (given : Args) : Type 0 where
-  pub over : List ℕ
-  pub stands : ArgsTo (drop at s) n given over
-
 -- The first of the arguments h is a type, which stands in bs, and n more follow.
 pub record FirstType (bs : List ℕ) (n : ℕ) (h : Args) (over : List ℕ) : Type 0 where
   pub item : Ty

@@ -46,11 +46,7 @@ impl Cursor {
     pub fn paths(self, s: &[u8], count: u8) -> Result<Cursor, Refusal>
         ensures { end_says s.now result ≡ ended (items count path (drop self.at s.now)) }
     {
-        let mut c = self;
-        for _ in 0..count {
-            (_, c) = c.path(s)?;
-        }
-        Ok(c)
+        self.each(count, |c| Ok(c.path(s)?.1))
     }
 
     fn init_action(self, s: &[u8]) -> Reading<Action>

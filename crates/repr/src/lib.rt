@@ -3,6 +3,7 @@
 mod actions;
 mod items;
 pub mod refusal;
+mod rows;
 mod structs;
 mod types;
 

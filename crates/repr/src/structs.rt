@@ -12,11 +12,7 @@ impl Cursor {
     pub fn parameters(self, s: &[u8], count: u8) -> Result<Cursor, Refusal>
         ensures { end_says s.now result ≡ ended (items count param (drop self.at s.now)) }
     {
-        let mut c = self;
-        for _ in 0..count {
-            (_, c) = c.parameter(s)?;
-        }
-        Ok(c)
+        self.each(count, |c| Ok(c.parameter(s)?.1))
     }
 
     // A field: its number, and where its type begins.
@@ -31,12 +27,13 @@ impl Cursor {
     pub fn fields(self, s: &[u8], count: u8) -> Result<Cursor, Refusal>
         ensures { end_says s.now result ≡ ended (items count field (drop self.at s.now)) }
     {
-        let mut c = self;
-        for _ in 0..count {
+        let field_end = |c: Cursor|
+            ensures { end_says s.entry.now result ≡ ended (field (drop c.at s.entry.now)) }
+        {
             let (_, ty) = c.field(s)?;
-            c = ty.ty(s)?;
-        }
-        Ok(c)
+            ty.ty(s)
+        };
+        self.each(count, field_end)
     }
 
     // A struct: its parameters are read, its fields only counted.

@@ -6,8 +6,8 @@ use native.Mathlib.Omega.{arith}
 use native.Mathlib.Nat.{le_refl}
 use Rattle.nll_spec.specs.Syntax.{Ty, Args, NoArgs, RegionArg, TypeArg}
 use Rattle.nll_spec.specs.Decode.{read}
-use Rattle.nll_spec.specs.Types.{head_region, head_type, subst_region, arg_count, drop_args, bound_args, arg_nodes}
-use Rattle.repr.specs.Reading.{rest, region_of}
+use Rattle.nll_spec.specs.Types.{head_region, head_type, arg_count, drop_args, bound_args, arg_nodes}
+use Rattle.repr.specs.Reading.{rest}
 use Rattle.repr.specs.Types.{ArgumentSays, nodes_says, ArgumentsSay}
 use Rattle.repr.specs.declared.Cursor.{Cursor}
 use Rattle.repr.specs.declared.Region.{Region}
@@ -94,15 +94,6 @@ drop-none (suc k) = drop-none k
 
 -- ---- What was found
 
--- an answer without its refusal
-pub got : {A : Type 0} {r : Result A Refusal} {o : Option A} {x : A} → o ≡ result_ok r → o ≡ Some x → r ≡ Ok x
-got {r = Ok y} e f = let i : y ≡ _ = cc in ap Ok i
-got {r = Err k} e f = absurd (let z : ◌≡◌ {A = ℕ} 0 1 = cc in omega arith)
-
-pub refused_by : {A : Type 0} {r : Result A Refusal} {o : Option A} → o ≡ result_ok r → o ≡ None → (k : Refusal) × (r ≡ Err k)
-refused_by {r = Ok y} e f = absurd (let z : ◌≡◌ {A = ℕ} 0 1 = cc in omega arith)
-refused_by {r = Err k} e f = (k, refl)
-
 first_found : (s : List ℕ) (n : ℕ) (h : Args) (over : List ℕ) (d : Result Argument Refusal) → ArgumentIs s n h over d → FoundIs s h (result_ok d)
 first_found s n h over (Ok (arguments.Region r c)) w = record { region = rw w.same; type = rw w.same }
 first_found s n h over (Ok (arguments.Type c)) w =
@@ -142,13 +133,6 @@ module _ {a : Arguments} where
   -- ---- A region, with the arguments put in
 
   module _ {r : Region} where
-    pub region_free : ((b : ℕ) → r ≡ Bound b → ⊥) → RegionSays a r r
-    region_free f = record { says = λ g w. go r f g }
-      where
-        go : (r : Region) → ((b : ℕ) → r ≡ Bound b → ⊥) → (g : Args) → region_of r ≡ subst_region g (region_of r)
-        go (Free name) f g = refl
-        go (Bound b) f g = absurd (f b refl)
-
     module _ {b : ℕ} {d : Option Argument} (e : r ≡ Bound b) (v : FoundSays a b d) where
       on-found : {x : Option Argument} → d ≡ x → (g : Args) → Given a g → FoundIs a.bytes.now (bound_args g b) x
       on-found f g w = transport (λ (q : Option Argument). FoundIs a.bytes.now (bound_args g b) q) f (v.says g w)

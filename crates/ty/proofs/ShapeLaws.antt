@@ -25,6 +25,7 @@ use Rattle.repr.specs.declared.Node.{Node}
 use Rattle.repr.specs.declared.Node.TheVariants as nodes
 use Rattle.repr.specs.declared.Rest.{Rest}
 use Rattle.repr.specs.declared.refusal.Refusal.{Refusal}
+use Rattle.std.proofs.Common.{rules}
 use Rattle.std.specs.Prelude.{Option, Some, None, Result, Ok, Err}
 use Rattle.std.specs.Option.{is_some}
 use Rattle.repr.proofs.SpellLaws.{clash}
@@ -86,7 +87,7 @@ module _ {a : List ℕ} {x : ℕ} {b : List ℕ} {y left : ℕ} {j k : Result No
 
 -- what the answer tells of the shapes
 pub told_differ : (z : Bool) (l : ℕ) (p q : List ℕ) → differ ≡ shapes z l p q → z ≡ false
-told_differ true l p q e = absurd (let z : ◌≡◌ {A = ℕ} 0 1 = cc in omega arith)
+told_differ true l p q e = absurd (search rules)
 told_differ false l p q e = refl
 
 pub record Alike (z : Bool) (k l : ℕ) (p q p' q' : List ℕ) : Type 0 where
@@ -97,7 +98,7 @@ pub record Alike (z : Bool) (k l : ℕ) (p q p' q' : List ℕ) : Type 0 where
 
 pub told_same : (z : Bool) {k : ℕ} (l : ℕ) {p q : List ℕ} (p' q' : List ℕ) → same k p q ≡ shapes z l p' q' → Alike z k l p q p' q'
 told_same true l p' q' e = record { alike = refl; nodes = cc; a_ends = cc; b_ends = cc }
-told_same false l p' q' e = absurd (let z : ◌≡◌ {A = ℕ} 0 1 = cc in omega arith)
+told_same false l p' q' e = absurd (search rules)
 
 -- ---- The first of two rows
 

@@ -15,8 +15,7 @@ use Rattle.record.specs.declared.Record.{Record}
 use Rattle.repr.specs.Refusals.{number_of}
 use Rattle.repr.specs.declared.refusal.Refusal.{Refusal}
 use Rattle.repr.specs.Stands.{TypeAt}
-use Rattle.env.specs.Paths.{PathSays}
-use Rattle.env.specs.declared.paths.PathType.{PathType}
+use Rattle.env.specs.Paths.{PathType, PathSays}
 use Rattle.well_formed.specs.declared.shapes.Wanted.{Wanted}
 use Rattle.well_formed.specs.declared.shapes.Wanted.TheVariants.{Same, RefTo}
 

@@ -11,7 +11,6 @@ ghost use Rattle.well_formed.specs.Tests.{number_in, refusal_of, path_taken, Typ
 use env::Step;
 use env::paths::{PathType, path_type};
 use record::Record;
-use refusals::rows::each;
 use repr::{Cursor, Path, Refusal};
 
 // The type of a path that begins at a variable, in the record or in the lent bytes, if its steps may be taken.
@@ -53,5 +52,5 @@ fn path_end(input: &Record<'_>, c: Cursor) -> Result<Cursor, Refusal>
 pub fn sources_fit(input: &Record<'_>, from: Cursor, count: u8) -> bool
     ensures { (j : Job) → Holds input.now j → Tested (items count path) (every (path_taken j)) input.now.bytes.now from.at result }
 {
-    each(from, count, |c| path_end(input, c)).is_ok()
+    from.each(count, |c| path_end(input, c)).is_ok()
 }

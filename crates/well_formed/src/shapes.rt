@@ -2,7 +2,7 @@
 ghost use Rattle.well_formed.specs.Tests.{number_in, TypesFit, SecondSays, PairSays};
 
 use super::paths::type_of;
-use env::paths::PathType;
+use env::paths::Found;
 use record::Record;
 use repr::{BorrowKind, Cursor, Path, Refusal};
 use ty::shape::{same_shape, same_shape_ref};
@@ -43,8 +43,8 @@ fn second_refusal(
     }
     let mut b = [0; 512];
     match type_of(input, q, &mut b) {
-        Some(PathType::Inside(y)) => types_refusal(wanted, a, x, input.bytes, y),
-        Some(PathType::Written(y)) => types_refusal(wanted, a, x, &b, y),
+        Some(Found::Inside(y)) => types_refusal(wanted, a, x, input.bytes, y),
+        Some(Found::Written(y)) => types_refusal(wanted, a, x, &b, y),
         None => Err(Refusal::Path),
     }
 }
@@ -62,8 +62,8 @@ pub fn pair_refusal(wanted: Wanted, input: &Record<'_>, p: Path, q: Path) -> Res
     }
     let mut a = [0; 512];
     match type_of(input, p, &mut a) {
-        Some(PathType::Inside(x)) => second_refusal(wanted, input, input.bytes, x, q),
-        Some(PathType::Written(x)) => second_refusal(wanted, input, &a, x, q),
+        Some(Found::Inside(x)) => second_refusal(wanted, input, input.bytes, x, q),
+        Some(Found::Written(x)) => second_refusal(wanted, input, &a, x, q),
         None => Err(Refusal::Path),
     }
 }

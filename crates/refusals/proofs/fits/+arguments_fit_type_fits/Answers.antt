@@ -49,9 +49,6 @@ arguments_fit-returns-then-not-argument_fits t c = c.loop.invariant.whole _ (law
 pub arguments_fit-returns-then-ne : goal.arguments_fit-returns-then-ne
 arguments_fit-returns-then-ne t c = c.loop.invariant.whole _ (laws.kind_unfit (omega arith) c.parameter.ensures c.in_ok-p.was c.argument.ensures (c.in_ok-region.was ∙ ap Ok c.in-Type.is) (search (rules, c.if-ne.ensures)))
 
-pub arguments_fit-type_fits-requires : goal.arguments_fit-type_fits-requires
-arguments_fit-type_fits-requires t c = let l = c.loop.invariant.fewer in (omega arith, tt)
-
 pub arguments_fit-returns-in_err-rest-in-Type : goal.arguments_fit-returns-in_err-rest-in-Type
 arguments_fit-returns-in_err-rest-in-Type t c = rw (passed_on c.from_residual-in_err-rest-in-Type.ensures) (c.loop.invariant.whole _ (laws.type_unfit (omega arith) c.parameter.ensures c.in_ok-p.was c.argument.ensures (c.in_ok-region.was ∙ ap Ok c.in-Type.is) (search (rules, c.if-ne.ensures)) c.type_fits.ensures c.in_err-rest-in-Type.was))
 

@@ -1,16 +1,9 @@
 use mathlib.Core.Path.{refl, ap, ◌∙◌}
 use native.Mathlib.Omega.{arith}
-use native.Mathlib.Nat.{le_refl, sub-zero}
 use Rattle.std.specs.Prelude.{Some}
-use Rattle.ty.proofs.FoundLaws.{got, refused_by}
+use Rattle.repr.proofs.ReadLaws.{ok_some, ok_none}
 use Rattle.ty.proofs.ShapeLaws as laws
 use Rattle.ty.proofs.shape.+same_arguments_same_first_same_types.Goals as goal
-
-pub same_arguments-loop-init : goal.same_arguments-loop-init
-same_arguments-loop-init t c = record { fewer = le_refl _; onward = λ r u. rw sub-zero at u }
-
-pub same_arguments-same_first-requires : goal.same_arguments-same_first-requires
-same_arguments-same_first-requires t c = let k = c.loop.invariant.fewer in (omega arith, tt)
 
 pub same_arguments-returns-in_err-same : goal.same_arguments-returns-in_err-same
 same_arguments-returns-in_err-same t c = rw c.from_residual.ensures (c.loop.invariant.onward _ (laws.arguments_differ (λ e. omega arith) c.same_first.ensures c.in_err-same.was))
@@ -22,10 +15,10 @@ same_arguments-loop-preserved t c = record {
 }
 
 pub same_arguments-returns-in_err-rest : goal.same_arguments-returns-in_err-rest
-same_arguments-returns-in_err-rest t c = rw c.from_residual-in_err-rest.ensures (c.loop.invariant.onward _ (laws.arguments_short c.arguments.ensures (omega arith) (refused_by c.ok.ensures.value c.in_err-rest.was).1))
+same_arguments-returns-in_err-rest t c = rw c.from_residual-in_err-rest.ensures (c.loop.invariant.onward _ (laws.arguments_short c.arguments.ensures (omega arith) (ok_none c.ok.ensures.value c.in_err-rest.was).1))
 
 pub same_arguments-returns : goal.same_arguments-returns
-same_arguments-returns t c = c.loop.invariant.onward _ (laws.arguments_none c.arguments.ensures (omega arith) (got c.ok.ensures.value c.in_ok-rest.was))
+same_arguments-returns t c = c.loop.invariant.onward _ (laws.arguments_none c.arguments.ensures (omega arith) (ok_some c.ok.ensures.value c.in_ok-rest.was))
 
 pub same_first-returns-in_err-a : goal.same_first-returns-in_err-a
 same_first-returns-in_err-a t c = rw c.from_residual.ensures (laws.first-differ c.first_pair.ensures c.in_err-a.was)

@@ -1,8 +1,8 @@
--- `refusals::rows::each` meets its contract. Assumes nothing.
+-- `repr::Cursor::each` meets its contract. Assumes nothing.
 use native.Mathlib.Omega.{arith}
 use Rattle.repr.proofs.ReadLaws.{passed_on}
-use Rattle.refusals.proofs.RowLaws.{going_more, going_stop, going_end}
-use Rattle.refusals.proofs.rows.each.Goals as goal
+use Rattle.repr.proofs.RowLaws.{going_more, going_stop, going_end}
+use Rattle.repr.proofs.Cursor.each.Goals as goal
 
 pub returns-in_err-c : goal.returns-in_err-c
 returns-in_err-c g c = rw (passed_on c.from_residual.ensures) (going_stop c.loop.invariant (omega arith) c.in_err-c.ensures)
