@@ -21,22 +21,15 @@ pub struct FuncGraph<'a> {
     pub walked: [u32; 32],
 }
 
-impl<'a> FuncGraph<'a> {
-    // The graph of the record's job, which starts at block 0.
-    pub fn new(input: Record<'a>) -> FuncGraph<'a>
-        ensures { (result.input ≡ input.entry)
-            × ((j : Job) → Holds input.entry j → T (successors_named j) → point_count j ≤ 1024 → Edges (graph_of j) result.first result.succ
-            × (T (ltb j.start (length j.blocks)) → WalkedIn j result.walked)) }
+impl FuncGraph<'_> {
+    // Fills the tables for the job of the graph's record, which starts at block 0.
+    pub fn fill(&mut self)
+        ensures { (self.new.input ≡ self.old.input)
+            × ((j : Job) → Holds self.old.input j → T (successors_named j) → point_count j ≤ 1024 → Edges (graph_of j) self.new.first self.new.succ
+            × (T (ltb j.start (length j.blocks)) → WalkedIn j self.new.walked)) }
     {
-        let mut graph = FuncGraph {
-            input,
-            first: [0; 1025],
-            succ: [0; 1536],
-            walked: [0; 32],
-        };
-        graph.edges();
-        walked(&input, BasicBlockIndex(0), &mut graph.walked);
-        graph
+        self.edges();
+        walked(&self.input, BasicBlockIndex(0), &mut self.walked);
     }
 
     // The points that follow p. A row is cut where the table ends; a point past the table has none.

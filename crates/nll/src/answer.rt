@@ -12,7 +12,13 @@ pub fn write(input: &Record<'_>, words: &mut [u32], bytes: &mut [u8])
     requires { (input.now.head.declared ≤ 128) × (room_for input.now.head (length words.old) (length bytes.old) ≡ true) }
     ensures { Writes input.now words.old bytes.old words.new bytes.new }
 {
-    let graph = FuncGraph::new(*input);
+    let mut graph = FuncGraph {
+        input: *input,
+        first: [0; 1025],
+        succ: [0; 1536],
+        walked: [0; 32],
+    };
+    graph.fill();
     let mut grown = [0; 128];
     solve(&graph, words, &mut grown);
     verdicts(&graph, words, bytes);

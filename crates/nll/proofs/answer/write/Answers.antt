@@ -8,4 +8,4 @@ pub marks-requires : goal.marks-requires
 marks-requires c = (c.requires.0, marks-room c.args.input.now.head (length c.args.words.now) (length c.args.bytes.now) c.requires.1 c.verdicts.ensures.size)
 
 pub returns : goal.returns
-returns c = writes c.new-graph.ensures.0 c.new-graph.ensures.1 c.solve.ensures c.verdicts.ensures c.marks.ensures
+returns c = writes c.fill.ensures.0 c.fill.ensures.1 c.solve.ensures c.verdicts.ensures c.marks.ensures
