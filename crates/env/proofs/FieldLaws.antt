@@ -48,9 +48,6 @@ pub record Among (bs : List ℕ) (left f : ℕ) (o : Option Ty) : Type 0 where
 pub record Seeking (s : List ℕ) (from n f at left : ℕ) : Type 0 where
   pub goes : (xs : List Field) → Stands (items n field) xs (drop from s) → Among (drop at s) left f (field_type xs f)
 
-pub seeking : (s : List ℕ) (from n f : ℕ) → Seeking s from n f from n
-seeking s from n f = record { goes = λ xs w. record { others = xs; end = w.over; reads = w.reads; same = refl } }
-
 -- a field's parts, where it was read
 record Parts (s : List ℕ) (n : ℕ) (c : Cursor) (x : Field) (over : List ℕ) : Type 0 where
   pub number : x.number ≡ n

@@ -35,7 +35,7 @@ use Rattle.record.specs.declared.Record.{Record}
 use Rattle.record.specs.Access.{Declared}
 use Rattle.record.proofs.AccessLaws.{variable_at}
 use Rattle.repr.specs.Stands.{TypeAt}
-use Rattle.ty.specs.Written.{Given, Stood, StoodBy, WholeSays}
+use Rattle.ty.specs.Written.{Stood, StoodBy, WholeSays}
 use Rattle.ty.specs.Written as written
 use Rattle.ty.specs.declared.write.Arguments.{Arguments}
 use Rattle.repr.proofs.StandLaws.{NodeIs, on-node, type-stands}

@@ -1,5 +1,5 @@
 -- Reading a row item by item, with an entry for each. Assumes nothing.
-use mathlib.Core.Path.{◌≡◌, refl, ap, ◌∙◌}
+use mathlib.Core.Path.{◌≡◌, refl, sym, ap, ◌∙◌}
 use mathlib.Core.List.{List, [], ◌∷◌, ◌++◌, append_assoc, append-nil}
 use Prim.Native.Nat.{ℕ, zero, suc, ◌+◌, ◌-◌, ◌≤◌, ◌<◌, min}
 use native.Mathlib.Omega.{arith}
@@ -7,13 +7,15 @@ use native.Mathlib.Nat.{sub-zero}
 use native.Mathlib.Numerals.{sub-one}
 use native.Mathlib.Decide.{dec_lt}
 use lib.ListN.{length, take, drop, set, length-set, drop_of_length-le}
-use Rattle.std.proofs.lemmas.List.{take_more_set}
+use Rattle.std.proofs.lemmas.List.{take_more_set, take_at, length-take-le}
+use Rattle.std.proofs.Math.Seq.{take-length, length_front}
 use Rattle.nll_spec.specs.Decode.{Reading, refused, read, Reader, done, ◌>>=◌, items}
 use Rattle.repr.specs.Reading.{ended, end_says, bytes_say}
 use Rattle.repr.proofs.ReadLaws.{step, stop}
 use Rattle.repr.proofs.PartLaws.{end_readable, end_refused, end-over}
 use Rattle.repr.specs.Stands.{Stands}
-use Rattle.record.specs.Rows.{Standing, none, more, Row}
+use Rattle.record.specs.Rows.{Standing, none, more, Part, Held, reader, RowSays}
+use Rattle.repr.specs.Refusals.{number_of}
 use Rattle.repr.specs.declared.Cursor.{Cursor}
 use Rattle.repr.specs.declared.refusal.Refusal.{Refusal}
 use Rattle.std.specs.Prelude.{Result, Ok, Err}
@@ -92,32 +94,38 @@ bytes-end s c n (Err k) = refl
 
 -- ---- A row
 
--- i of n parts were read up to c, with their entries.
-pub record Rowing {A : Type 0} (m : Reader A) (s : List ℕ) (from c : Cursor) (n i : ℕ) (old t : List ℕ) : Type 0 where
-  pub found : List A
-  pub going : Going m s from c n i found
-  pub stands : Standing m s (take i t) found
-  pub size : length t ≡ length old
+-- i of n parts were read up to c, with their entries in t, which is as long as all of them.
+pub record Rowing (part : Part) (s : List ℕ) (from c : Cursor) (n i : ℕ) (t : List ℕ) : Type 0 where
+  pub found : List (Held part)
+  pub going : Going (reader part) s from c n i found
+  pub stands : Standing (reader part) s (take i t) found
+  pub size : length t ≡ n
 
-pub rowing_start : {A : Type 0} (m : Reader A) (s : List ℕ) (c : Cursor) (n : ℕ) (t : List ℕ) → Rowing m s c c n 0 t t
-rowing_start m s c n t = record { found = []; going = going_start m s c n; stands = none; size = refl }
+module _ {part : Part} {s : List ℕ} {n : ℕ} (old : List ℕ) (fits : n ≤ length old) where
+  pub rowing_start : {c : Cursor} → Rowing part s c c n 0 (take n old)
+  rowing_start {c} = record { found = []; going = going_start (reader part) s c n; stands = none; size = length-take-le n old fits }
 
-module _ {A : Type 0} {m : Reader A} {s : List ℕ} {from c : Cursor} {n i : ℕ} {old t : List ℕ} (w : Rowing m s from c n i old t) (h : i < n) (fits : n ≤ length old) (o : ℕ) where
-  pub rowing_more : {next : Cursor} → length s ≤ 65535 → o ≡ min c.at 65535 → ended (m (drop c.at s)) ≡ read tt (drop next.at s) → Rowing m s from next n (i + 1) old (set t i o)
-  rowing_more {next} l e f =
-      let r = end_readable m (drop c.at s) f in
-      let k : m (drop c.at s) ≡ read r.item (drop next.at s) = r.reads ∙ rw (end-over m (drop c.at s) r.reads f) in
-      record {
-        found = w.found ++ r.item ∷ [];
-        going = going_more w.going h k;
-        stands = rw (take_more_set t i o (omega (arith, w.size))) (standing_more o w.stands (record { over = drop next.at s; reads = rw (e, offset_drop s c.at l) k }));
-        size = length-set t i o ∙ w.size;
-      }
+  module _ {from c : Cursor} {i : ℕ} {t : List ℕ} (w : Rowing part s from c n i t) where
+    as-long : (u : List ℕ) → length u ≡ length t → length (u ++ drop n old) ≡ length old
+    as-long u e = length_front old u n (e ∙ w.size ∙ sym (length-take-le n old fits))
 
-  pub rowing_stop : {k : ℕ} → ended (m (drop c.at s)) ≡ refused k → (length (set t i o) ≡ length old) × (items n m (drop from.at s) ≡ refused k)
-  rowing_stop f = (length-set t i o ∙ w.size, going_stop w.going h (end_refused m (drop c.at s) f))
+    pub rowing_stop : (o : ℕ) {k : Refusal} → i < length t → refused (number_of k) ≡ ended (reader part (drop c.at s)) → RowSays part s from n old (set t i o ++ drop n old) (Err k)
+    rowing_stop o h f = record { size = as-long (set t i o) (length-set t i o); result = going_stop w.going (omega (arith, w.size)) (end_refused (reader part) (drop c.at s) (sym f)) }
 
-pub rowing_end : {A : Type 0} {m : Reader A} {s : List ℕ} {from c : Cursor} {n i : ℕ} {old t : List ℕ} → Rowing m s from c n i old t → n ≤ i → Row m s from.at c.at n t
-rowing_end {n = n} {i} {t = t} w h =
-    let e : n ≡ i = (let l = w.going.within in omega arith) in
-    record { found = w.found; reads = going_end w.going h; stands = rw e w.stands }
+    pub rowing_end : length t ≤ i → RowSays part s from n old (t ++ drop n old) (Ok c)
+    rowing_end h =
+        let e : n ≡ i = (let l = w.going.within in let j = w.size in omega arith) in
+        let k : take n (t ++ drop n old) ≡ take i t = take_at t (drop n old) n w.size ∙ sym (take-length t) ∙ ap (λ (j : ℕ). take j t) (w.size ∙ e) in
+        record { size = as-long t refl; result = record { found = w.found; reads = going_end w.going (omega (arith, e)); stands = rw k w.stands } }
+
+pub rowing_more : {part : Part} {s : List ℕ} {from c next : Cursor} {n i o : ℕ} {t : List ℕ} → Rowing part s from c n i t → i < length t → length s ≤ 65535 → o ≡ min c.at 65535 → read tt (drop next.at s) ≡ ended (reader part (drop c.at s)) → Rowing part s from next n (i + 1) (set t i o)
+rowing_more {part} {s} {from} {c} {next} {n} {i} {o} {t} w h l e f =
+    let m = reader part in
+    let r = end_readable m (drop c.at s) (sym f) in
+    let k : m (drop c.at s) ≡ read r.item (drop next.at s) = r.reads ∙ rw (end-over m (drop c.at s) r.reads (sym f)) in
+    record {
+      found = w.found ++ r.item ∷ [];
+      going = going_more w.going (omega (arith, w.size)) k;
+      stands = rw (take_more_set t i o h) (standing_more o w.stands (record { over = drop next.at s; reads = rw (e, offset_drop s c.at l) k }));
+      size = length-set t i o ∙ w.size;
+    }

@@ -34,8 +34,8 @@ pub fn row<F: Fn(Cursor, &[u8]) -> Result<Cursor, Refusal>>(
     ensures { (part : Part) → Ends part (F.post end) → RowSays part s.now from count entries.old entries.new result }
 {
     let mut c = from;
-    for i in 0..usize::from(count) {
-        entries[i] = offset(c);
+    for entry in &mut entries[..usize::from(count)] {
+        *entry = offset(c);
         c = end(c, s)?;
     }
     Ok(c)

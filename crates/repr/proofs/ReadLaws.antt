@@ -86,6 +86,25 @@ module _ {A : Type 0} (alternatives : List (Reader A)) (bs : List ℕ) where
   unfolding one_of pick refuse
   unknown {n} e h = sym (step _ _ _ (sym e) ∙ rw (get_or-eq_default alternatives (refuse 3) h))
 
+  -- no tag
+  pub untagged : {k : ℕ} → refused k ≡ byte bs → refused k ≡ one_of alternatives bs
+  unfolding one_of
+  untagged e = sym (stop _ _ _ (sym e))
+
+module _ {A : Type 0} (bs : List ℕ) where
+  -- the first three alternatives, where each reads nothing
+  pub picked_0 : {n : ℕ} {rest : List ℕ} {a : A} (more : List (Reader A)) → read n rest ≡ byte bs → n ≡ 0 → read a rest ≡ one_of (done a ∷ more) bs
+  unfolding done
+  picked_0 more e i = picked _ bs 0 e i
+
+  pub picked_1 : {n : ℕ} {rest : List ℕ} {a : A} (x : Reader A) (more : List (Reader A)) → read n rest ≡ byte bs → n ≡ 1 → read a rest ≡ one_of (x ∷ done a ∷ more) bs
+  unfolding done
+  picked_1 x more e i = picked _ bs 1 e i
+
+  pub picked_2 : {n : ℕ} {rest : List ℕ} {a : A} (x y : Reader A) (more : List (Reader A)) → read n rest ≡ byte bs → n ≡ 2 → read a rest ≡ one_of (x ∷ y ∷ done a ∷ more) bs
+  unfolding done
+  picked_2 x y more e i = picked _ bs 2 e i
+
 pub clash : {A : Type 0} {a : A} {k : ℕ} {bs : List ℕ} → refused k ≡ read a bs → ⊥
 clash e = search rules
 

@@ -8,7 +8,7 @@ use super::{
     Variable, Variance,
 };
 
-#[tactic(auto, using(crate::proofs::ReadLaws::step, crate::proofs::ReadLaws::stop, crate::proofs::ReadLaws::byte_at, crate::proofs::ReadLaws::byte_past, crate::proofs::ReadLaws::count_low, crate::proofs::ReadLaws::count_high, crate::proofs::ReadLaws::count_in, crate::proofs::ReadLaws::row_at, crate::proofs::ReadLaws::row_short), unfolding(nll_spec::specs::Decode::one_of, nll_spec::specs::Decode::borrow_kind, nll_spec::specs::Decode::variance, nll_spec::specs::Decode::flag, nll_spec::specs::Decode::kind, nll_spec::specs::Decode::param, nll_spec::specs::Decode::region, nll_spec::specs::Decode::path, nll_spec::specs::Decode::done))]
+#[tactic(auto, using(crate::proofs::ReadLaws::step, crate::proofs::ReadLaws::stop, crate::proofs::ReadLaws::byte_at, crate::proofs::ReadLaws::byte_past, crate::proofs::ReadLaws::count_low, crate::proofs::ReadLaws::count_high, crate::proofs::ReadLaws::count_in, crate::proofs::ReadLaws::row_at, crate::proofs::ReadLaws::row_short), unfolding(nll_spec::specs::Decode::one_of, nll_spec::specs::Decode::param, nll_spec::specs::Decode::region, nll_spec::specs::Decode::path, nll_spec::specs::Decode::done))]
 impl Cursor {
     pub fn byte(self, s: &[u8]) -> Reading<u8>
         ensures { says itself s.now result ≡ byte (drop self.at s.now) }
@@ -31,51 +31,6 @@ impl Cursor {
             Ok((n, next))
         } else {
             Err(Refusal::Range)
-        }
-    }
-
-    pub fn borrow_kind(self, s: &[u8]) -> Reading<BorrowKind>
-        ensures { says borrow_kind_of s.now result ≡ borrow_kind (drop self.at s.now) }
-    {
-        let (tag, next) = self.byte(s)?;
-        match tag {
-            0 => Ok((BorrowKind::Mut, next)),
-            1 => Ok((BorrowKind::Shared, next)),
-            _ => Err(Refusal::Form),
-        }
-    }
-
-    pub fn variance(self, s: &[u8]) -> Reading<Variance>
-        ensures { says variance_of s.now result ≡ variance (drop self.at s.now) }
-    {
-        let (tag, next) = self.byte(s)?;
-        match tag {
-            0 => Ok((Variance::Co, next)),
-            1 => Ok((Variance::Contra, next)),
-            2 => Ok((Variance::In, next)),
-            _ => Err(Refusal::Form),
-        }
-    }
-
-    pub fn flag(self, s: &[u8]) -> Reading<bool>
-        ensures { says itself s.now result ≡ flag (drop self.at s.now) }
-    {
-        let (tag, next) = self.byte(s)?;
-        match tag {
-            0 => Ok((false, next)),
-            1 => Ok((true, next)),
-            _ => Err(Refusal::Form),
-        }
-    }
-
-    pub fn kind(self, s: &[u8]) -> Reading<Kind>
-        ensures { says kind_of s.now result ≡ kind (drop self.at s.now) }
-    {
-        let (tag, next) = self.byte(s)?;
-        match tag {
-            0 => Ok((Kind::Region, next)),
-            1 => Ok((Kind::Type, next)),
-            _ => Err(Refusal::Form),
         }
     }
 
@@ -135,5 +90,54 @@ impl Cursor {
         let end = from.bytes(s, steps)?;
         let base = Variable(v);
         Ok((Path { base, steps, from }, end))
+    }
+}
+
+// Choices: a tag, and nothing after it.
+#[tactic(auto, using(crate::proofs::ReadLaws::picked_0, crate::proofs::ReadLaws::picked_1, crate::proofs::ReadLaws::picked_2, crate::proofs::ReadLaws::unknown, crate::proofs::ReadLaws::untagged), unfolding(nll_spec::specs::Decode::borrow_kind, nll_spec::specs::Decode::variance, nll_spec::specs::Decode::flag, nll_spec::specs::Decode::kind, nll_spec::specs::Decode::done))]
+impl Cursor {
+    pub fn borrow_kind(self, s: &[u8]) -> Reading<BorrowKind>
+        ensures { says borrow_kind_of s.now result ≡ borrow_kind (drop self.at s.now) }
+    {
+        let (tag, next) = self.byte(s)?;
+        match tag {
+            0 => Ok((BorrowKind::Mut, next)),
+            1 => Ok((BorrowKind::Shared, next)),
+            _ => Err(Refusal::Form),
+        }
+    }
+
+    pub fn variance(self, s: &[u8]) -> Reading<Variance>
+        ensures { says variance_of s.now result ≡ variance (drop self.at s.now) }
+    {
+        let (tag, next) = self.byte(s)?;
+        match tag {
+            0 => Ok((Variance::Co, next)),
+            1 => Ok((Variance::Contra, next)),
+            2 => Ok((Variance::In, next)),
+            _ => Err(Refusal::Form),
+        }
+    }
+
+    pub fn flag(self, s: &[u8]) -> Reading<bool>
+        ensures { says itself s.now result ≡ flag (drop self.at s.now) }
+    {
+        let (tag, next) = self.byte(s)?;
+        match tag {
+            0 => Ok((false, next)),
+            1 => Ok((true, next)),
+            _ => Err(Refusal::Form),
+        }
+    }
+
+    pub fn kind(self, s: &[u8]) -> Reading<Kind>
+        ensures { says kind_of s.now result ≡ kind (drop self.at s.now) }
+    {
+        let (tag, next) = self.byte(s)?;
+        match tag {
+            0 => Ok((Kind::Region, next)),
+            1 => Ok((Kind::Type, next)),
+            _ => Err(Refusal::Form),
+        }
     }
 }

@@ -1,14 +1,10 @@
 use Prim.Native.Nat.{◌+◌, ◌-◌}
 use mathlib.Core.Path.{◌≡◌, sym}
 use native.Mathlib.Omega.{arith}
-use native.Mathlib.Nat.{sub-zero}
 use borrow.Author.Tests.{eqb-true}
 use Rattle.repr.proofs.ReadLaws.{ok_some, ok_none}
 use Rattle.env.proofs.FieldLaws as laws
 use Rattle.env.proofs.fields.field_type.Goals as goal
-
-pub loop-init : goal.loop-init
-loop-init c = rw sub-zero (laws.seeking _ _ _ _)
 
 pub returns-in_err-number : goal.returns-in_err-number
 returns-in_err-number c = rw c.from_residual.ensures (record { says = λ x w. laws.seeking_refused c.loop.invariant (λ z. omega arith) c.field.ensures (ok_none c.ok.ensures.value c.in_err-number.was).1 x.fields w.fields })
