@@ -185,9 +185,6 @@ module _ (input : Record) (lent : LoanTable) (scope : List ℕ) (p : Point) wher
   abbrev Says : Option Fault → Type 0
   Says r = (j : Job) (t : Table) → Holds input j → p < code_count j.blocks → Scoped input.bytes.now j lent scope p t → verdict_of r ≡ verdict_at j (graph_of j) t (loans_of (graph_of j)) p
 
-  pub verdict_far : 1024 ≤ p → Says None
-  verdict_far h j t w l z = absurd (omega (arith, h, l, w.few))
-
   pub verdict_free : {b : Bool} → SomeIn scope p b → b ≡ false → Says None
   unfolding verdict_at
   verdict_free o i j t w l z = let xs = accesses (action_at (graph_of j) p) in sym (ap (λ (free : List spec.Loan). first_fault j free 0 xs) (none-at z o i) ∙ first_free j 0 xs)

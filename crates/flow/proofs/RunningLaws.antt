@@ -116,7 +116,7 @@ module _ (pass ws : List ℕ) (v w : ℕ) where
         grew = put-grew fw fv h;
       }
 
-  -- as the code writes it
+  -- the edge from word v to word w: w gets `new`, and the answer says whether that is another word
   ran_one : {new : ℕ} → Mixed (get_or ws w 0) (get_or ws v 0) (get_or pass w 0) new → w < length ws → Ran (One v w) pass ws (set ws w new) (not (eqb (get_or ws w 0) new))
   ran_one {new} m h =
       let z : w + 0 ≡ w = omega arith in

@@ -49,7 +49,8 @@ struct Ways<'a> {
 }
 
 impl Ways<'_> {
-    // The same for p and the point s that follows it, in the direction. A number that is no point of a block is passed by.
+    // Puts what the set of p has and s lets pass into the set of s, a point that follows p; where numbers go backward, what the set of s has and p lets pass into the set of p. Says whether
+    // that changed it. A number s that is no point of a block is passed by.
     fn turned(&self, sets: &mut [u32], p: usize, s: u16) -> bool
         requires { (p < self.now.code) × (4 * self.now.code ≤ length sets.old) }
         ensures { Ran (Turned self.now.direction self.now.code p s) self.now.pass.now sets.old sets.new result }

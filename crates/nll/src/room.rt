@@ -12,7 +12,7 @@ pub fn shape_of(head: Head) -> Shape
     let code = usize::from(head.code);
     let points = code + usize::from(head.declared);
     Shape {
-        width: (points + 31) / 32,
+        width: points.div_ceil(32),
         code,
         points,
     }

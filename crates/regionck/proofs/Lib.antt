@@ -1,3 +1,2 @@
-pub mod MarkLaws
 pub mod RoundLaws
 pub mod SolvedLaws

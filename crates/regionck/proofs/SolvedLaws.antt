@@ -355,8 +355,3 @@ module _ {g : Setup} {ws₀ : List ℕ} where
       → RoundRuns g last recent ws ws' grew → any_marked grew 128 ≡ false
       → (j : Job) → Seeded g.graph.now g.shape ws₀ j → Linked g → (bytes : List ℕ) → Tells marks bytes 128 → Solved (rule_of g.rule) j ws₀ ws' bytes
   going_done so k y m j x ch = done g ws₀ j x ch (so.going j x ch) (k.own j x) y m
-
-  -- the rounds do not run out
-  pub going_out : {ws last marks : List ℕ} {left : ℕ} → left ≡ 0 → GoingOn g ws₀ ws last marks left
-      → (j : Job) → Seeded g.graph.now g.shape ws₀ j → Linked g → (bytes : List ℕ) → Tells marks bytes 128 → Solved (rule_of g.rule) j ws₀ ws bytes
-  going_out e so j x ch bytes told = absurd (omega (arith, e, (so.going j x ch).less))

@@ -1,10 +1,7 @@
 -- `borrowck::verdict` meets its contract. Assumes nothing.
 use Rattle.repr.proofs.ReadLaws.{ok_some}
-use Rattle.borrowck.proofs.FaultLaws.{verdict_far, verdict_free, verdict_idle, verdict_clear, verdict_fault}
+use Rattle.borrowck.proofs.FaultLaws.{verdict_free, verdict_idle, verdict_clear, verdict_fault}
 use Rattle.borrowck.proofs.verdict.Goals as goal
-
-pub returns-then-p-ge1024 : goal.returns-then-p-ge1024
-returns-then-p-ge1024 c = verdict_far c.args.input.now c.args.loans.now c.args.scope.now c.args.p c.if-p-ge1024.true
 
 pub returns-then-not-any : goal.returns-then-not-any
 returns-then-not-any c = verdict_free c.args.input.now c.args.loans.now c.args.scope.now c.args.p c.any.ensures c.if-not-any.true

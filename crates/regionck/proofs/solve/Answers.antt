@@ -4,7 +4,7 @@ use mathlib.Core.Path.{sym, ◌∙◌}
 use borrow.Author.Tests.{not-true, not-false}
 use native.Mathlib.Omega.{arith}
 use Rattle.regionck.proofs.RoundLaws.{sound_none}
-use Rattle.regionck.proofs.SolvedLaws.{kept-none, kept_more, going_start, going_more, going_done, going_out}
+use Rattle.regionck.proofs.SolvedLaws.{kept-none, kept_more, going_start, going_more, going_done}
 use Rattle.regionck.proofs.solve.Goals as goal
 
 pub loop-init : goal.loop-init
@@ -20,6 +20,3 @@ loop-preserved c =
     let loop = c.loop in
     let r = c.round-last.ensures in
     (r.2, kept_more loop.invariant.1 r.1, going_more (omega arith) loop.invariant.2 loop.invariant.1 r.0 (sym c.any_marked.ensures ∙ not-false _ c.if-not-any_marked.false-raw) c.marked-grew.ensures)
-
-pub returns : goal.returns
-returns c = going_out (omega arith) c.loop.invariant.2
