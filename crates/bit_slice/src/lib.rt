@@ -1,7 +1,7 @@
 #![tactic(auto)]
-// A view of a set that holds the lent words, whose work is bit_set's, and two functions that read plain words, `some_set` and `word_at`.
+// A view of a set that holds the lent words, whose work is bit_set's, and `some_set`, which reads plain words.
 // No function requires anything: a number past the words is in no set, a run past the words changes nothing, and of such a run `some_set` says yes.
-ghost use Rattle.std.specs.Prelude.{◌≡◌, get_or};
+ghost use Rattle.std.specs.Prelude.{◌≡◌};
 ghost use Rattle.bit_set.specs.Bits.{has};
 ghost use Rattle.bit_slice.specs.Union.{JoinsAll};
 ghost use Rattle.bit_slice.specs.Some.{SomeSet};
@@ -42,11 +42,4 @@ pub fn some_set(words: &[u32], start: usize, n: usize) -> bool
         Some(end) if end <= words.len() => words[start..end].iter().any(|w| *w != 0),
         _ => true,
     }
-}
-
-// Word k; 0 past the words.
-pub fn word_at(words: &[u32], k: usize) -> u32
-    ensures { result ≡ get_or words.now k 0 }
-{
-    words.get(k).copied().unwrap_or(0)
 }

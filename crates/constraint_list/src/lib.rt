@@ -3,6 +3,8 @@
 ghost use Rattle.std.specs.Prelude.{◌≡◌, [], ◌∷◌, ◌+◌, length, get_or};
 ghost use Rattle.constraint_list.specs.Listed.{outlives_from, outlives_of, count_in, room_in, Adds, Draws};
 
+use entries::get_or;
+
 // No table is used beyond this size.
 const MOST: usize = 65536;
 
@@ -40,7 +42,7 @@ impl From<Constraint> for u32 {
 pub fn count(list: &[u32]) -> usize
     ensures { result ≡ count_in list.now }
 {
-    list.first().copied().unwrap_or(0) as usize
+    get_or(list, 0, 0) as usize
 }
 
 // How many more there is room for.
@@ -54,8 +56,7 @@ pub fn room(list: &[u32]) -> usize
 pub fn get(list: &[u32], i: usize) -> Constraint
     ensures { outlives_of result ≡ outlives_from (get_or list.now (i + 1) 0) }
 {
-    let n = list.get(i.saturating_add(1)).copied().unwrap_or(0);
-    Constraint::from(n)
+    Constraint::from(get_or(list, i.saturating_add(1), 0))
 }
 
 // Takes all constraints away.

@@ -22,7 +22,7 @@ use Rattle.graph.proofs.ShapeLaws.{few-blocks}
 use Rattle.graph.specs.declared.Shape.{Shape}
 use Rattle.graph.specs.declared.Place.{Place}
 use Rattle.graph.specs.Tables.{Edges}
-use Rattle.graph.specs.Shape.{row_of, Shaped, ShapeSays}
+use Rattle.graph.specs.Shape.{Shaped, ShapeSays}
 use Rattle.graph.specs.Filling.{Sized, Chained, Ended, Given, Rows, Within, BlockRows}
 
 -- ---- First points
@@ -59,7 +59,7 @@ map_same g h (n ∷ ns) e = rw (e n (contains-here n ns), map_same g h ns (λ c 
 
 -- Block b of a job, which the answer d is about.
 module _ {s : List ℕ} {t : Offsets} {h : Head} {j : Job} (w : Given s t h j) (b : BlockIndex) (l : b < length j.blocks) {d : Shape} (says : ShapeSays s (get_or t.blocks b 0) d) where
-  shaped : Shaped s (block_at j.blocks b) d
+  shaped : Shaped (block_at j.blocks b) d
   shaped = says.shaped (block_at j.blocks b) (block-at w.layout b no_block l)
 
   module _ {at : Place} {first succ : List ℕ} (rows : Rows j b at first succ) where
@@ -67,7 +67,7 @@ module _ {s : List ℕ} {t : Offsets} {h : Head} {j : Job} (w : Given s t h j) (
     pub point-room : at.point + d.actions < 1024
     point-room = let x = in_code j b l (actions_in j b) (omega arith) in let y = code-count j in let z = w.layout.few in omega (arith, rows.point, shaped.many)
 
-    pub entry-room : at.entry + d.actions + d.count ≤ 1536
+    pub entry-room : at.entry + d.actions + length d.successors.now ≤ 1536
     entry-room = let x = point-room in omega (arith, rows.few, shaped.count, few-blocks w.layout)
 
     next_chain : (i : ℕ) → i < d.actions → next_of (graph_of j) (at.point + i) ≡ suc (at.point + i) ∷ []
@@ -77,13 +77,13 @@ module _ {s : List ℕ} {t : Offsets} {h : Head} {j : Job} (w : Given s t h j) (
     first_entry : (c : ℕ) → T (contains (block_successors j b) c) → first_of j c ≡ get_or t.first c 0
     first_entry c k = sym (first-at w.layout c (successor_named j w.named b c l k))
 
-    next-end : next_of (graph_of j) (at.point + d.actions) ≡ map (λ (b : ℕ). get_or t.first b 0) (row_of s d)
+    next-end : next_of (graph_of j) (at.point + d.actions) ≡ map (λ (b : ℕ). get_or t.first b 0) (d.successors.now)
     next-end =
         rw (rows.point, shaped.many, shaped.row) (next-at-end j b l ∙ map_same (first_of j) (λ (b : ℕ). get_or t.first b 0) (block_successors j b) first_entry)
 
     pub rows_more : {first₁ succ₁ first₂ succ₂ : List ℕ} → Chained at.point d.actions at.entry first succ first₁ succ₁
-        → Ended s t d (at.point + d.actions) (at.entry + d.actions) first₁ succ₁ first₂ succ₂
-        → Rows j (b + 1) (record { point = at.point + d.actions + 1; entry = at.entry + d.actions + d.count }) first₂ succ₂
+        → Ended t d.successors.now (at.point + d.actions) (at.entry + d.actions) first₁ succ₁ first₂ succ₂
+        → Rows j (b + 1) (record { point = at.point + d.actions + 1; entry = at.entry + d.actions + length d.successors.now }) first₂ succ₂
     rows_more c e =
         record {
           point = let x = first_step j.blocks 0 b l in omega (arith, rows.point, shaped.many);
@@ -98,16 +98,16 @@ module _ (input : Record) (b : BlockIndex) (at : Place) {first succ : List ℕ} 
     pub no_point_lem : 1024 ≤ at.point + d.actions → BlockRows input.bytes.now input.layout.now b at at first succ first succ
     no_point_lem h = record { sized = sized; within = within; rows = λ _ j w l rows. absurd (omega (arith, point-room w b l says rows)) }
 
-    pub no_entry : 1536 < at.entry + d.actions + d.count → BlockRows input.bytes.now input.layout.now b at at first succ first succ
+    pub no_entry : 1536 < at.entry + d.actions + length d.successors.now → BlockRows input.bytes.now input.layout.now b at at first succ first succ
     no_entry h = record { sized = sized; within = within; rows = λ _ j w l rows. absurd (omega (arith, entry-room w b l says rows)) }
 
-    pub block-rows : {between : Record} {first₁ succ₁ first₂ succ₂ : List ℕ} → at.point + d.actions < 1024 → at.entry + d.actions + d.count ≤ 1536 → between ≡ input
-        → Chained at.point d.actions at.entry first succ first₁ succ₁ → Ended between.bytes.now between.layout.now d (at.point + d.actions) (at.entry + d.actions) first₁ succ₁ first₂ succ₂
-        → BlockRows input.bytes.now input.layout.now b at (record { point = at.point + d.actions + 1; entry = at.entry + d.actions + d.count }) first succ first₂ succ₂
+    pub block-rows : {between : Record} {first₁ succ₁ first₂ succ₂ : List ℕ} → at.point + d.actions < 1024 → at.entry + d.actions + length d.successors.now ≤ 1536 → between ≡ input
+        → Chained at.point d.actions at.entry first succ first₁ succ₁ → Ended between.layout.now d.successors.now (at.point + d.actions) (at.entry + d.actions) first₁ succ₁ first₂ succ₂
+        → BlockRows input.bytes.now input.layout.now b at (record { point = at.point + d.actions + 1; entry = at.entry + d.actions + length d.successors.now }) first succ first₂ succ₂
     block-rows {first₁ = first₁} {succ₁} {first₂} {succ₂} p e same c ended = record { sized = z.sized; within = record { point = omega arith; entry = e }; rows = λ _ j w l rows. rows_more w b l says rows c z }
       where
-        z : Ended input.bytes.now input.layout.now d (at.point + d.actions) (at.entry + d.actions) first₁ succ₁ first₂ succ₂
-        z = subst (λ (x : Record). Ended x.bytes.now x.layout.now d (at.point + d.actions) (at.entry + d.actions) first₁ succ₁ first₂ succ₂) same ended
+        z : Ended input.layout.now d.successors.now (at.point + d.actions) (at.entry + d.actions) first₁ succ₁ first₂ succ₂
+        z = subst (λ (x : Record). Ended x.layout.now d.successors.now (at.point + d.actions) (at.entry + d.actions) first₁ succ₁ first₂ succ₂) same ended
 
 -- ---- The whole
 

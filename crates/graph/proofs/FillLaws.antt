@@ -1,16 +1,14 @@
 -- Laws of the tables as they are filled. Assumes nothing.
-use mathlib.Core.Path.{◌≡◌, refl, sym, ap, subst, subst₂, ◌∙◌}
+use mathlib.Core.Path.{◌≡◌, refl, sym, ap, subst₂, ◌∙◌}
 use mathlib.Core.List.{List, [], ◌∷◌, ◌++◌, map, map-append, append_assoc}
 use Prim.Native.Nat.{ℕ, suc, ◌+◌, ◌≤◌, ◌<◌}
 use native.Mathlib.Omega.{arith}
 use native.Mathlib.Numerals.{add-one}
 use native.Mathlib.Decide.{ℕ_discrete}
-use lib.ListN.{length, get_or, take, drop, set, length-set, length-drop, length-map}
-use lib.Seq.{slice, get_or-set_same, get_or-set_other, take-suc-set, take-suc, take-append-le, take-take, drop_at, length-take-le, get_or-drop}
+use lib.ListN.{length, get_or, take, drop, set, length-set, length-map}
+use lib.Seq.{slice, get_or-set_same, get_or-set_other, take-suc-set, take-suc, take-append-le, take-take, drop_at, length-take-le, take_all}
 use Rattle.nll_spec.specs.Syntax.{Point}
 use Rattle.graph.specs.Tables.{row_start, row_end}
-use Rattle.graph.specs.declared.Shape.{Shape}
-use Rattle.graph.specs.Shape.{InRecord}
 use Rattle.graph.specs.Filling.{Filled, Sized, Chained, Ended}
 use Rattle.record.specs.declared.Offsets.{Offsets}
 
@@ -82,39 +80,34 @@ module _ {p k i : ℕ} {first₀ succ₀ first succ : List ℕ} (w : Chained p i
 -- ---- The end of a block
 
 -- The first i successors stand after the first k entries.
-pub record Ending (g : ℕ → ℕ) (s : List ℕ) (from i k : ℕ) (succ₀ succ : List ℕ) : Type 0 where
+pub record Ending (g : ℕ → ℕ) (bs : List ℕ) (i k : ℕ) (succ₀ succ : List ℕ) : Type 0 where
   pub size : length succ ≡ 1536
-  pub row : take (k + i) succ ≡ take k succ₀ ++ map g (take i (drop from s))
+  pub row : take (k + i) succ ≡ take k succ₀ ++ map g (take i bs)
 
-pub ending_more : {g : ℕ → ℕ} {s : List ℕ} {from i k : ℕ} {succ₀ succ : List ℕ} → Ending g s from i k succ₀ succ → k + i < 1536 → from + i < length s → {v : ℕ} → v ≡ g (get_or s (from + i) 0)
-    → Ending g s from (i + 1) k succ₀ (set succ (k + i) v)
-ending_more {g} {s} {from} {i} {k} {succ₀} {succ} w h l {v} e =
+pub ending_more : {g : ℕ → ℕ} {bs : List ℕ} {i k : ℕ} {succ₀ succ : List ℕ} → Ending g bs i k succ₀ succ → k + i < 1536 → i < length bs → {v : ℕ} → v ≡ g (get_or bs i 0)
+    → Ending g bs (i + 1) k succ₀ (set succ (k + i) v)
+ending_more {g} {bs} {i} {k} {succ₀} {succ} w h l {v} e =
     record {
       size = length-set succ _ _ ∙ w.size;
       row = row w.size;
     }
   where
-    row : length succ ≡ 1536 → take (k + (i + 1)) (set succ (k + i) v) ≡ take k succ₀ ++ map g (take (i + 1) (drop from s))
+    row : length succ ≡ 1536 → take (k + (i + 1)) (set succ (k + i) v) ≡ take k succ₀ ++ map g (take (i + 1) bs)
     row z =
         let a : k + (i + 1) ≡ suc (k + i) = omega arith in
         let b : i + 1 ≡ suc i = omega arith in
-        let c : i < length (drop from s) = simp length-drop (omega arith) in
-        rw (a, b, take-suc-set succ (k + i) v (omega arith), take-suc (drop from s) i 0 c, map-append, get_or-drop, w.row, e, append_assoc)
+        rw (a, b, take-suc-set succ (k + i) v (omega arith), take-suc bs i 0 l, map-append, w.row, e, append_assoc)
 
-module _ {g : ℕ → ℕ} {s : List ℕ} {from count k : ℕ} {succ₀ succ : List ℕ} (w : Ending g s from count k succ₀ succ) where
-  pub ending_filled : {f : Point → List Point} {first : List ℕ} {p : ℕ} → k + count ≤ 1536 → length succ₀ ≡ 1536 → p < 1024 → length first ≡ 1025 → from + count ≤ length s
-      → f p ≡ map g (take count (drop from s)) → Filled f first succ₀ p k → Filled f (set first (p + 1) (k + count)) succ (p + 1) (k + count)
-  ending_filled a b c d l e was = filled_more was (map g (take count (drop from s))) succ (omega arith) (omega arith) long w.row refl e
-    where
-      long : k + count ≡ k + length (map g (take count (drop from s)))
-      long = rw (length-map, length-take-le count (drop from s) (simp length-drop (omega arith)))
-
-pub ending_all : {s : List ℕ} {t : Offsets} {r : Shape} {i k p : ℕ} {first succ₀ succ : List ℕ} → Ending (λ (b : ℕ). get_or t.first b 0) s r.from i k succ₀ succ → i ≤ r.count → r.count ≤ i
-    → InRecord s r → p < 1024 → k + r.count ≤ 1536 → Sized first succ₀ → Ended s t r p k first succ₀ (set first (p + 1) (k + r.count)) succ
-ending_all {s} {t} {r} {i} {k} {p} {first} {succ₀} {succ} w a b d e l z =
-    let x : i ≡ r.count = omega arith in
-    let v : Ending (λ (b : ℕ). get_or t.first b 0) s r.from r.count k succ₀ succ = subst (λ (m : ℕ). Ending (λ (b : ℕ). get_or t.first b 0) s r.from m k succ₀ succ) x w in
+pub ending_all : {t : Offsets} {bs : List ℕ} {i k p : ℕ} {first succ₀ succ : List ℕ} → Ending (λ (b : ℕ). get_or t.first b 0) bs i k succ₀ succ → length bs ≤ i
+    → p < 1024 → k + length bs ≤ 1536 → i ≤ length bs → Sized first succ₀ → Ended t bs p k first succ₀ (set first (p + 1) (k + length bs)) succ
+ending_all {t} {bs} {i} {k} {p} {first} {succ₀} {succ} w a e l b z =
     record {
-      sized = record { rows = length-set first _ _ ∙ z.rows; entries = v.size };
-      filled = λ f h was. ending_filled v l z.entries e z.rows d.inside h was;
+      sized = record { rows = length-set first _ _ ∙ z.rows; entries = w.size };
+      filled = λ f h was. filled_more was (map firsts bs) succ (omega (arith, z.entries)) (omega (arith, z.rows)) (rw length-map refl) row refl h;
     }
+  where
+    firsts : ℕ → ℕ
+    firsts b = get_or t.first b 0
+
+    row : take (k + length bs) succ ≡ take k succ₀ ++ map firsts bs
+    row = let x : i ≡ length bs = omega arith in rw (take_all (length bs) bs (omega arith)) at (rw x at w.row)

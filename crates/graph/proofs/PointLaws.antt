@@ -62,7 +62,7 @@ module _ (ws : List ℕ) (p : ℕ) where
 -- ---- One block
 
 module _ {s : List ℕ} {t : Offsets} {seen : List Bool} {h : Head} {j : Job} (w : Given s t h j) (marks : MarksWalked seen j) (b : BlockIndex) (l : b < length j.blocks) {d : Shape} (says : ShapeSays s (get_or t.blocks b 0) d) {p : ℕ} {ws : List ℕ} (was : WalkedBelow j b p ws) where
-  shaped : Shaped s (block_at j.blocks b) d
+  shaped : Shaped (block_at j.blocks b) d
   shaped = says.shaped (block_at j.blocks b) (block-at w.layout b no_block l)
 
   pub points-room : p + (d.actions + 1) ≤ 1024

@@ -1,10 +1,9 @@
 -- What a block that is read says of its counts. Assumes nothing.
 use mathlib.Core.Path.{◌≡◌, sym, ap, subst, ◌∙◌}
 use mathlib.Core.List.{List}
-use Prim.Native.Nat.{ℕ, ◌-◌, ◌≤◌, ◌<◌, min}
+use Prim.Native.Nat.{ℕ, ◌≤◌}
 use native.Mathlib.Omega.{arith}
-use lib.ListN.{length, take, drop, length-take, length-drop, drop_of_length-le}
-use lib.Seq.{take_all, take-nil}
+use lib.ListN.{length, take, drop}
 use Rattle.nll_spec.specs.Syntax.{Block, Job}
 use Rattle.nll_spec.specs.Decode.{read, byte, count, items, counted, action, block, max_successors, max_actions}
 use Rattle.repr.specs.Reading.{rest}
@@ -19,44 +18,13 @@ use Rattle.record.specs.declared.Head.{Head}
 use Rattle.record.specs.declared.Offsets.{Offsets}
 use Rattle.record.proofs.LayoutLaws.{count_most}
 use Rattle.graph.specs.declared.Shape.{Shape}
-use Rattle.graph.specs.Shape.{Listed, Shaped, ShapeSays}
+use Rattle.graph.specs.Shape.{Few, Listed, Shaped, ShapeSays}
 use Rattle.repr.specs.declared.refusal.Refusal.{Refusal}
 use Rattle.std.specs.Prelude.{Result, Ok, Err}
-use native.Mathlib.Decide.{dec_lt}
 
 -- A job of the record has at most 64 blocks.
 pub few-blocks : {s : List ℕ} {t : Offsets} {h : Head} {j : Job} → Layout s t h j → length j.blocks ≤ 64
 few-blocks w = omega (arith, w.block_count, w.block_limit)
-
--- ---- The row of successors, cut where the record ends
-
-module _ (s : List ℕ) (d : BasicBlockData) {many n : ℕ} (i : many ≡ d.actions) (l : many ≤ 255) (e : n ≡ d.successors) (h : n ≤ 255) where
-  pub listed_none : length s ≤ d.targets.at → Listed s d (record { actions = many; count = 0; from = 0 })
-  listed_none k =
-      record {
-        fits = record { inside = omega arith; few = omega arith; actions = l };
-        many = i;
-        row = rw (drop_of_length-le s k, take-nil);
-      }
-
-  listed_cut : d.targets.at < length s → length s - d.targets.at < n → Listed s d (record { actions = many; count = length s - d.targets.at; from = d.targets.at })
-  listed_cut k m =
-      let x = length-drop d.targets.at s in
-      record {
-        fits = record { inside = omega arith; few = omega arith; actions = l };
-        many = i;
-        row = take_all (length s - d.targets.at) (drop d.targets.at s) (omega arith) ∙ sym (take_all d.successors (drop d.targets.at s) (omega arith));
-      }
-
-  listed_whole : d.targets.at < length s → n ≤ length s - d.targets.at → Listed s d (record { actions = many; count = n; from = d.targets.at })
-  listed_whole k m = record { fits = record { inside = omega arith; few = h; actions = l }; many = i; row = rw e }
-
-  pub listed_within : d.targets.at < length s → {m : ℕ} → m ≡ min n (length s - d.targets.at) → Listed s d (record { actions = many; count = m; from = d.targets.at })
-  listed_within k {m} p = go (dec_lt (length s - d.targets.at) n)
-    where
-      go : Dec (length s - d.targets.at < n) → Listed s d (record { actions = many; count = m; from = d.targets.at })
-      go (yes h) = let q : m ≡ length s - d.targets.at = omega arith in rw q (listed_cut k h)
-      go (no h) = let q : m ≡ n = omega arith in rw q (listed_whole k (omega arith))
 
 -- ---- A block that was read
 
@@ -86,25 +54,22 @@ module _ (s : List ℕ) (d : BasicBlockData) {b : Block} {over : List ℕ} where
 -- ---- The answer
 
 module _ {s : List ℕ} {at : ℕ} {r : Result BasicBlockData Refusal} (e : block_says s r ≡ block (drop at s)) where
-  pub shape_none : {k : Refusal} → r ≡ Err k → ShapeSays s at (record { actions = 0; count = 0; from = 0 })
-  shape_none i =
+  pub shape_none : {k : Refusal} → r ≡ Err k → {x : Shape} → Few x → ShapeSays s at x
+  shape_none i few =
       record {
-        fits = record { inside = omega arith; few = omega arith; actions = omega arith };
+        fits = few;
         shaped = λ b h. absurd (clash (sym (told (block_says s) e i) ∙ h.reads));
       }
 
   pub shape_block : {d : BasicBlockData} → r ≡ Ok d → {x : Shape} → Listed s d x → ShapeSays s at x
   shape_block {d} i {x} l = record { fits = l.fits; shaped = shaped }
     where
-      shaped : (b : Block) → Stands block b (drop at s) → Shaped s b x
+      shaped : (b : Block) → Stands block b (drop at s) → Shaped b x
       shaped b h =
           let f = sym (told (block_says s) e i) ∙ h.reads in
           let row = l.row ∙ block_row s d f in
           let k = block-few (drop at s) h.reads in
           let m = ap length row in
-          let n = length-take x.count (drop x.from s) in
-          let o = length-drop x.from s in
-          let p = l.fits.inside in
           record { many = l.many ∙ block-many s d f; row = row; count = omega arith }
 
 -- at the place that the table gives

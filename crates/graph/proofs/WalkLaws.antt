@@ -19,7 +19,7 @@ use Rattle.record.specs.declared.Offsets.{Offsets}
 use Rattle.record.proofs.AccessLaws.{block-at}
 use Rattle.graph.proofs.ShapeLaws.{few-blocks}
 use Rattle.graph.specs.declared.Shape.{Shape}
-use Rattle.graph.specs.Shape.{row_of, ShapeSays}
+use Rattle.graph.specs.Shape.{ShapeSays}
 use Rattle.graph.specs.Filling.{Given}
 use Rattle.std.proofs.Common.{Some, None}
 use Rattle.graph.specs.Search.{State, state, Popped, Roomy, visited, visits, is_marked, WalkedBlocks, Marked}
@@ -128,20 +128,20 @@ module _ {s : List ℕ} {t : Offsets} {start : ℕ} {st : State} (room : Roomy s
     top_walked : IsWalked j (top_of st)
     top_walked = let x = w.walk h j g in x.sound (top_of st) (x.pushed (st.depth - 1) (omega arith))
 
-    row_is : row_of s d ≡ block_successors j (top_of st)
+    row_is : d.successors.now ≡ block_successors j (top_of st)
     row_is = (says.shaped (block_at j.blocks (top_of st)) (block-at g.given.layout (top_of st) no_block (walked-inside j (top_of st) top_walked))).row
 
-    row_walked : (c : ℕ) → T (contains (row_of s d) c) → IsWalked j c × (c < 64)
+    row_walked : (c : ℕ) → T (contains (d.successors.now) c) → IsWalked j c × (c < 64)
     row_walked c k =
         let e = rw row_is at k in
         let l = successor_named j g.given.named (top_of st) c (walked-inside j (top_of st) top_walked) e in
         (next-walked j (top_of st) c top_walked l e, omega (arith, few-blocks g.given.layout))
 
-  searching_more : Searching s t start (visits (row_of s d) (popped st))
+  searching_more : Searching s t start (visits (d.successors.now) (popped st))
   searching_more =
       record {
-        walk = λ h j g. walk_turn (After j) (IsWalked j) (row_of s d) (roomy_pop room) (w.walk h j g) deep (row_walked h j g) (λ y k. rw (row_is h j g) k);
-        first = λ h j g. (visits-kept (row_of s d) (roomy_pop room)).marks start (w.first h j g);
+        walk = λ h j g. walk_turn (After j) (IsWalked j) (d.successors.now) (roomy_pop room) (w.walk h j g) deep (row_walked h j g) (λ y k. rw (row_is h j g) k);
+        first = λ h j g. (visits-kept (d.successors.now) (roomy_pop room)).marks start (w.first h j g);
       }
 
 -- ---- The marks
@@ -163,14 +163,14 @@ pub turned_none : (s : List ℕ) (t : Offsets) (start : ℕ) {st : State} → st
 turned_none s t start e = record { roomy = subst Roomy (sym e) (visited-kept start roomy_none).roomy; on = λ _ w. w }
 
 module _ {s : List ℕ} {t : Offsets} {from st : State} (w : Turned s t from st) (deep : 0 < st.depth) where
-  module _ (d : Shape) {u : State} (e : u ≡ visits (row_of s d) (popped st)) where
+  module _ (d : Shape) {u : State} (e : u ≡ visits (d.successors.now) (popped st)) where
     pub turned_less : work u < work st
-    turned_less = subst (λ (v : State). work v < work st) (sym e) (let k = (visits-kept (row_of s d) (roomy_pop w.roomy)).less in omega arith)
+    turned_less = subst (λ (v : State). work v < work st) (sym e) (let k = (visits-kept (d.successors.now) (roomy_pop w.roomy)).less in omega arith)
 
     pub turned_more : ShapeSays s (get_or t.blocks (top_of st) 0) d → Turned s t from u
     turned_more says =
         subst (Turned s t from) (sym e)
-        (record { roomy = (visits-kept (row_of s d) (roomy_pop w.roomy)).roomy; on = λ start x. searching_more w.roomy deep says (w.on start x) })
+        (record { roomy = (visits-kept (d.successors.now) (roomy_pop w.roomy)).roomy; on = λ start x. searching_more w.roomy deep says (w.on start x) })
 
 -- the stack is empty
 pub turned_all : {s : List ℕ} {t : Offsets} {from st u : State} {start : ℕ} → Turned s t from st → Popped st None u → from ≡ visited start nothing → WalkedBlocks s t start u.seen

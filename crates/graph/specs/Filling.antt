@@ -9,8 +9,6 @@ use Rattle.record.specs.Layout.{Layout}
 use Rattle.record.specs.declared.Head.{Head}
 use Rattle.record.specs.declared.Offsets.{Offsets}
 use Rattle.graph.specs.Tables.{row_start, row_end}
-use Rattle.graph.specs.Shape.{row_of}
-use Rattle.graph.specs.declared.Shape.{Shape}
 use Rattle.graph.specs.declared.Place.{Place}
 
 -- The rows of the points below n are what f says, in the first k entries of `succ`.
@@ -31,9 +29,9 @@ pub record Chained (p n k : ℕ) (first₀ succ₀ first succ : List ℕ) : Type
   pub filled : (f : Point → List Point) → ((i : ℕ) → i < n → f (p + i) ≡ suc (p + i) ∷ []) → Filled f first₀ succ₀ p k → Filled f first succ (p + n) (k + n)
 
 -- The row of point p, a block's end, is there: the first points of its successors.
-pub record Ended (s : List ℕ) (t : Offsets) (r : Shape) (p k : ℕ) (first₀ succ₀ first succ : List ℕ) : Type 0 where
+pub record Ended (t : Offsets) (bs : List BlockIndex) (p k : ℕ) (first₀ succ₀ first succ : List ℕ) : Type 0 where
   pub sized : Sized first succ
-  pub filled : (f : Point → List Point) → f p ≡ map (λ (b : ℕ). get_or t.first b 0) (row_of s r) → Filled f first₀ succ₀ p k → Filled f first succ (p + 1) (k + r.count)
+  pub filled : (f : Point → List Point) → f p ≡ map (λ (b : ℕ). get_or t.first b 0) bs → Filled f first₀ succ₀ p k → Filled f first succ (p + 1) (k + length bs)
 
 -- A job of the record that fits the tables.
 pub record Given (s : List ℕ) (t : Offsets) (h : Head) (j : Job) : Type 0 where

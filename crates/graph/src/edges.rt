@@ -1,17 +1,16 @@
 // The rows of both tables, block by block.
-ghost use Rattle.std.specs.Prelude.{◌≡◌, ◌+◌, ◌<◌, ◌≤◌, T};
+ghost use Rattle.std.specs.Prelude.{◌≡◌, ◌+◌, ◌<◌, ◌≤◌, length, T};
 ghost use Rattle.nll_spec.specs.Syntax.{Job};
 ghost use Rattle.nll_spec.specs.Decode.{point_count};
 ghost use Rattle.nll_spec.specs.WellFormed.{successors_named};
 ghost use Rattle.nll_spec.specs.Graph.{graph_of};
 ghost use Rattle.record.specs.Layout.{Holds};
 ghost use Rattle.graph.specs.Tables.{Edges};
-ghost use Rattle.graph.specs.Shape.{InRecord};
 ghost use Rattle.graph.specs.Filling.{Chained, Ended, Within, BlockRows};
 
+use super::Place;
 use super::shapes::shape;
 use super::tables::FuncGraph;
-use super::{Place, Shape};
 use repr::BasicBlockIndex;
 
 impl FuncGraph<'_> {
@@ -28,16 +27,15 @@ impl FuncGraph<'_> {
     }
 
     // The row of a block's end, point p: the first points of its successors.
-    fn end(&mut self, d: Shape, p: usize, k: usize)
-        requires { InRecord self.old.input.bytes.now d × (p < 1024) × (k + d.count ≤ 1536) }
-        ensures { Ended self.old.input.bytes.now self.old.input.layout.now d p k self.old.first self.old.succ self.new.first self.new.succ
+    fn end(&mut self, successors: &[u8], p: usize, k: usize)
+        requires { (p < 1024) × (k + length successors.now ≤ 1536) }
+        ensures { Ended self.old.input.layout.now successors.now p k self.old.first self.old.succ self.new.first self.new.succ
             × (self.new.input ≡ self.old.input) }
     {
-        for i in 0..d.count {
-            let b = BasicBlockIndex(self.input.bytes[d.from + i]);
-            self.succ[k + i] = self.input.first_point(b);
+        for i in 0..successors.len() {
+            self.succ[k + i] = self.input.first_point(BasicBlockIndex(successors[i]));
         }
-        self.first[p + 1] = (k + d.count) as u16;
+        self.first[p + 1] = (k + successors.len()) as u16;
     }
 
     // The rows of block b. Where the tables have no room for them, nothing is written.
@@ -52,14 +50,14 @@ impl FuncGraph<'_> {
         if 1024 <= end_point {
             return at;
         }
-        if 1536 < end_entry + d.count {
+        if 1536 < end_entry + d.successors.len() {
             return at;
         }
         self.chain(at.point, d.actions, at.entry);
-        self.end(d, end_point, end_entry);
+        self.end(d.successors, end_point, end_entry);
         Place {
             point: end_point + 1,
-            entry: end_entry + d.count,
+            entry: end_entry + d.successors.len(),
         }
     }
 

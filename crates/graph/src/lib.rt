@@ -6,12 +6,11 @@ mod shapes;
 pub mod tables;
 pub mod walked;
 
-// So many actions, and the row of so many successors, which begins at a place of the record.
+// So many actions, and the successors, as they stand in the record.
 #[derive(Clone, Copy)]
-pub struct Shape {
+pub struct Shape<'a> {
     pub actions: usize,
-    pub count: usize,
-    pub from: usize,
+    pub successors: &'a [u8],
 }
 
 // How far the tables of edges are filled: the points below `point` have rows, in the first `entry` entries.

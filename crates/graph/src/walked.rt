@@ -4,10 +4,8 @@ ghost use Rattle.nll_spec.specs.Syntax.{Job};
 ghost use Rattle.nll_spec.specs.Decode.{point_count};
 ghost use Rattle.nll_spec.specs.WellFormed.{successors_named};
 ghost use Rattle.record.specs.Layout.{Holds};
-ghost use Rattle.graph.specs.Shape.{InRecord, row_of};
 ghost use Rattle.graph.specs.Search.{state_of, Roomy, visited, visits, WalkedBlocks, with_run, BlockPoints, WalkedIn};
 
-use super::Shape;
 use super::search::Search;
 use super::shapes::shape;
 use record::Record;
@@ -29,11 +27,11 @@ fn visit(search: &mut Search<64>, b: u8)
 }
 
 // Visits the successors of a block.
-fn visit_next(search: &mut Search<64>, s: &[u8], d: Shape)
-    requires { InRecord s.now d × Roomy (state_of search.old) }
-    ensures { state_of search.new ≡ visits (row_of s.now d) (state_of search.old) }
+fn visit_next(search: &mut Search<64>, successors: &[u8])
+    requires { Roomy (state_of search.old) }
+    ensures { state_of search.new ≡ visits successors.now (state_of search.old) }
 {
-    for &b in &s[d.from..d.from + d.count] {
+    for &b in successors {
         visit(search, b);
     }
 }
@@ -46,7 +44,7 @@ pub fn blocks(input: &Record<'_>, start: BasicBlockIndex) -> [bool; 64]
     visit(&mut search, start.0);
     while let Some(b) = search.pop() {
         let d = shape(input, BasicBlockIndex(b as u8));
-        visit_next(&mut search, input.bytes, d);
+        visit_next(&mut search, d.successors);
     }
     search.seen
 }

@@ -1,10 +1,11 @@
 // The lines of an answer: each step puts what comes next at a place of the listing.
-ghost use Rattle.std.specs.Prelude.{◌≡◌, ◌+◌, ◌≤◌, length, get_or};
+ghost use Rattle.std.specs.Prelude.{◌≡◌, ◌+◌, ◌≤◌, length};
 ghost use Rattle.nll_spec.specs.Syntax.{Job};
 ghost use Rattle.nll_spec.specs.Decode.{decode, decoded};
 
 use super::writer::{Text, line, spaced};
 use super::{Counts, Place};
+use entries::get_or;
 use record::{Offsets, read};
 
 // How many steps one text takes at most.
@@ -27,13 +28,6 @@ impl Answer<'_> {
     {
         let each = usize::from(self.counts.points).div_ceil(32);
         bit_set::test(self.words, usize::from(r) * each, usize::from(p))
-    }
-
-    // The byte at i, or 0 past the end.
-    fn byte(&self, i: usize) -> u8
-        ensures { result ≡ get_or self.now.bytes.now i 0 }
-    {
-        self.bytes.get(i).copied().unwrap_or(0)
     }
 
     // The place after region r's line.
@@ -84,9 +78,9 @@ impl Answer<'_> {
             return Place::Grown(0);
         }
         let at = 2 * usize::from(p);
-        let kind = self.byte(at);
+        let kind = get_or(self.bytes, at, 0);
         if kind != 0 {
-            let operand = self.byte(at + 1);
+            let operand = get_or(self.bytes, at + 1, 0);
             line(text, b"access", &[p, u16::from(kind), u16::from(operand)]);
         }
         Place::Access(p + 1)
@@ -101,7 +95,7 @@ impl Answer<'_> {
             return Place::Done;
         }
         let at = 2 * usize::from(self.counts.points) + usize::from(r);
-        if self.byte(at) != 0 {
+        if get_or(self.bytes, at, 0) != 0 {
             line(text, b"grown", &[u16::from(r)]);
         }
         Place::Grown(r + 1)

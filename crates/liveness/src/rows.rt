@@ -29,13 +29,13 @@ fn column(sets: &[u32], p: usize, half: Half, many: usize, width: usize, rows: &
     ensures { Column width many (in_set sets.now p (start_of half)) p rows.old rows.new }
 {
     let at = 4 * p + half.start() / 32;
-    let low = bit_slice::word_at(sets, at);
+    let low = entries::get_or(sets, at, 0);
     if many <= 32 {
         word_column(low, p, 0, many, width, rows);
         return;
     }
     word_column(low, p, 0, 32, width, rows);
-    let high = bit_slice::word_at(sets, at + 1);
+    let high = entries::get_or(sets, at + 1, 0);
     word_column(high, p, 32, many, width, rows);
 }
 

@@ -149,7 +149,7 @@ impl<'a> Setup<'a> {
     {
         let start = usize::from(region.0) * self.width;
         for k in 0..self.code.div_ceil(32) {
-            let w = bit_slice::word_at(self.words, start + k);
+            let w = entries::get_or(self.words, start + k, 0);
             let from = 32 * k;
             put_word(w, from, self.code.min(from + 32), i, sets);
         }

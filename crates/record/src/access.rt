@@ -8,6 +8,7 @@ ghost use Rattle.record.specs.Layout.{Holds};
 ghost use Rattle.record.specs.Access.{point_of, Declared, Acts, kind_of_tag, kind_of};
 
 use super::{ActionKind, END, Record};
+use entries::get_or;
 use repr::{
     Action, BasicBlockIndex, Cursor, Reading, RegionName, Row, StructDecl, StructName, Variable,
 };
@@ -28,18 +29,11 @@ fn kind(tag: u8) -> ActionKind
     }
 }
 
-// Entry i of some entries.
-fn entry(entries: &[u16], i: usize) -> u16
-    ensures { result ≡ get_or entries.now i 0 }
-{
-    entries.get(i).copied().unwrap_or(0)
-}
-
 // Where the part of entry i lies.
 fn place(entries: &[u16], i: u8) -> Cursor
     ensures { result.at ≡ get_or entries.now i 0 }
 {
-    let at = usize::from(entry(entries, usize::from(i)));
+    let at = usize::from(get_or(entries, usize::from(i), 0));
     Cursor { at }
 }
 
@@ -72,14 +66,14 @@ impl<'a> Record<'a> {
     pub fn first_point(&self, b: BasicBlockIndex) -> u16
         ensures { result ≡ get_or self.now.layout.now.first b.0 0 }
     {
-        entry(&self.layout.first, usize::from(b.0))
+        get_or(&self.layout.first, usize::from(b.0), 0)
     }
 
     // Where the action of a point of the blocks lies; none at a block's end. A point that has no entry is at 0.
     pub fn point_at(&self, p: usize) -> Option<Cursor>
         ensures { result ≡ point_of (get_or self.now.layout.now.points p 0) }
     {
-        match entry(&self.layout.points, p) {
+        match get_or(&self.layout.points, p, 0) {
             END => None,
             at => Some(Cursor {
                 at: usize::from(at),

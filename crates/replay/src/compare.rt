@@ -4,7 +4,8 @@ ghost use Rattle.nll_spec.specs.Cases.{same_list};
 ghost use Rattle.nll_spec.specs.Output.{overwrite};
 ghost use Rattle.replay.specs.File.{word_at, words_at, agrees, EntryIn};
 
-use super::file::{Entry, byte_at, four_at};
+use super::file::{Entry, four_at};
+use entries::get_or;
 
 // What each word and each byte holds before the call.
 const WORD: u32 = 0xa5a5_a5a5;
@@ -55,7 +56,7 @@ pub fn agree(s: &[u8], e: Entry) -> bool
     let mut words = words_before;
     let mut bytes = bytes_before;
     let number = nll::nll_analyse(&s[e.input..e.number], &mut words, &mut bytes);
-    if number != byte_at(s, e.number) {
+    if number != get_or(s, e.number, 0) {
         return false;
     }
     same_words(s, e.words, e.count, &words, &words_before)

@@ -1,6 +1,8 @@
 // The file of recorded answers: big-endian numbers, and where an entry's parts stand.
-ghost use Rattle.std.specs.Prelude.{◌≡◌, ◌≤◌, get_or};
+ghost use Rattle.std.specs.Prelude.{◌≡◌, ◌≤◌};
 ghost use Rattle.replay.specs.File.{two, four, entry_at};
+
+use entries::get_or;
 
 // An entry: its record stands from `input` to `number`, where the number stands; so many words from `words` on; its bytes from `bytes` to `end`.
 #[derive(Clone, Copy)]
@@ -13,19 +15,12 @@ pub struct Entry {
     pub end: usize,
 }
 
-// The byte at a position; 0 past the end.
-pub fn byte_at(s: &[u8], at: usize) -> u8
-    ensures { result ≡ get_or s.now at 0 }
-{
-    s.get(at).copied().unwrap_or(0)
-}
-
 // The two-byte number at a position.
 pub fn two_at(s: &[u8], at: usize) -> usize
     requires { at ≤ 4194304 }
     ensures { (result ≡ two s.now at) × (result ≤ 65535) }
 {
-    usize::from(u16::from_be_bytes([byte_at(s, at), byte_at(s, at + 1)]))
+    usize::from(u16::from_be_bytes([get_or(s, at, 0), get_or(s, at + 1, 0)]))
 }
 
 // The four-byte number at a position.
@@ -34,10 +29,10 @@ pub fn four_at(s: &[u8], at: usize) -> u32
     ensures { result ≡ four s.now at }
 {
     u32::from_be_bytes([
-        byte_at(s, at),
-        byte_at(s, at + 1),
-        byte_at(s, at + 2),
-        byte_at(s, at + 3),
+        get_or(s, at, 0),
+        get_or(s, at + 1, 0),
+        get_or(s, at + 2, 0),
+        get_or(s, at + 3, 0),
     ])
 }
 

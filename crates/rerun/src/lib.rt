@@ -96,8 +96,8 @@ fn lead(words: &[u32], before: &[u32], start: usize, width: usize, near: &mut [u
 {
     let mut after = 0;
     for k in (0..width).rev() {
-        let held = bit_slice::word_at(words, start + k);
-        let old = bit_slice::word_at(before, start + k);
+        let held = entries::get_or(words, start + k, 0);
+        let old = entries::get_or(before, start + k, 0);
         let from = (held ^ (held & old)) | (held & after);
         let lead = lead_within(held, from);
         near[k] = near[k] | lead | (lead >> 1) | after;

@@ -12,7 +12,7 @@ pub loop-b-init : goal.loop-b-init
 loop-b-init c = turned_none _ _ c.args.start.0 (c.visit.ensures ∙ ap (visited c.args.start.0) c.new-search.ensures)
 
 pub visit_next-requires : goal.visit_next-requires
-visit_next-requires c = (c.shape-d.ensures.fits, popped_roomy c.in-Some.ensures c.loop-b.invariant.roomy)
+visit_next-requires c = popped_roomy c.in-Some.ensures c.loop-b.invariant.roomy
 
 pub loop-b-smaller : goal.loop-b-smaller
 loop-b-smaller c = turned_less c.loop-b.invariant c.in-Some.ensures.0 c.shape-d.result (popped_visits c.in-Some.ensures _ c.visit_next.ensures)

@@ -4,4 +4,4 @@ use Rattle.graph.specs.Search.{state_of}
 use Rattle.graph.proofs.walked.visit_next.Given as goal
 
 abbrev pub invariant-loop-b : goal.invariant-loop-b
-invariant-loop-b l = Visiting l.b-items l.b-index (state_of l.initial.search) (state_of l.search)
+invariant-loop-b l = Visiting l.successors l.b-index (state_of l.initial.search) (state_of l.search)

@@ -7,7 +7,7 @@ use Rattle.graph.proofs.tables.FuncGraph.end.Goals as goal
 
 pub returns : goal.returns
 returns c = (
-  rw c.loop-i.invariant.1 (ending_all c.loop-i.invariant.2 (omega arith) (omega arith) c.requires.0 c.requires.1 c.requires.2 (search rules)),
+  rw c.loop-i.invariant.1 (ending_all c.loop-i.invariant.2 (omega arith) c.requires.0 c.requires.1 (omega arith) (search rules)),
   c.loop-i.invariant.0,
 )
 
@@ -15,5 +15,5 @@ pub loop-i-preserved : goal.loop-i-preserved
 loop-i-preserved c = (
   c.loop-i.invariant.0,
   c.loop-i.invariant.1,
-  ending_more c.loop-i.invariant.2 (omega arith) (omega (arith, c.requires.0.inside)) (rw (sym c.loop-i.invariant.0) c.first_point.ensures),
+  ending_more c.loop-i.invariant.2 (omega arith) (omega arith) (rw (sym c.loop-i.invariant.0) c.first_point.ensures),
 )

@@ -8,4 +8,4 @@ use Rattle.graph.proofs.tables.FuncGraph.end.Given as goal
 abbrev pub invariant-loop-i : goal.invariant-loop-i
 invariant-loop-i l =
     (l.self.input ≡ l.initial.self.input) × (l.self.first ≡ l.initial.self.first)
-    × Ending (λ (b : ℕ). get_or l.initial.self.input.layout.now.first b 0) l.initial.self.input.bytes.now l.d.from l.i l.k l.initial.self.succ l.self.succ
+    × Ending (λ (b : ℕ). get_or l.initial.self.input.layout.now.first b 0) l.successors l.i l.k l.initial.self.succ l.self.succ
