@@ -32,8 +32,8 @@ impl FuncGraph<'_> {
         ensures { Ended self.old.input.layout.now successors.now p k self.old.first self.old.succ self.new.first self.new.succ
             × (self.new.input ≡ self.old.input) }
     {
-        for i in 0..successors.len() {
-            self.succ[k + i] = self.input.first_point(BasicBlockIndex(successors[i]));
+        for (i, &b) in successors.iter().enumerate() {
+            self.succ[k + i] = self.input.first_point(BasicBlockIndex(b));
         }
         self.first[p + 1] = (k + successors.len()) as u16;
     }
