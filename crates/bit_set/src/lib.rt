@@ -104,8 +104,8 @@ pub fn union_from(words: &mut [u32], dst: usize, from: &[u32], src: usize, n: us
         return false;
     }
     let mut changed = false;
-    for i in 0..n {
-        changed |= join(&mut words[dst + i], from[src + i]);
+    for (i, &other) in from[src..src + n].iter().enumerate() {
+        changed |= join(&mut words[dst + i], other);
     }
     changed
 }

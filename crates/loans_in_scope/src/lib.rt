@@ -134,8 +134,8 @@ fn mask(by: &[u32], n: usize, sets: &mut [u32])
     requires { (n ≤ length by.now) × (n ≤ length sets.old) }
     ensures { Masked by.now sets.old n sets.new }
 {
-    for w in 0..n {
-        sets[w] &= by[w];
+    for (w, set) in sets[..n].iter_mut().enumerate() {
+        *set &= by[w];
     }
 }
 

@@ -62,8 +62,8 @@ pub fn keep(words: &[u32], before: &mut [u32])
     ensures { Keeps words.now before.old before.new (length before.old) }
 {
     let n = words.len().min(before.len());
-    for i in 0..n {
-        before[i] = words[i];
+    for (i, &word) in words[..n].iter().enumerate() {
+        before[i] = word;
     }
     before[n..].fill(0);
 }

@@ -31,8 +31,8 @@ fn put_run(out: &mut [u8], at: usize, bytes: &[u8])
     requires { at + length bytes.now ≤ length out.old }
     ensures { take (at + length bytes.now) out.new ≡ take at out.old ++ bytes.now }
 {
-    for i in 0..bytes.len() {
-        out[at + i] = bytes[i];
+    for (i, &byte) in bytes.iter().enumerate() {
+        out[at + i] = byte;
     }
 }
 

@@ -1,4 +1,6 @@
-use mathlib.Core.Path.{refl}
+use mathlib.Core.Path.{◌∙◌}
+use lib.ListN.{drop}
+use lib.Seq.{get_or-take, get_or-drop}
 use native.Mathlib.Omega.{arith}
 use Rattle.bit_set.proofs.RunLaws.{join_start, join_turn}
 use Rattle.bit_set.proofs.union_from.Goals as goal
@@ -13,4 +15,4 @@ loop-i-preserved c =
     let a = c.args in
     let l = c.loop-i in
     let j = c.join-changed in
-    join_turn a.words.now a.dst a.from.now a.src a.n l.words j.new.word l.changed j.result l.i _ l.invariant (omega arith) refl j.ensures
+    join_turn a.words.now a.dst a.from.now a.src a.n l.words j.new.word l.changed j.result l.i _ l.invariant (omega arith) (get_or-take _ (drop a.src a.from.now) l.i 0 (omega arith) ∙ get_or-drop a.src a.from.now l.i 0) j.ensures
