@@ -1,5 +1,5 @@
 // The walked blocks, by a search from the start block, and their points.
-ghost use Rattle.std.specs.Prelude.{◌≡◌, ◌+◌, ◌<◌, ◌≤◌, length, T, ltb};
+ghost use Rattle.std.specs.Prelude.{◌≡◌, ◌+◌, ◌≤◌, length, T, ltb};
 ghost use Rattle.nll_spec.specs.Syntax.{Job};
 ghost use Rattle.nll_spec.specs.Decode.{point_count};
 ghost use Rattle.nll_spec.specs.WellFormed.{successors_named};

@@ -1,5 +1,5 @@
 // The items that hold no other: bytes, counts, choices, regions, parameters, paths.
-ghost use Rattle.std.specs.Prelude.{◌≡◌, length, drop};
+ghost use Rattle.std.specs.Prelude.{◌≡◌, drop};
 ghost use Rattle.nll_spec.specs.Decode.{byte, count, items, borrow_kind, variance, flag, kind, param, region, path};
 ghost use Rattle.repr.specs.Reading.{says, itself, borrow_kind_of, variance_of, kind_of, parameter_of, region_of, path_of, bytes_say};
 
