@@ -1,7 +1,7 @@
 #![tactic(auto)]
 // Sets of numbers in a lent run of words: number p of the set that starts at word s is bit p % 32 of word s + p / 32.
 // The public functions require nothing: a number past the words is in no set, and a number or a run past the words changes nothing.
-ghost use Rattle.std.specs.Prelude.{◌≡◌, not, ◌+◌, ◌*◌, ◌/◌, ◌%◌, ◌^◌, ◌<◌, ◌≤◌, length, get_or, set, eqb, MatchOption};
+ghost use Rattle.std.specs.Prelude.{◌≡◌, not, ◌+◌, ◌*◌, ◌/◌, ◌%◌, ◌^◌, ◌<◌, ◌≤◌, eqb, MatchOption};
 ghost use Rattle.std.specs.Int.Bits.{bit_or};
 ghost use Rattle.nll_spec.specs.Output.{word_bits};
 ghost use Rattle.bit_set.specs.Bits.{has, with_bit, is_new, without_bit, fits, joined, grows, joined_within, grows_within, cleared};
