@@ -62,7 +62,7 @@ pub fn kill(words: &mut [u32], start: usize, p: usize) -> bool
 }
 
 // Whether the n words from start on are among the first count.
-fn run_fits(count: usize, start: usize, n: usize) -> bool
+pub fn run_fits(count: usize, start: usize, n: usize) -> bool
     ensures { result ≡ fits count start n }
 {
     start.checked_add(n).is_some_and(|end| end <= count)

@@ -38,8 +38,5 @@ pub fn set_from<'w, 'a>(words: &'w mut [u32], start: usize, bits: BitSlice<'a>) 
 pub fn some_set(words: &[u32], start: usize, n: usize) -> bool
     ensures { SomeSet words.now start n result }
 {
-    match start.checked_add(n) {
-        Some(end) if end <= words.len() => words[start..end].iter().any(|w| *w != 0),
-        _ => true,
-    }
+    !bit_set::run_fits(words.len(), start, n) || words[start..start + n].iter().any(|w| *w != 0)
 }

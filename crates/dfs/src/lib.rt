@@ -101,7 +101,7 @@ impl Walk<'_> {
         let b = next % 32;
         let limit = (31 - b).min(self.code - 1 - next);
         let n = (run_length(self.chain[k], self.words[self.from + k], b) as usize).min(limit);
-        points[k] = points[k] | mask(b, n);
+        points[k] |= mask(b, n);
         next + n
     }
 
@@ -175,7 +175,7 @@ impl Walk<'_> {
         search.push(p as u16);
         while let Some(q) = search.pop() {
             let end = self.follow(&mut points, q);
-            exit = exit | self.is_leaf(end);
+            exit |= self.is_leaf(end);
             self.leave(end, &mut search);
         }
         Reached { points, exit }

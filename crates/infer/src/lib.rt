@@ -11,6 +11,7 @@ ghost use Rattle.infer.specs.Search.{rule_of, Linked, with_ends, Gets, In, Below
 ghost use Rattle.constraint_list.specs.Listed.{outlives_of, constraints_in, Draws};
 ghost use Rattle.infer.specs.Ran.{Setting, Given, Names, Ran, Runs, constraint, any_marked};
 
+use bit_set::run_fits;
 use constraint_list::Constraint;
 use dfs::Walk;
 use graph::tables::FuncGraph;
@@ -63,10 +64,7 @@ fn both_fit(words: &[u32], from: usize, to: usize, n: usize) -> bool
     ensures { result ≡ both_fit words.now to words.now from n }
 {
     let count = words.len();
-    if count < n {
-        return false;
-    }
-    (to <= count - n) & (from <= count - n)
+    run_fits(count, to, n) & run_fits(count, from, n)
 }
 
 // Whether the run of n words from word from has no number that the run from word to lacks. False where a run is not among the words.
@@ -78,7 +76,7 @@ fn is_subset(words: &[u32], from: usize, to: usize, n: usize) -> bool
     }
     let mut lacks = false;
     for (inner, outer) in words[from..from + n].iter().zip(&words[to..to + n]) {
-        lacks = lacks | (*outer != (*outer | *inner));
+        lacks |= *outer != (*outer | *inner);
     }
     !lacks
 }
@@ -263,7 +261,7 @@ impl Setup<'_> {
     }
 }
 
-// Whether a region is marked, so that another round is due.
+// Whether a region is marked, so that constraints are to be run again.
 pub fn any_marked(grew: &[u32; 4]) -> bool
     ensures { result ≡ any_marked grew.now 128 }
 {

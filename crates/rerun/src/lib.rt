@@ -57,7 +57,7 @@ fn settle(
     }
 }
 
-// Puts the words into `before`, as many as it has.
+// Puts the words into `before`, as many as it has, and 0 where there is none. The library's copy would call memmove.
 pub fn keep(words: &[u32], before: &mut [u32])
     ensures { Keeps words.now before.old before.new (length before.old) }
 {
@@ -100,7 +100,7 @@ fn lead(words: &[u32], before: &[u32], start: usize, width: usize, near: &mut [u
         let old = entries::get_or(before, start + k, 0);
         let from = (held ^ (held & old)) | (held & after);
         let lead = lead_within(held, from);
-        near[k] = near[k] | lead | (lead >> 1) | after;
+        near[k] |= lead | (lead >> 1) | after;
         after = lead << 31;
     }
 }

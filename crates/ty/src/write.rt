@@ -26,7 +26,7 @@ struct Writer<'a> {
     ghost room: { at + 15 * left ≤ 512 },
 }
 
-// Bytes, written from a place on. A library's copy of them would call memmove, and the C library needs memcpy and memset alone.
+// Bytes, written from a place on. The library's copy would call memmove, as the two runs are not known to lie apart; nll's C library needs memcpy and memset alone.
 fn put_run(out: &mut [u8], at: usize, bytes: &[u8])
     requires { at + length bytes.now ≤ length out.old }
     ensures { take (at + length bytes.now) out.new ≡ take at out.old ++ bytes.now }
