@@ -135,8 +135,7 @@ pub enum Node {
     },
     Struct {
         name: StructName,
-        count: u8,
-        arguments: Cursor,
+        arguments: Row,
     },
     Bound(u8, Cursor),
 }
