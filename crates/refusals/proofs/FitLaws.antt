@@ -147,15 +147,15 @@ module _ {input : Record} {around : Row} {at left : ℕ} where
       unfolding type_fits
       ref_unfit i = record { walks = λ j ps w. walks.ref_fails m e (λ u. rw (← f ps w.params, i)); fewer = tt }
 
-    module _ {name : StructName} {n : ℕ} {c : Cursor} (e : d ≡ Ok (nodes.Struct name n c)) {p : repr_struct.StructDecl} (f : (j : Job) → Holds input j → Declared input.bytes.now (struct_of j.structs name.0) p) where
-      pub fit_struct : {r : Result Rest Refusal} → p.parameters.count ≡ n → (left ≡ 0 → ⊥) → ArgumentsFit input around p.parameters.from c.at n (left - 1) r → TypeFit input around at left r
+    module _ {name : StructName} {row : Row} (e : d ≡ Ok (nodes.Struct name row)) {p : repr_struct.StructDecl} (f : (j : Job) → Holds input j → Declared input.bytes.now (struct_of j.structs name.0) p) where
+      pub fit_struct : {r : Result Rest Refusal} → p.parameters.count ≡ row.count → (left ≡ 0 → ⊥) → ArgumentsFit input around p.parameters.from row.from.at row.count (left - 1) r → TypeFit input around at left r
       unfolding type_fits
       fit_struct {r} i z v = record {
         walks = λ j ps w. walks.type_struct m e z (λ g. refl) (v.walks j ps (struct_of j.structs name.0).params w (rw (← i) (f j w.layout).params));
         fewer = fewer-still r v.fewer (omega arith);
       }
 
-      pub count_unfit : {k : Refusal} → (p.parameters.count ≡ n → ⊥) → TypeFit input around at left (Err k)
+      pub count_unfit : {k : Refusal} → (p.parameters.count ≡ row.count → ⊥) → TypeFit input around at left (Err k)
       unfolding type_fits
       count_unfit i = record {
         walks = λ j ps w. walks.struct_fails m e (λ g l. args-differ j.structs ps g (struct_of j.structs name.0).params (λ o. i (sym (declared-size (f j w.layout)) ∙ sym o ∙ l)));

@@ -69,16 +69,12 @@ fn type_fits(input: &Record<'_>, c: Cursor, left: u8, around: Row) -> Result<Res
             }
             type_fits(input, referent, left, around)
         }
-        Node::Struct {
-            name,
-            count,
-            arguments,
-        } => {
+        Node::Struct { name, arguments } => {
             let named = input.struct_decl_at(name);
-            if named.parameters.count != count {
+            if named.parameters.count != arguments.count {
                 return Err(Refusal::Arguments);
             }
-            arguments_fit(input, arguments, left, around, named.parameters)
+            arguments_fit(input, arguments.from, left, around, named.parameters)
         }
     }
 }

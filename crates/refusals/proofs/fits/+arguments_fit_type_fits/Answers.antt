@@ -31,11 +31,11 @@ type_fits-returns-then-not-region_fits t c = laws.ref_unfit c.type_node.ensures 
 pub type_fits-returns-else-not-region_fits : goal.type_fits-returns-else-not-region_fits
 type_fits-returns-else-not-region_fits t c = laws.fit_ref c.type_node.ensures (c.in_ok-next.was ∙ ap Ok c.in-Ref.is) c.region_fits.ensures c.if-not-region_fits.false (omega arith) c.type_fits.ensures
 
-pub type_fits-returns-then-named-count : goal.type_fits-returns-then-named-count
-type_fits-returns-then-named-count t c = laws.count_unfit c.type_node.ensures (c.in_ok-next.was ∙ ap Ok c.in-Struct.is) c.struct_decl_at-named.ensures c.if-named-count.true
+pub type_fits-returns-then-named-arguments : goal.type_fits-returns-then-named-arguments
+type_fits-returns-then-named-arguments t c = laws.count_unfit c.type_node.ensures (c.in_ok-next.was ∙ ap Ok c.in-Struct.is) c.struct_decl_at-named.ensures c.if-named-arguments.true
 
-pub type_fits-returns-else-named-count : goal.type_fits-returns-else-named-count
-type_fits-returns-else-named-count t c = laws.fit_struct c.type_node.ensures (c.in_ok-next.was ∙ ap Ok c.in-Struct.is) c.struct_decl_at-named.ensures c.if-named-count.false (omega arith) (rw (← c.if-named-count.false) c.arguments_fit.ensures)
+pub type_fits-returns-else-named-arguments : goal.type_fits-returns-else-named-arguments
+type_fits-returns-else-named-arguments t c = laws.fit_struct c.type_node.ensures (c.in_ok-next.was ∙ ap Ok c.in-Struct.is) c.struct_decl_at-named.ensures c.if-named-arguments.false (omega arith) (rw (← c.if-named-arguments.false) c.arguments_fit.ensures)
 
 pub arguments_fit-returns-in_err-p : goal.arguments_fit-returns-in_err-p
 arguments_fit-returns-in_err-p t c = rw (passed_on c.from_residual.ensures) (c.loop.invariant.whole _ (laws.parameter_refused (omega arith) c.parameter.ensures c.in_err-p.was))
