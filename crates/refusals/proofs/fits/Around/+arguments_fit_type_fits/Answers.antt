@@ -1,4 +1,4 @@
--- `refusals::fits::arguments_fit` and `refusals::fits::type_fits` meet their contracts. Assumes nothing.
+-- `refusals::fits::Around::arguments_fit` and `refusals::fits::Around::type_fits` meet their contracts. Assumes nothing.
 use Rattle.std.specs.Prelude.{Ok}
 use Rattle.std.proofs.Common.{rules}
 use mathlib.Core.Path.{◌≡◌, ap, ◌∙◌}
@@ -7,8 +7,8 @@ use native.Mathlib.Omega.{arith}
 use Rattle.repr.proofs.ReadLaws.{passed_on}
 use Rattle.refusals.proofs.FitLaws as laws
 use Rattle.refusals.proofs.WalkLaws as walks
-use Rattle.refusals.proofs.fits.+arguments_fit_type_fits.Goals as goal
-use Rattle.refusals.proofs.fits.+arguments_fit_type_fits.Goals.{arguments_fit-in-Region+else-not-argument_fits, arguments_fit-in-Type+else-ne+in_ok-rest-in-Type}
+use Rattle.refusals.proofs.fits.Around.+arguments_fit_type_fits.Goals as goal
+use Rattle.refusals.proofs.fits.Around.+arguments_fit_type_fits.Goals.{arguments_fit-in-Region+else-not-argument_fits, arguments_fit-in-Type+else-ne+in_ok-rest-in-Type}
 
 pub type_fits-returns-then-left-eq0 : goal.type_fits-returns-then-left-eq0
 type_fits-returns-then-left-eq0 t c = laws.fit_none (omega arith)
