@@ -82,7 +82,7 @@ module _ (a b : List ℕ) (t u : Ty) (p q : List ℕ) where
   unfolding same_shape
   heads_are (Ok (nodes.Unit c)) (Ok (nodes.Unit d)) x y = record { a_same = x.same; alike = rw (x.same, y.same); a_ends = x.ends; b_ends = y.ends }
   heads_are (Ok (nodes.Unit c)) (Ok (nodes.Ref k r d)) x y = rw (x.same, y.same)
-  heads_are (Ok (nodes.Unit c)) (Ok (nodes.Struct s n d)) x y = rw (x.same, y.same)
+  heads_are (Ok (nodes.Unit c)) (Ok (nodes.Struct s h)) x y = rw (x.same, y.same)
   heads_are (Ok (nodes.Unit c)) (Ok (nodes.Bound i d)) x y = rw (x.same, y.same)
   heads_are (Ok (nodes.Unit c)) (Err k) x y = absurd y
   heads_are (Ok (nodes.Ref j o c)) (Ok (nodes.Unit d)) x y = rw (x.same, y.same)
@@ -91,21 +91,21 @@ module _ (a b : List ℕ) (t u : Ty) (p q : List ℕ) where
       go : (z : Bool) → same_kind (borrow_kind_of j) (borrow_kind_of k) ≡ z → HeadsAre (cond {A = Option Heads} z (Some (heads.Refs j o c r d)) None)
       go true e = record { kind = borrow_kind_of k; first = x.referent; second = y.referent; a_same = x.same; b_same = y.same; alike = rw (x.same, y.same, e); a_stands = x.stands; b_stands = y.stands }
       go false e = rw (x.same, y.same, e)
-  heads_are (Ok (nodes.Ref j o c)) (Ok (nodes.Struct s n d)) x y = rw (x.same, y.same)
+  heads_are (Ok (nodes.Ref j o c)) (Ok (nodes.Struct s h)) x y = rw (x.same, y.same)
   heads_are (Ok (nodes.Ref j o c)) (Ok (nodes.Bound i d)) x y = rw (x.same, y.same)
   heads_are (Ok (nodes.Ref j o c)) (Err k) x y = absurd y
-  heads_are (Ok (nodes.Struct s m c)) (Ok (nodes.Unit d)) x y = rw (x.same, y.same)
-  heads_are (Ok (nodes.Struct s m c)) (Ok (nodes.Ref k r d)) x y = rw (x.same, y.same)
-  heads_are (Ok (nodes.Struct s m c)) (Ok (nodes.Struct z n d)) x y = go (eqb s.0 z.0) refl
+  heads_are (Ok (nodes.Struct s g)) (Ok (nodes.Unit d)) x y = rw (x.same, y.same)
+  heads_are (Ok (nodes.Struct s g)) (Ok (nodes.Ref k r d)) x y = rw (x.same, y.same)
+  heads_are (Ok (nodes.Struct s g)) (Ok (nodes.Struct z h)) x y = go (eqb s.0 z.0) refl
     where
-      go : (w : Bool) → eqb s.0 z.0 ≡ w → HeadsAre (cond {A = Option Heads} w (Some (heads.Structs s (record { from = c; count = m }) (record { from = d; count = n }))) None)
+      go : (w : Bool) → eqb s.0 z.0 ≡ w → HeadsAre (cond {A = Option Heads} w (Some (heads.Structs s g h)) None)
       go true e = record { other = z.0; first = x.given; second = y.given; a_same = x.same; b_same = y.same; alike = rw (x.same, y.same, e); a_stand = x.stands; b_stand = y.stands }
       go false e = rw (x.same, y.same, e)
-  heads_are (Ok (nodes.Struct s m c)) (Ok (nodes.Bound i d)) x y = rw (x.same, y.same)
-  heads_are (Ok (nodes.Struct s m c)) (Err k) x y = absurd y
+  heads_are (Ok (nodes.Struct s g)) (Ok (nodes.Bound i d)) x y = rw (x.same, y.same)
+  heads_are (Ok (nodes.Struct s g)) (Err k) x y = absurd y
   heads_are (Ok (nodes.Bound i c)) (Ok (nodes.Unit d)) x y = rw x.same
   heads_are (Ok (nodes.Bound i c)) (Ok (nodes.Ref k r d)) x y = rw x.same
-  heads_are (Ok (nodes.Bound i c)) (Ok (nodes.Struct s n d)) x y = rw x.same
+  heads_are (Ok (nodes.Bound i c)) (Ok (nodes.Struct s h)) x y = rw x.same
   heads_are (Ok (nodes.Bound i c)) (Ok (nodes.Bound k d)) x y = rw x.same
   heads_are (Ok (nodes.Bound i c)) (Err k) x y = absurd y
   heads_are (Err j) k x y = absurd x
@@ -217,7 +217,7 @@ module _ {s : List ℕ} {at : ℕ} {b : Cursor} {d : Result Node Refusal} (m : N
       go : (t : Ty) (over : List ℕ) (x : Result Node Refusal) → ((c : Cursor) → x ≡ Ok (nodes.Unit c) → ⊥) → NodeIs s t over x → is_unit t ≡ false
       go t over (Ok (nodes.Unit c)) e w = absurd (e c refl)
       go t over (Ok (nodes.Ref k r c)) e w = rw w.same
-      go t over (Ok (nodes.Struct z n c)) e w = rw w.same
+      go t over (Ok (nodes.Struct z g)) e w = rw w.same
       go t over (Ok (nodes.Bound i c)) e w = rw w.same
       go t over (Err k) e w = absurd w
 

@@ -29,19 +29,19 @@ use Rattle.repr.specs.declared.Node.TheVariants as nodes
 abbrev pub alike : Node → Node → Option Heads
 alike (nodes.Unit c) (nodes.Unit d) = Some (heads.Units c d)
 alike (nodes.Unit c) (nodes.Ref k r d) = None
-alike (nodes.Unit c) (nodes.Struct z n d) = None
+alike (nodes.Unit c) (nodes.Struct z h) = None
 alike (nodes.Unit c) (nodes.Bound i d) = None
 alike (nodes.Ref k r c) (nodes.Unit d) = None
 alike (nodes.Ref k r c) (nodes.Ref j o d) = cond {A = Option Heads} (same_kind (borrow_kind_of k) (borrow_kind_of j)) (Some (heads.Refs k r c o d)) None
-alike (nodes.Ref k r c) (nodes.Struct z n d) = None
+alike (nodes.Ref k r c) (nodes.Struct z h) = None
 alike (nodes.Ref k r c) (nodes.Bound i d) = None
-alike (nodes.Struct s m c) (nodes.Unit d) = None
-alike (nodes.Struct s m c) (nodes.Ref k r d) = None
-alike (nodes.Struct s m c) (nodes.Struct z n d) = cond {A = Option Heads} (eqb s.0 z.0) (Some (heads.Structs s (record { from = c; count = m }) (record { from = d; count = n }))) None
-alike (nodes.Struct s m c) (nodes.Bound i d) = None
+alike (nodes.Struct s g) (nodes.Unit d) = None
+alike (nodes.Struct s g) (nodes.Ref k r d) = None
+alike (nodes.Struct s g) (nodes.Struct z h) = cond {A = Option Heads} (eqb s.0 z.0) (Some (heads.Structs s g h)) None
+alike (nodes.Struct s g) (nodes.Bound i d) = None
 alike (nodes.Bound i c) (nodes.Unit d) = None
 alike (nodes.Bound i c) (nodes.Ref k r d) = None
-alike (nodes.Bound i c) (nodes.Struct z n d) = None
+alike (nodes.Bound i c) (nodes.Struct z h) = None
 alike (nodes.Bound i c) (nodes.Bound k d) = None
 
 abbrev pub heads_of : Result Node Refusal → Result Node Refusal → Option Heads

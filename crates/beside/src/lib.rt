@@ -84,25 +84,14 @@ pub fn beside(node: Result<Node, Refusal>, other: Result<Node, Refusal>) -> Opti
             ),
         ) if kind == k => Some(Heads::Refs { kind, r, a, o, b }),
         (
-            Ok(
-                Node::Struct {
-                    name,
-                    count: m,
-                    arguments: a,
-                },
-            ),
+            Ok(Node::Struct { name, arguments: a }),
             Ok(
                 Node::Struct {
                     name: k,
-                    count: n,
                     arguments: b,
                 },
             ),
-        ) if name == k => Some(Heads::Structs {
-            name,
-            a: Row { from: a, count: m },
-            b: Row { from: b, count: n },
-        }),
+        ) if name == k => Some(Heads::Structs { name, a, b }),
         _ => None,
     }
 }

@@ -18,6 +18,7 @@ use Rattle.nll_spec.specs.WellFormed.{steps_fit, path_fits}
 use Rattle.repr.specs.Reading.{says, itself, borrow_kind_of, region_of, path_of}
 use Rattle.repr.specs.Types.{node, NodeSays}
 use Rattle.repr.specs.declared.Cursor.{Cursor}
+use Rattle.repr.specs.declared.Row.{Row}
 use Rattle.repr.specs.declared.Path as repr
 use Rattle.repr.specs.declared.BorrowKind.{BorrowKind as Kind}
 use Rattle.repr.specs.declared.Region.{Region}
@@ -143,13 +144,13 @@ not_ref_lem y z = let a = sym (ap is_ref y) ∙ z in let b : ◌≡◌ {A = ℕ}
 
 module _ {input : Record} {from : List ℕ} {at f i : ℕ} {to kinds names : List ℕ} {d : Result Node Refusal} (v : NodeSays node from at d) where
   -- a type with no steps
-  pub step-leaf : {n : Node} → d ≡ Ok n → ((k : Kind) (r : Region) (c : Cursor) → n ≡ nodes.Ref k r c → ⊥) → ((z : StructName) (m : ℕ) (c : Cursor) → n ≡ nodes.Struct z m c → ⊥) → StepSays input from at f i to kinds names kinds names None
+  pub step-leaf : {n : Node} → d ≡ Ok n → ((k : Kind) (r : Region) (c : Cursor) → n ≡ nodes.Ref k r c → ⊥) → ((z : StructName) (y : Row) → n ≡ nodes.Struct z y → ⊥) → StepSays input from at f i to kinds names kinds names None
   step-leaf {n} o e g = record { says = λ j l u p few. go j.structs u p.over n e g (on-node v o p.stands); kind_size = refl; name_size = refl }
     where
-      go : (ss : List StructDecl) (u : Ty) (over : List ℕ) (x : Node) → ((k : Kind) (r : Region) (c : Cursor) → x ≡ nodes.Ref k r c → ⊥) → ((n : StructName) (m : ℕ) (c : Cursor) → x ≡ nodes.Struct n m c → ⊥) → NodeIs from u over (Ok x) → small (step_type ss u f) ≡ false
+      go : (ss : List StructDecl) (u : Ty) (over : List ℕ) (x : Node) → ((k : Kind) (r : Region) (c : Cursor) → x ≡ nodes.Ref k r c → ⊥) → ((n : StructName) (y : Row) → x ≡ nodes.Struct n y → ⊥) → NodeIs from u over (Ok x) → small (step_type ss u f) ≡ false
       go ss u over (nodes.Unit c) o i w = ap (λ (y : Ty). small (step_type ss y f)) w.same ∙ no_unit ss f
       go ss u over (nodes.Ref k r c) o i w = absurd (o k r c refl)
-      go ss u over (nodes.Struct n m c) o i w = absurd (i n m c refl)
+      go ss u over (nodes.Struct n y) o i w = absurd (i n y refl)
       go ss u over (nodes.Bound b c) o i w = ap (λ (y : Ty). small (step_type ss y f)) w.same ∙ no_bound ss b f
 
   pub step-none : {k : Refusal} → d ≡ Err k → StepSays input from at f i to kinds names kinds names None
@@ -171,7 +172,7 @@ module _ {input : Record} {from : List ℕ} {at f i : ℕ} {to kinds names : Lis
       name_size = ap length o.1 ∙ length-set names i n;
     }
 
-  pub step_struct : {kinds' names' : List ℕ} {name : StructName} {a : Arguments} {r : std.Option (Found (Unit {0}))} → a.bytes.now ≡ from → d ≡ Ok (nodes.Struct name a.count a.from) → (kinds' ≡ set kinds i 0) × (names' ≡ set names i 0) → FieldStepSays input name.0 f a to r → StepSays input from at f i to kinds names kinds' names' r
+  pub step_struct : {kinds' names' : List ℕ} {name : StructName} {a : Arguments} {r : std.Option (Found (Unit {0}))} → a.bytes.now ≡ from → d ≡ Ok (nodes.Struct name a.row) → (kinds' ≡ set kinds i 0) × (names' ≡ set names i 0) → FieldStepSays input name.0 f a to r → StepSays input from at f i to kinds names kinds' names' r
   step_struct {a = a} {r = r} y e o m = record {
     says = λ j l u p few.
         let w = on-node v e p.stands in

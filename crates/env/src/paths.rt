@@ -87,16 +87,11 @@ fn take_step(
             note(taken, i, Step::Ref { kind, region });
             Some(Found::Inside(referent))
         }
-        Node::Struct {
-            name,
-            count,
-            arguments,
-        } => {
+        Node::Struct { name, arguments } => {
             note(taken, i, Step::Owned);
             let given = Arguments {
                 bytes: from,
-                from: arguments,
-                count,
+                row: arguments,
             };
             field_step(input, name, f, &given, to)
         }

@@ -41,15 +41,15 @@ block-few bs e =
     omega arith
 
 module _ (s : List ℕ) (d : BasicBlockData) {b : Block} {over : List ℕ} where
-  block_row : block_of s d ≡ read b over → take d.successors (rest s d.targets) ≡ b.successors
+  block_row : block_of s d ≡ read b over → take d.successors.count (rest s d.successors.from) ≡ b.successors
   unfolding block_of
-  block_row e = let x = then (items d.actions action) _ (rest s d.code) e in ap (λ (c : Block). c.successors) (done_back _ _ x.last)
+  block_row e = let x = then (items d.actions.count action) _ (rest s d.actions.from) e in ap (λ (c : Block). c.successors) (done_back _ _ x.last)
 
-  block-many : block_of s d ≡ read b over → d.actions ≡ length b.actions
+  block-many : block_of s d ≡ read b over → d.actions.count ≡ length b.actions
   unfolding block_of
   block-many e =
-      let x = then (items d.actions action) _ (rest s d.code) e in
-      sym (items-length action d.actions (rest s d.code) x.first) ∙ ap (λ (c : Block). length c.actions) (done_back _ _ x.last)
+      let x = then (items d.actions.count action) _ (rest s d.actions.from) e in
+      sym (items-length action d.actions.count (rest s d.actions.from) x.first) ∙ ap (λ (c : Block). length c.actions) (done_back _ _ x.last)
 
 -- ---- The answer
 

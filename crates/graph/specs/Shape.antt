@@ -14,8 +14,8 @@ pub record Few (r : Shape) : Type 0 where
 -- The answer about a block as the cursor read it.
 pub record Listed (s : List ℕ) (d : BasicBlockData) (r : Shape) : Type 0 where
   pub fits : Few r
-  pub many : r.actions ≡ d.actions
-  pub row : r.successors.now ≡ take d.successors (drop d.targets.at s)
+  pub many : r.actions ≡ d.actions.count
+  pub row : r.successors.now ≡ take d.successors.count (drop d.successors.from.at s)
 
 -- The answer is what block b has.
 pub record Shaped (b : Block) (r : Shape) : Type 0 where

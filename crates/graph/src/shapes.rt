@@ -10,10 +10,10 @@ use repr::{BasicBlockData, BasicBlockIndex};
 fn listed<'a>(s: &'a [u8], d: BasicBlockData) -> Shape<'a>
     ensures { Listed s.entry.now d result }
 {
-    let row = s.get(d.targets.at..).unwrap_or(&[]);
-    let count = usize::from(d.successors).min(row.len());
+    let row = s.get(d.successors.from.at..).unwrap_or(&[]);
+    let count = usize::from(d.successors.count).min(row.len());
     Shape {
-        actions: usize::from(d.actions),
+        actions: usize::from(d.actions.count),
         successors: &row[..count],
     }
 }

@@ -219,17 +219,17 @@ module _ {s : List ℕ} {from c : Cursor} {n b points loans : ℕ} {old t : Offs
   blocking_missing e = record { structs = w.structs; outlives = w.outlives; variables = w.variables; result = going_stop w.going h e }
 
   module _ (u : List ℕ) where
-    pub blocking_stop : (d : BasicBlockData) {k : Refusal} → block (drop c.at s) ≡ block_of s d → items d.actions action (drop d.code.at s) ≡ refused (number_of k) → BlocksSay s from n old (marked u) (Err k)
+    pub blocking_stop : (d : BasicBlockData) {k : Refusal} → block (drop c.at s) ≡ block_of s d → items d.actions.count action (drop d.actions.from.at s) ≡ refused (number_of k) → BlocksSay s from n old (marked u) (Err k)
     unfolding block_of
     blocking_stop d e f = record { structs = w.structs; outlives = w.outlives; variables = w.variables; result = going_stop w.going h (e ∙ stop _ _ _ f) }
 
-    pub blocking_more : (kept : take points u ≡ take points t.points) (d : BasicBlockData) (next : Cursor) {more many : ℕ} → length t.blocks ≡ 64 → length t.first ≡ 64 → length s ≤ 65535 → o ≡ min c.at 65535 → block (drop c.at s) ≡ block_of s d → Actions s d.code.at next.at d.actions points more u → (many ≡ d.actions) × (many ≤ 255) → Blocking s from next n (b + 1) (points + (many + 1)) (loans + more) old (marked u)
+    pub blocking_more : (kept : take points u ≡ take points t.points) (d : BasicBlockData) (next : Cursor) {more many : ℕ} → length t.blocks ≡ 64 → length t.first ≡ 64 → length s ≤ 65535 → o ≡ min c.at 65535 → block (drop c.at s) ≡ block_of s d → Actions s d.actions.from.at next.at d.actions.count points more u → (many ≡ d.actions.count) × (many ≤ 255) → Blocking s from next n (b + 1) (points + (many + 1)) (loans + more) old (marked u)
     unfolding block_of done
     blocking_more kept d next {more} {many} room firsts-room l q e a m =
-        let y : syntax.Block = record { successors = take d.successors (rest s d.targets); actions = a.found } in
+        let y : syntax.Block = record { successors = take d.successors.count (rest s d.successors.from); actions = a.found } in
         let reads : block (drop c.at s) ≡ read y (drop next.at s) = e ∙ step _ _ _ a.reads in
         let count : code_count (w.found ++ y ∷ []) ≡ code_count w.found + suc (length a.found) = code-more w.found y in
-        let total : code_count (w.found ++ y ∷ []) ≡ points + (d.actions + 1) = omega (arith, w.counts, a.many) in
+        let total : code_count (w.found ++ y ∷ []) ≡ points + (d.actions.count + 1) = omega (arith, w.counts, a.many) in
         record {
           found = w.found ++ y ∷ [];
           going = going_more w.going h reads;
@@ -240,7 +240,7 @@ module _ {s : List ℕ} {from c : Cursor} {n b points loans : ℕ} {old t : Offs
             coded = coded-more y w.placed.coded a.stands;
             points = λ k.
                 let old-points : take points t.points ≡ w.placed.entries = rw w.counts (w.placed.points (omega (arith, w.counts))) in
-                rw (total, take-add points (d.actions + 1) u, a.entries (omega arith)) (ap (λ (x : List ℕ). x ++ (a.offsets ++ block_end ∷ [])) (kept ∙ old-points));
+                rw (total, take-add points (d.actions.count + 1) u, a.entries (omega arith)) (ap (λ (x : List ℕ). x ++ (a.offsets ++ block_end ∷ [])) (kept ∙ old-points));
           };
           counts = omega (arith, total, m.0);
           most = omega (arith, w.most, m.1);

@@ -60,9 +60,15 @@ pub fn blocks(from: Cursor, s: &[u8], count: u8, layout: &mut Offsets) -> Result
         layout.blocks[b] = offset(c);
         layout.first[b] = points as u16;
         let d = c.block(s)?;
-        let (more, next) = actions(d.code, s, d.actions, points, &mut layout.points)?;
+        let (more, next) = actions(
+            d.actions.from,
+            s,
+            d.actions.count,
+            points,
+            &mut layout.points,
+        )?;
         c = next;
-        points += usize::from(d.actions) + 1;
+        points += usize::from(d.actions.count) + 1;
         loans += more;
     }
     Ok(Code {

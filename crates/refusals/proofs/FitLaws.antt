@@ -26,11 +26,11 @@ use Rattle.repr.proofs.PartLaws.{end-over}
 use Rattle.repr.specs.Stands.{Stands}
 use Rattle.record.specs.Layout.{Holds}
 use Rattle.record.specs.Access.{Declared}
-use Rattle.record.specs.declared.Record.{Record}
 use Rattle.repr.proofs.SpellLaws.{clash, carry}
 use Rattle.repr.proofs.ItemLaws.{first_of, items-length}
 use Rattle.refusals.specs.Fits.{ParamsAt, Within, TypeFit, ArgumentsFit}
 use Rattle.repr.specs.declared.Row.{Row}
+use Rattle.refusals.specs.declared.fits.Around.{Around}
 use Rattle.refusals.proofs.WalkLaws as walks
 use Rattle.refusals.proofs.WalkLaws.{fewer-still, rest-fewer}
 use Rattle.std.specs.Prelude.{Result, Ok, Err}
@@ -66,40 +66,40 @@ abbrev absent : Param
 absent = record { variance = Co; may_dangle = false; kind = RegionKind }
 
 -- how many there are
-size : {s : List ℕ} {around : Row} {ps : List Param} → ParamsAt s around ps → length ps ≡ around.count
-size {s} {around} p = items-length param around.count (rest s around.from) p.stand.reads
+size : {around : Around} {ps : List Param} → ParamsAt around ps → length ps ≡ around.params.count
+size {around} p = items-length param around.params.count (rest around.input.now.bytes.now around.params.from) p.stand.reads
 
-pub bound_past : {s : List ℕ} {around : Row} (f : syntax.Kind → Bool) (ps : List Param) (b : ℕ) → around.count ≤ b → ParamsAt s around ps → false ≡ bound_fits f ps b
+pub bound_past : {around : Around} (f : syntax.Kind → Bool) (ps : List Param) (b : ℕ) → around.params.count ≤ b → ParamsAt around ps → false ≡ bound_fits f ps b
 bound_past f ps b h p = let n = size p in let l : ltb b (length ps) ≡ false = le-ltb b (length ps) (omega arith) in rw l
 
-module _ {s : List ℕ} {around : Row} (f : syntax.Kind → Bool) (ps : List Param) (b k : ℕ) (h : b < around.count) (i : k ≡ around.count - 1 - b) (p : ParamsAt s around ps) where
-  there : ItemAt param k (rest s around.from) ps absent
-  there = item-at param around.count k (rest s around.from) absent (omega arith) p.stand.reads
+module _ {around : Around} (f : syntax.Kind → Bool) (ps : List Param) (b k : ℕ) (h : b < around.params.count) (i : k ≡ around.params.count - 1 - b) (p : ParamsAt around ps) where
+  there : ItemAt param k (rest around.input.now.bytes.now around.params.from) ps absent
+  there = item-at param around.params.count k (rest around.input.now.bytes.now around.params.from) absent (omega arith) p.stand.reads
 
-  module _ (d : Result Cursor Refusal) (m : end_says s d ≡ ended (items k param (rest s around.from))) where
+  module _ (d : Result Cursor Refusal) (m : end_says around.input.now.bytes.now d ≡ ended (items k param (rest around.input.now.bytes.now around.params.from))) where
     pub bound_short : {l : Refusal} → d ≡ Err l → false ≡ bound_fits f ps b
-    bound_short e = absurd (clash (sym (ap (end_says s) e) ∙ m ∙ ap ended there.first))
+    bound_short e = absurd (clash (sym (ap (end_says around.input.now.bytes.now) e) ∙ m ∙ ap ended there.first))
 
-    module _ {c : Cursor} (e : d ≡ Ok c) (q : Result (StructParameter × Cursor) Refusal) (o : says parameter_of s q ≡ param (rest s c)) where
+    module _ {c : Cursor} (e : d ≡ Ok c) (q : Result (StructParameter × Cursor) Refusal) (o : says parameter_of around.input.now.bytes.now q ≡ param (rest around.input.now.bytes.now c)) where
       -- the parameter that is meant
-      meant : says parameter_of s q ≡ read (get_or ps k absent) there.over
-      meant = o ∙ rw (← end-over (items k param) (rest s around.from) there.first (sym m ∙ ap (end_says s) e)) there.item
+      meant : says parameter_of around.input.now.bytes.now q ≡ read (get_or ps k absent) there.over
+      meant = o ∙ rw (← end-over (items k param) (rest around.input.now.bytes.now around.params.from) there.first (sym m ∙ ap (end_says around.input.now.bytes.now) e)) there.item
 
       pub bound_none : {l : Refusal} → q ≡ Err l → false ≡ bound_fits f ps b
-      bound_none g = absurd (clash (sym (ap (says parameter_of s) g) ∙ meant))
+      bound_none g = absurd (clash (sym (ap (says parameter_of around.input.now.bytes.now) g) ∙ meant))
 
       pub bound_kind : {x : StructParameter} {next : Cursor} {z : Bool} → q ≡ Ok (x, next) → z ≡ f (kind_of x.kind) → z ≡ bound_fits f ps b
       bound_kind {x} {z = z} g r =
           let n = size p in
           let l : ltb b (length ps) ≡ true = lt-ltb b (length ps) (omega arith) in
           let j : length ps - suc b ≡ k = omega arith in
-          rw (l, j) (carry (λ (y : Param) v. z ≡ f y.kind) (sym (ap (says parameter_of s) g) ∙ meant) r)
+          rw (l, j) (carry (λ (y : Param) v. z ≡ f y.kind) (sym (ap (says parameter_of around.input.now.bytes.now) g) ∙ meant) r)
 
 -- ---- The parameters of a struct
 
-pub no_params : {s : List ℕ} (c : Cursor) → ParamsAt s (record { from = c; count = 0 }) []
+pub no_params : {around : Around} → around.params.count ≡ 0 → ParamsAt around []
 unfolding items done
-no_params {s} c = record { stand = record { over = rest s c; reads = refl } }
+no_params {around} z = record { stand = record { over = rest around.input.now.bytes.now around.params.from; reads = rw z } }
 
 declared-size : {s : List ℕ} {x : StructDecl} {d : repr_struct.StructDecl} → Declared s x d → length x.params ≡ d.parameters.count
 declared-size {s} {d = d} w = items-length param d.parameters.count (rest s d.parameters.from) w.params.reads
@@ -117,45 +117,45 @@ args-differ ss ps (TypeArg t g) (d ∷ ds) h = rw (args-differ ss ps g ds (λ e.
 
 -- ---- A type
 
-module _ {input : Record} {around : Row} {at left : ℕ} where
-  pub fit_none : {k : Refusal} → left ≡ 0 → TypeFit input around at left (Err k)
+module _ {around : Around} {at left : ℕ} where
+  pub fit_none : {k : Refusal} → left ≡ 0 → TypeFit around at left (Err k)
   fit_none z = record { walks = λ j ps w. walks.type-none z; fewer = tt }
 
-  module _ {d : Result Node Refusal} (m : NodeSays node input.bytes.now at d) where
-    pub fit_refused : {k l : Refusal} → d ≡ Err k → TypeFit input around at left (Err l)
+  module _ {d : Result Node Refusal} (m : NodeSays node around.input.now.bytes.now at d) where
+    pub fit_refused : {k l : Refusal} → d ≡ Err k → TypeFit around at left (Err l)
     fit_refused e = record { walks = λ j ps w. walks.type-refused m e; fewer = tt }
 
-    pub fit-unit : {c : Cursor} → d ≡ Ok (nodes.Unit c) → TypeFit input around at left (Ok (record { left = left - 1; next = c }))
+    pub fit-unit : {c : Cursor} → d ≡ Ok (nodes.Unit c) → TypeFit around at left (Ok (record { left = left - 1; next = c }))
     unfolding type_fits
     fit-unit e = record { walks = λ j ps w. walks.type-unit m e refl; fewer = omega arith }
 
-    module _ {b : ℕ} {c : Cursor} (e : d ≡ Ok (nodes.Bound b c)) {x : Bool} (f : (ps : List Param) → ParamsAt input.bytes.now around ps → x ≡ bound_fits is_type_kind ps b) where
-      pub fit_bound : x ≡ true → TypeFit input around at left (Ok (record { left = left - 1; next = c }))
+    module _ {b : ℕ} {c : Cursor} (e : d ≡ Ok (nodes.Bound b c)) {x : Bool} (f : (ps : List Param) → ParamsAt around ps → x ≡ bound_fits is_type_kind ps b) where
+      pub fit_bound : x ≡ true → TypeFit around at left (Ok (record { left = left - 1; next = c }))
       unfolding type_fits
       fit_bound i = record { walks = λ j ps w. walks.type_bound m e (sym (f ps w.params) ∙ i); fewer = omega arith }
 
-      pub bound_unfit : {k : Refusal} → x ≡ false → TypeFit input around at left (Err k)
+      pub bound_unfit : {k : Refusal} → x ≡ false → TypeFit around at left (Err k)
       unfolding type_fits
       bound_unfit i = record { walks = λ j ps w. walks.bound_fails m e (sym (f ps w.params) ∙ i); fewer = tt }
 
-    module _ {q : BorrowKind} {o : repr_region.Region} {c : Cursor} (e : d ≡ Ok (nodes.Ref q o c)) {x : Bool} (f : (ps : List Param) → ParamsAt input.bytes.now around ps → x ≡ region_fits ps (region_of o)) where
-      pub fit_ref : {r : Result Rest Refusal} → x ≡ true → (left ≡ 0 → ⊥) → TypeFit input around c.at (left - 1) r → TypeFit input around at left r
+    module _ {q : BorrowKind} {o : repr_region.Region} {c : Cursor} (e : d ≡ Ok (nodes.Ref q o c)) {x : Bool} (f : (ps : List Param) → ParamsAt around ps → x ≡ region_fits ps (region_of o)) where
+      pub fit_ref : {r : Result Rest Refusal} → x ≡ true → (left ≡ 0 → ⊥) → TypeFit around c.at (left - 1) r → TypeFit around at left r
       unfolding type_fits
       fit_ref {r} i z v = record { walks = λ j ps w. walks.type_ref m e z (λ u. rw (← f ps w.params, i)) (v.walks j ps w); fewer = fewer-still r v.fewer (omega arith) }
 
-      pub ref_unfit : {k : Refusal} → x ≡ false → TypeFit input around at left (Err k)
+      pub ref_unfit : {k : Refusal} → x ≡ false → TypeFit around at left (Err k)
       unfolding type_fits
       ref_unfit i = record { walks = λ j ps w. walks.ref_fails m e (λ u. rw (← f ps w.params, i)); fewer = tt }
 
-    module _ {name : StructName} {n : ℕ} {c : Cursor} (e : d ≡ Ok (nodes.Struct name n c)) {p : repr_struct.StructDecl} (f : (j : Job) → Holds input j → Declared input.bytes.now (struct_of j.structs name.0) p) where
-      pub fit_struct : {r : Result Rest Refusal} → p.parameters.count ≡ n → (left ≡ 0 → ⊥) → ArgumentsFit input around p.parameters.from c.at n (left - 1) r → TypeFit input around at left r
+    module _ {name : StructName} {row : Row} (e : d ≡ Ok (nodes.Struct name row)) {p : repr_struct.StructDecl} (f : (j : Job) → Holds around.input.now j → Declared around.input.now.bytes.now (struct_of j.structs name.0) p) where
+      pub fit_struct : {r : Result Rest Refusal} → p.parameters.count ≡ row.count → (left ≡ 0 → ⊥) → ArgumentsFit around p.parameters.from row.from.at row.count (left - 1) r → TypeFit around at left r
       unfolding type_fits
       fit_struct {r} i z v = record {
         walks = λ j ps w. walks.type_struct m e z (λ g. refl) (v.walks j ps (struct_of j.structs name.0).params w (rw (← i) (f j w.layout).params));
         fewer = fewer-still r v.fewer (omega arith);
       }
 
-      pub count_unfit : {k : Refusal} → (p.parameters.count ≡ n → ⊥) → TypeFit input around at left (Err k)
+      pub count_unfit : {k : Refusal} → (p.parameters.count ≡ row.count → ⊥) → TypeFit around at left (Err k)
       unfolding type_fits
       count_unfit i = record {
         walks = λ j ps w. walks.struct_fails m e (λ g l. args-differ j.structs ps g (struct_of j.structs name.0).params (λ o. i (sym (declared-size (f j w.layout)) ∙ sym o ∙ l)));
@@ -191,20 +191,20 @@ module _ (ss : List StructDecl) (ps : List Param) where
   unfolding args_fit
   type-first u g e k = rw (e, k)
 
-module _ {input : Record} {around : Row} {declared : Cursor} {n left : ℕ} where
-  pub fit_arguments_none : (c : Cursor) → n ≡ 0 → ArgumentsFit input around declared c.at n left (Ok (record { left = left; next = c }))
-  fit_arguments_none c z = record { walks = λ j ps ds w d. walks.args_none c z (no_args j.structs ps ds (items-length param n (rest input.bytes.now declared) d.reads ∙ z)); fewer = le_refl left }
+module _ {around : Around} {declared : Cursor} {n left : ℕ} where
+  pub fit_arguments_none : (c : Cursor) → n ≡ 0 → ArgumentsFit around declared c.at n left (Ok (record { left = left; next = c }))
+  fit_arguments_none c z = record { walks = λ j ps ds w d. walks.args_none c z (no_args j.structs ps ds (items-length param n (rest around.input.now.bytes.now declared) d.reads ∙ z)); fewer = le_refl left }
 
-  module _ (z : n ≡ 0 → ⊥) {at : ℕ} {q : Result (StructParameter × Cursor) Refusal} (m : says parameter_of input.bytes.now q ≡ param (rest input.bytes.now declared)) where
-    pub parameter_refused : {k l : Refusal} → q ≡ Err k → ArgumentsFit input around declared at n left (Err l)
-    parameter_refused e = record { walks = λ j ps ds w d. absurd (let x = first_of param n (rest input.bytes.now declared) z d.reads in clash (sym (told (says parameter_of input.bytes.now) m e) ∙ x.first)); fewer = tt }
+  module _ (z : n ≡ 0 → ⊥) {at : ℕ} {q : Result (StructParameter × Cursor) Refusal} (m : says parameter_of around.input.now.bytes.now q ≡ param (rest around.input.now.bytes.now declared)) where
+    pub parameter_refused : {k l : Refusal} → q ≡ Err k → ArgumentsFit around declared at n left (Err l)
+    parameter_refused e = record { walks = λ j ps ds w d. absurd (let x = first_of param n (rest around.input.now.bytes.now declared) z d.reads in clash (sym (told (says parameter_of around.input.now.bytes.now) m e) ∙ x.first)); fewer = tt }
 
-    module _ {x : StructParameter} {next : Cursor} (e : q ≡ Ok (x, next)) {d : Result Argument Refusal} (a : ArgumentSays input.bytes.now at d) where
-      pub fit_argument_refused : {k l : Refusal} → d ≡ Err k → ArgumentsFit input around declared at n left (Err l)
+    module _ {x : StructParameter} {next : Cursor} (e : q ≡ Ok (x, next)) {d : Result Argument Refusal} (a : ArgumentSays around.input.now.bytes.now at d) where
+      pub fit_argument_refused : {k l : Refusal} → d ≡ Err k → ArgumentsFit around declared at n left (Err l)
       fit_argument_refused i = record { walks = λ j ps ds w o. walks.args-refused a z i; fewer = tt }
 
-      module _ {o : repr_region.Region} {c : Cursor} (i : d ≡ Ok (arguments.Region o c)) {b : Bool} (f : (ps : List Param) → ParamsAt input.bytes.now around ps → b ≡ is_region_kind (kind_of x.kind) && region_fits ps (region_of o)) where
-        pub region_unfit : {k : Refusal} → b ≡ false → ArgumentsFit input around declared at n left (Err k)
+      module _ {o : repr_region.Region} {c : Cursor} (i : d ≡ Ok (arguments.Region o c)) {b : Bool} (f : (ps : List Param) → ParamsAt around ps → b ≡ is_region_kind (kind_of x.kind) && region_fits ps (region_of o)) where
+        pub region_unfit : {k : Refusal} → b ≡ false → ArgumentsFit around declared at n left (Err k)
         unfolding args_fit
         region_unfit k = record {
           walks = λ j ps ds w o.
@@ -213,7 +213,7 @@ module _ {input : Record} {around : Row} {declared : Cursor} {n left : ℕ} wher
           fewer = tt;
         }
 
-        pub fit-region : {r : Result Rest Refusal} → b ≡ true → ArgumentsFit input around next c.at (n - 1) left r → ArgumentsFit input around declared at n left r
+        pub fit-region : {r : Result Rest Refusal} → b ≡ true → ArgumentsFit around next c.at (n - 1) left r → ArgumentsFit around declared at n left r
         fit-region k v = record {
           walks = λ j ps ds w o.
               let y = param-first declared z m e o in
@@ -222,7 +222,7 @@ module _ {input : Record} {around : Row} {declared : Cursor} {n left : ℕ} wher
         }
 
       module _ {c : Cursor} (i : d ≡ Ok (arguments.Type c)) where
-        pub kind_unfit : {k : Refusal} → is_type_kind (kind_of x.kind) ≡ false → ArgumentsFit input around declared at n left (Err k)
+        pub kind_unfit : {k : Refusal} → is_type_kind (kind_of x.kind) ≡ false → ArgumentsFit around declared at n left (Err k)
         unfolding args_fit
         kind_unfit k = record {
           walks = λ j ps ds w o.
@@ -231,8 +231,8 @@ module _ {input : Record} {around : Row} {declared : Cursor} {n left : ℕ} wher
           fewer = tt;
         }
 
-        module _ (k : is_type_kind (kind_of x.kind) ≡ true) {p : Result Rest Refusal} (v : TypeFit input around c.at left p) where
-          pub type_unfit : {l k' : Refusal} → p ≡ Err l → ArgumentsFit input around declared at n left (Err k')
+        module _ (k : is_type_kind (kind_of x.kind) ≡ true) {p : Result Rest Refusal} (v : TypeFit around c.at left p) where
+          pub type_unfit : {l k' : Refusal} → p ≡ Err l → ArgumentsFit around declared at n left (Err k')
           type_unfit l = record {
             walks = λ j ps ds w o.
                 let y = param-first declared z m e o in
@@ -240,7 +240,7 @@ module _ {input : Record} {around : Row} {declared : Cursor} {n left : ℕ} wher
             fewer = tt;
           }
 
-          pub fit-type : {to : Rest} {r : Result Rest Refusal} → p ≡ Ok to → ArgumentsFit input around next to.next.at (n - 1) to.left r → ArgumentsFit input around declared at n left r
+          pub fit-type : {to : Rest} {r : Result Rest Refusal} → p ≡ Ok to → ArgumentsFit around next to.next.at (n - 1) to.left r → ArgumentsFit around declared at n left r
           fit-type {r = r} l u = record {
             walks = λ j ps ds w o.
                 let y = param-first declared z m e o in
@@ -251,9 +251,9 @@ module _ {input : Record} {around : Row} {declared : Cursor} {n left : ℕ} wher
 -- ---- Parts
 
 -- the parameters of a struct, around its fields
-pub around_fields : {input : Record} {j : Job} {x : StructDecl} {d : repr_struct.StructDecl} → Holds input j → Declared input.bytes.now x d → Within input d.parameters j x.params
-around_fields w v = record { layout = w; params = record { stand = v.params } }
+pub around_fields : {around : Around} {j : Job} {x : StructDecl} {d : repr_struct.StructDecl} → around.params ≡ d.parameters → Holds around.input.now j → Declared around.input.now.bytes.now x d → Within around j x.params
+around_fields e w v = record { layout = w; params = record { stand = rw e v.params } }
 
 -- no parameters around
-pub alone : {input : Record} {j : Job} (c : Cursor) → Holds input j → Within input (record { from = c; count = 0 }) j []
-alone c w = record { layout = w; params = no_params c }
+pub alone : {around : Around} {j : Job} → around.params.count ≡ 0 → Holds around.input.now j → Within around j []
+alone z w = record { layout = w; params = no_params z }

@@ -14,6 +14,7 @@ use Rattle.repr.specs.Reading.{region_of}
 use Rattle.repr.specs.declared.Region as repr_region
 use Rattle.repr.specs.Types.{node, NodeSays, ArgumentSays}
 use Rattle.repr.specs.declared.Cursor.{Cursor}
+use Rattle.repr.specs.declared.Row.{Row}
 use Rattle.repr.specs.declared.BorrowKind as repr_kind
 use Rattle.repr.specs.declared.StructName.{StructName}
 use Rattle.record.specs.declared.Record.{Record}
@@ -60,8 +61,8 @@ module _ {input : Record} {at left : ℕ} where
       unfolding type_named
       ref_unnamed i = record { walks = λ j w. walks.ref_fails m e (λ t. rw (← f j w, i)); fewer = tt }
 
-    module _ {name : StructName} {n : ℕ} {c : Cursor} (e : d ≡ Ok (nodes.Struct name n c)) where
-      pub named_struct : {r : Result Rest Refusal} → name.0 < input.head.structs → (left ≡ 0 → ⊥) → ArgumentsNamed input c.at n (left - 1) r → TypeNamed input at left r
+    module _ {name : StructName} {row : Row} (e : d ≡ Ok (nodes.Struct name row)) where
+      pub named_struct : {r : Result Rest Refusal} → name.0 < input.head.structs → (left ≡ 0 → ⊥) → ArgumentsNamed input row.from.at row.count (left - 1) r → TypeNamed input at left r
       unfolding type_named
       named_struct {r} i z v = record {
         walks = λ j w. walks.type_struct m e z (λ g. let l : ltb name.0 (length j.structs) ≡ true = lt-ltb name.0 (length j.structs) (omega (arith, w.structs)) in rw l) (v.walks j w);

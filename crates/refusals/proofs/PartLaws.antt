@@ -131,20 +131,20 @@ module _ {h : Head} {s : List ℕ} {at : ℕ} {d : Result BasicBlockData Refusal
   pub block_refused : {k : Refusal} {r : Bool} → d ≡ Err k → (j : Job) → Sized h j → Tested block (block_named j) s at r
   block_refused e j z = none_tested (told (block_says s) m e)
 
-  module _ {x : BasicBlockData} {b : Bool} (e : d ≡ Ok x) (i : b ≡ all_below h.blocks (take x.successors (rest s x.targets))) (j : Job) (z : Sized h j) where
+  module _ {x : BasicBlockData} {b : Bool} (e : d ≡ Ok x) (i : b ≡ all_below h.blocks (take x.successors.count (rest s x.successors.from))) (j : Job) (z : Sized h j) where
     pub block-fails : b ≡ false → Tested block (block_named j) s at b
     unfolding block_of done
     block-fails k = record {
       says = λ y bs f.
-          let w = then (items x.actions action) _ (rest s x.code) (sym (told (block_says s) m e) ∙ f) in
+          let w = then (items x.actions.count action) _ (rest s x.actions.from) (sym (told (block_says s) m e) ∙ f) in
           k ∙ carry (λ y o. false ≡ block_named j y) w.last (rw (z.blocks, ← i, k));
     }
 
-    pub block-actions : {r : Bool} → b ≡ true → Tested (items x.actions action) (every (action_named j)) s x.code.at r → Tested block (block_named j) s at r
+    pub block-actions : {r : Bool} → b ≡ true → Tested (items x.actions.count action) (every (action_named j)) s x.actions.from.at r → Tested block (block_named j) s at r
     unfolding block_of done
     block-actions {r} k v = record {
       says = λ y bs f.
-          let w = then (items x.actions action) _ (rest s x.code) (sym (told (block_says s) m e) ∙ f) in
+          let w = then (items x.actions.count action) _ (rest s x.actions.from) (sym (told (block_says s) m e) ∙ f) in
           carry (λ y o. r ≡ block_named j y) w.last (rw (z.blocks, ← i, k) (v.says w.got w.mid w.first));
     }
 

@@ -12,6 +12,7 @@ use Rattle.nll_spec.specs.Types.{arg_count, type_nodes, arg_nodes}
 use Rattle.repr.specs.Reading.{borrow_kind_of, region_of}
 use Rattle.repr.specs.Types.{node, NodeSays, ArgumentSays}
 use Rattle.repr.specs.declared.Cursor.{Cursor}
+use Rattle.repr.specs.declared.Row.{Row}
 use Rattle.repr.specs.declared.BorrowKind.{BorrowKind}
 use Rattle.repr.specs.declared.Region.{Region}
 use Rattle.repr.specs.declared.StructName.{StructName}
@@ -89,8 +90,8 @@ module _ {test : Ty → Bool} {s : List ℕ} {at left : ℕ} where
       pub ref_fails : {k : Refusal} → ((t : Ty) → test (RefTy (borrow_kind_of q) (region_of o) t) ≡ false) → TypeWalk test s at left (Err k)
       ref_fails g = record { says = λ t bs p h. let w = on-node m e p in rw (w.same, g w.referent) }
 
-    module _ {name : StructName} {n : ℕ} {c : Cursor} (e : d ≡ Ok (nodes.Struct name n c)) where
-      pub type_struct : {tests : Args → Bool} {r : Result Rest Refusal} → (left ≡ 0 → ⊥) → ((g : Args) → test (StructTy name.0 g) ≡ tests g) → ArgsWalk tests s c.at n (left - 1) r → TypeWalk test s at left r
+    module _ {name : StructName} {row : Row} (e : d ≡ Ok (nodes.Struct name row)) where
+      pub type_struct : {tests : Args → Bool} {r : Result Rest Refusal} → (left ≡ 0 → ⊥) → ((g : Args) → test (StructTy name.0 g) ≡ tests g) → ArgsWalk tests s row.from.at row.count (left - 1) r → TypeWalk test s at left r
       unfolding type_nodes
       type_struct z f v = record {
         says = λ t bs p h.
@@ -100,7 +101,7 @@ module _ {test : Ty → Bool} {s : List ℕ} {at left : ℕ} where
             v.says w.given bs w.stands (omega arith) ∙ rw (l, ap test w.same ∙ f w.given);
       }
 
-      pub struct_fails : {k : Refusal} → ((g : Args) → arg_count g ≡ n → test (StructTy name.0 g) ≡ false) → TypeWalk test s at left (Err k)
+      pub struct_fails : {k : Refusal} → ((g : Args) → arg_count g ≡ row.count → test (StructTy name.0 g) ≡ false) → TypeWalk test s at left (Err k)
       struct_fails f = record { says = λ t bs p h. let w = on-node m e p in rw (w.same, f w.given (args-bytes w.stands).count) }
 
 -- ---- Arguments

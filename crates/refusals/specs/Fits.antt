@@ -10,33 +10,32 @@ use Rattle.repr.specs.declared.Rest.{Rest}
 use Rattle.repr.specs.declared.refusal.Refusal.{Refusal}
 use Rattle.repr.specs.Stands.{Stands}
 use Rattle.record.specs.Layout.{Holds}
-use Rattle.record.specs.declared.Record.{Record}
 use Rattle.refusals.specs.Tests.{FewerNodes, TypeWalk, ArgsWalk}
-use Rattle.repr.specs.declared.Row.{Row}
+use Rattle.refusals.specs.declared.fits.Around.{Around}
 
 -- a kind is the wanted one
 abbrev pub kind_test : Kind → Kind → Bool
 kind_test RegionKind = is_region_kind
 kind_test TypeKind = is_type_kind
 
--- The parameters ps stand there.
-pub record ParamsAt (s : List ℕ) (p : Row) (ps : List Param) : Type 0 where
-  pub stand : Stands (items p.count param) ps (rest s p.from)
+-- The parameters around are ps.
+pub record ParamsAt (around : Around) (ps : List Param) : Type 0 where
+  pub stand : Stands (items around.params.count param) ps (rest around.input.now.bytes.now around.params.from)
 
 -- The job of the record, and the parameters around.
-pub record Within (input : Record) (around : Row) (j : Job) (ps : List Param) : Type 0 where
-  pub layout : Holds input j
-  pub params : ParamsAt input.bytes.now around ps
+pub record Within (around : Around) (j : Job) (ps : List Param) : Type 0 where
+  pub layout : Holds around.input.now j
+  pub params : ParamsAt around ps
 
 -- ---- A type in a struct with these parameters around
 
-pub record TypeFit (input : Record) (around : Row) (at left : ℕ) (r : Result Rest Refusal) : Type 0 where
-  pub walks : (j : Job) (ps : List Param) → Within input around j ps → TypeWalk (type_fits j.structs ps) input.bytes.now at left r
+pub record TypeFit (around : Around) (at left : ℕ) (r : Result Rest Refusal) : Type 0 where
+  pub walks : (j : Job) (ps : List Param) → Within around j ps → TypeWalk (type_fits j.structs ps) around.input.now.bytes.now at left r
   pub fewer : FewerNodes left r
 
 -- n arguments for as many parameters, which are declared at a place
-pub record ArgumentsFit (input : Record) (around : Row) (declared : Cursor) (at n left : ℕ) (r : Result Rest Refusal) : Type 0 where
-  pub walks : (j : Job) (ps ds : List Param) → Within input around j ps → Stands (items n param) ds (rest input.bytes.now declared) → ArgsWalk (λ g. args_fit j.structs ps g ds) input.bytes.now at n left r
+pub record ArgumentsFit (around : Around) (declared : Cursor) (at n left : ℕ) (r : Result Rest Refusal) : Type 0 where
+  pub walks : (j : Job) (ps ds : List Param) → Within around j ps → Stands (items n param) ds (rest around.input.now.bytes.now declared) → ArgsWalk (λ g. args_fit j.structs ps g ds) around.input.now.bytes.now at n left r
   pub fewer : FewerNodes left r
 
 -- ---- Parts

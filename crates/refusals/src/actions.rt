@@ -79,8 +79,16 @@ fn block_named(input: &Record<'_>, index: BasicBlockIndex) -> bool
     let Ok(b) = input.block_at(index).block(input.bytes) else {
         return false;
     };
-    all_below(input.bytes, b.targets, b.successors, input.head.blocks)
-        && b.code.each(b.actions, |c| action_named(input, c)).is_ok()
+    all_below(
+        input.bytes,
+        b.successors.from,
+        b.successors.count,
+        input.head.blocks,
+    ) && b
+        .actions
+        .from
+        .each(b.actions.count, |c| action_named(input, c))
+        .is_ok()
 }
 
 // The same of all blocks, reached or not.

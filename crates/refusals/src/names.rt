@@ -39,15 +39,11 @@ fn type_named(input: &Record<'_>, c: Cursor, left: u8) -> Result<Rest, Refusal>
             }
             type_named(input, referent, left)
         }
-        Node::Struct {
-            name,
-            count,
-            arguments,
-        } => {
+        Node::Struct { name, arguments } => {
             if input.head.structs <= name.0 {
                 return Err(Refusal::Name);
             }
-            arguments_named(input, arguments, count, left)
+            arguments_named(input, arguments.from, arguments.count, left)
         }
     }
 }

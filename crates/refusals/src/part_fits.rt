@@ -1,34 +1,28 @@
 // Refusal 7 of structs and variables.
-ghost use Rattle.std.specs.Prelude.{◌≡◌, ◌<◌, List, []};
-ghost use Rattle.nll_spec.specs.Syntax.{UnitTy, Param, Job};
-ghost use Rattle.nll_spec.specs.Decode.{field};
+ghost use Rattle.std.specs.Prelude.{◌≡◌, ◌<◌, []};
+ghost use Rattle.nll_spec.specs.Syntax.{UnitTy, Job};
 ghost use Rattle.nll_spec.specs.Types.{struct_of};
 ghost use Rattle.nll_spec.specs.WellFormed.{type_fits, fields_fit, variables_fit};
 ghost use Rattle.record.specs.Layout.{Holds};
-ghost use Rattle.refusals.specs.Tests.{Passes, ItemTested};
-ghost use Rattle.refusals.specs.Fits.{Within, field_fits, struct_fits};
+ghost use Rattle.refusals.specs.Tests.{ItemTested};
+ghost use Rattle.refusals.specs.Fits.{struct_fits};
 
-use super::fits::ty_fits;
+use super::fits::Around;
 use record::Record;
-use repr::{Cursor, Refusal, Row, StructName, Variable};
-
-// A field of a struct with these parameters.
-fn field_fits(input: &Record<'_>, c: Cursor, around: Row) -> Result<Cursor, Refusal>
-    ensures { (j : Job) (ps : List Param) → Within input.now around j ps → Passes field (field_fits j ps) input.now.bytes.now c.at result }
-{
-    let (_, ty) = c.field(input.bytes)?;
-    ty_fits(input, ty, around)
-}
+use repr::{Row, StructName, Variable};
 
 // A struct: its fields, with its parameters around them.
 fn struct_fits(input: &Record<'_>, name: StructName) -> bool
     ensures { (j : Job) → Holds input.now j → result ≡ struct_fits j (struct_of j.structs name.0) }
 {
     let d = input.struct_decl_at(name);
-    let around = d.parameters;
+    let around = Around {
+        input,
+        params: d.parameters,
+    };
     d.fields
         .from
-        .each(d.fields.count, |c| field_fits(input, c, around))
+        .each(d.fields.count, |c| around.field_fits(c))
         .is_ok()
 }
 
@@ -43,8 +37,8 @@ fn variable_fits(input: &Record<'_>, v: Variable) -> bool
     ensures { (j : Job) → Holds input.now j → v.0 < input.now.head.variables → ItemTested (type_fits j.structs []) j.variables UnitTy v.0 result }
 {
     let c = input.variable_at(v);
-    let around = Row { from: c, count: 0 };
-    ty_fits(input, c, around).is_ok()
+    let params = Row { from: c, count: 0 };
+    Around { input, params }.ty_fits(c).is_ok()
 }
 
 pub fn variables_fit(input: &Record<'_>) -> bool

@@ -361,7 +361,7 @@ module _ {of : Relation} {x y : ℕ} {v : syntax.Variance} {ls : List ℕ} where
         go : (t u : Ty) (k : syntax.BorrowKind) (over : List ℕ) (n : Result Node Refusal) → ((j : BorrowKind) (r : Region) (c : Cursor) → n ≡ Ok (nodes.Ref j r c) → ⊥) → NodeIs of.a.now t over n → same_shape t (RefTy k (Free o.0) u) ≡ true → ⊥
         go t u k over (Ok (nodes.Unit c)) e w i = true≢false (sym i ∙ rw w.same)
         go t u k over (Ok (nodes.Ref j r c)) e w i = e j r c refl
-        go t u k over (Ok (nodes.Struct z n c)) e w i = true≢false (sym i ∙ rw w.same)
+        go t u k over (Ok (nodes.Struct z row)) e w i = true≢false (sym i ∙ rw w.same)
         go t u k over (Ok (nodes.Bound j c)) e w i = true≢false (sym i ∙ rw w.same)
         go t u k over (Err j) e w i = w
 

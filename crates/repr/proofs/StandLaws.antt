@@ -19,6 +19,7 @@ use Rattle.repr.specs.Stands.{TypeTo, ArgsTo, TypeAt, FirstType}
 use Rattle.repr.specs.Spelling.{spell, Fine}
 use Rattle.repr.proofs.SpellLaws.{clash, carry, then, tag_read, Spelt, type_spelt, SpeltArgs, args_spelt, type_spells, args_spells}
 use Rattle.repr.specs.declared.Node.{Node}
+use Rattle.repr.specs.declared.Row.{Row}
 use Rattle.repr.specs.declared.Node.TheVariants as nodes
 use Rattle.repr.specs.declared.Argument.{Argument}
 use Rattle.repr.specs.declared.Argument.TheVariants as arguments
@@ -83,15 +84,15 @@ pub record RefIs (s : List ℕ) (t : Ty) (over : List ℕ) (k : BorrowKind) (r :
   pub same : t ≡ RefTy (borrow_kind_of k) (region_of r) referent
   pub stands : TypeTo (rest s c) referent over
 
-pub record StructIs (s : List ℕ) (t : Ty) (over : List ℕ) (name n : ℕ) (c : Cursor) : Type 0 where
+pub record StructIs (s : List ℕ) (t : Ty) (over : List ℕ) (name : ℕ) (row : Row) : Type 0 where
   pub given : Args
   pub same : t ≡ StructTy name given
-  pub stands : ArgsTo (rest s c) n given over
+  pub stands : ArgsTo (rest s row.from) row.count given over
 
 abbrev pub NodeIs : List ℕ → Ty → List ℕ → Result Node Refusal → Type 0
 NodeIs s t over (Ok (nodes.Unit c)) = LeafIs s t over UnitTy c
 NodeIs s t over (Ok (nodes.Ref k r c)) = RefIs s t over k r c
-NodeIs s t over (Ok (nodes.Struct name n c)) = StructIs s t over name.0 n c
+NodeIs s t over (Ok (nodes.Struct name r)) = StructIs s t over name.0 r
 NodeIs s t over (Ok (nodes.Bound b c)) = LeafIs s t over (BoundTy b) c
 NodeIs s t over (Err k) = ⊥
 
@@ -106,9 +107,9 @@ says_is deep left s (Ok (nodes.Unit c)) e = carry (λ (x : Part Ty) o. LeafIs s 
 says_is deep left s (Ok (nodes.Ref k r c)) e =
     let w = then (type_within deep left) _ (rest s c) e in
     carry (λ (x : Part Ty) o. RefIs s x.item o k r c) w.last (record { referent = w.got.item; same = refl; stands = record { deep = deep; left = left; after = w.got.left; reads = w.first } })
-says_is deep left s (Ok (nodes.Struct name n c)) e =
-    let w = then (args (type_within deep) n left) _ (rest s c) e in
-    carry (λ (x : Part Ty) o. StructIs s x.item o name.0 n c) w.last (record { given = w.got.item; same = refl; stands = record { deep = deep; left = left; after = w.got.left; reads = w.first } })
+says_is deep left s (Ok (nodes.Struct name r)) e =
+    let w = then (args (type_within deep) r.count left) _ (rest s r.from) e in
+    carry (λ (x : Part Ty) o. StructIs s x.item o name.0 r) w.last (record { given = w.got.item; same = refl; stands = record { deep = deep; left = left; after = w.got.left; reads = w.first } })
 says_is deep left s (Ok (nodes.Bound b c)) e = carry (λ (x : Part Ty) o. LeafIs s x.item o (BoundTy b) c) e (record { same = refl; ends = refl })
 says_is deep left s (Err k) e = absurd (clash e)
 

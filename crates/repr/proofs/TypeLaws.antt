@@ -20,6 +20,7 @@ use Rattle.repr.specs.declared.StructName.{StructName}
 use Rattle.repr.proofs.ReadLaws.{step, stop, told}
 use Rattle.repr.proofs.DepthLaws.{deeper, args_deeper}
 use Rattle.repr.specs.declared.Node.{Node}
+use Rattle.repr.specs.declared.Row.{Row}
 use Rattle.repr.specs.declared.Node.TheVariants as nodes
 use Rattle.repr.specs.declared.Argument.{Argument}
 use Rattle.repr.specs.declared.Argument.TheVariants as arguments
@@ -191,12 +192,12 @@ module _ {s : List ℕ} {at left c few : ℕ} (x : Down s at left c few) where
     opened_end e (inl h) = opened_unit (e ∙ ap Ok h)
     opened_end e (inr h) = opened_bound (e ∙ ap Ok h.1)
 
-    pub opened_struct : {name : StructName} {count : ℕ} {arguments : Cursor} → d ≡ Ok (nodes.Struct name count arguments) → count < 256 → OpenedSays s at left (opened count (few - 1) arguments)
-    opened_struct {count = count} {arguments = arguments} e l = record { same = go; falls = omega (arith, x.fewer, z, l) }
+    pub opened_struct : {name : StructName} {row : Row} → d ≡ Ok (nodes.Struct name row) → row.count < 256 → OpenedSays s at left (opened row.count (few - 1) row.from)
+    opened_struct {row = row} e l = record { same = go; falls = omega (arith, x.fewer, z, l) }
       where
-        go : (depth n : ℕ) → left < depth → opened_says (type_within depth) n s (opened count (few - 1) arguments) ≡ onward (type_within depth) n (left_of (type_within depth left (drop at s)))
+        go : (depth n : ℕ) → left < depth → opened_says (type_within depth) n s (opened row.count (few - 1) row.from) ≡ onward (type_within depth) n (left_of (type_within depth left (drop at s)))
         go zero n h = absurd (omega arith)
-        go (suc depth) n h = args_more (type_within (suc depth)) count n (few - 1) (rest s arguments) ∙ sym (ap (onward (type_within (suc depth)) n) (first-node e depth h ∙ left-done (args (type_within depth) count (few - 1)) _ (rest s arguments) ∙ ap left_of (args_deeper depth count (few - 1) (rest s arguments) (omega (arith, h, x.fewer, z)))))
+        go (suc depth) n h = args_more (type_within (suc depth)) row.count n (few - 1) (rest s row.from) ∙ sym (ap (onward (type_within (suc depth)) n) (first-node e depth h ∙ left-done (args (type_within depth) row.count (few - 1)) _ (rest s row.from) ∙ ap left_of (args_deeper depth row.count (few - 1) (rest s row.from) (omega (arith, h, x.fewer, z)))))
 
 -- ---- The first argument
 

@@ -115,8 +115,8 @@ loans_of (StorageDead v) = 0
 
 unfoldable pub block_of : List ℕ → BasicBlockData → Reading syntax.Block
 block_of s b =
-    (do code ← items b.actions action; done (record { successors = take b.successors (rest s b.targets); actions = code }))
-    (rest s b.code)
+    (do code ← items b.actions.count action; done (record { successors = take b.successors.count (rest s b.successors.from); actions = code }))
+    (rest s b.actions.from)
 
 abbrev pub block_says : List ℕ → Result BasicBlockData Refusal → Reading syntax.Block
 block_says s (Ok b) = block_of s b

@@ -52,8 +52,8 @@ module _ (inner : Inner) (left : ℕ) (s : List ℕ) where
   node_says (Ok (nodes.Unit next)) = read (part UnitTy left) (rest s next)
   node_says (Ok (nodes.Ref k r referent)) =
       (do t ← inner left; done (part (RefTy (borrow_kind_of k) (region_of r) t.item) t.left)) (rest s referent)
-  node_says (Ok (nodes.Struct name n given_at)) =
-      (do given ← args inner n left; done (part (StructTy name.0 given.item) given.left)) (rest s given_at)
+  node_says (Ok (nodes.Struct name row)) =
+      (do given ← args inner row.count left; done (part (StructTy name.0 given.item) given.left)) (rest s row.from)
   node_says (Ok (nodes.Bound b next)) = read (part (BoundTy b) left) (rest s next)
   node_says (Err k) = refused (number_of k)
 

@@ -16,7 +16,7 @@ ghost use Rattle.repr.specs.Parts.{
   block_says,
 };
 
-use super::{Action, BasicBlockData, Cursor, Reading, Refusal, RegionName, Variable};
+use super::{Action, BasicBlockData, Cursor, Reading, Refusal, RegionName, Row, Variable};
 
 impl Action {
     // How many sources follow it: those of an Init.
@@ -135,14 +135,14 @@ impl Cursor {
     pub fn block(self, s: &[u8]) -> Result<BasicBlockData, Refusal>
         ensures { block_says s.now result ≡ block (drop self.at s.now) }
     {
-        let (successors, targets) = self.count(s, 0, 8)?;
-        let end = targets.bytes(s, successors)?;
-        let (actions, code) = end.count(s, 0, 64)?;
+        let (count, from) = self.count(s, 0, 8)?;
+        let successors = Row { from, count };
+        let end = from.bytes(s, count)?;
+        let (count, from) = end.count(s, 0, 64)?;
+        let actions = Row { from, count };
         Ok(BasicBlockData {
             successors,
-            targets,
             actions,
-            code,
         })
     }
 }

@@ -112,13 +112,11 @@ pub struct StructDecl {
     pub fields: Row,
 }
 
-// So many successors and actions, and where they begin.
+// A block's successors and actions.
 #[derive(Clone, Copy)]
 pub struct BasicBlockData {
-    pub successors: u8,
-    pub targets: Cursor,
-    pub actions: u8,
-    pub code: Cursor,
+    pub successors: Row,
+    pub actions: Row,
 }
 
 // ---- What reading at a cursor gives
@@ -137,8 +135,7 @@ pub enum Node {
     },
     Struct {
         name: StructName,
-        count: u8,
-        arguments: Cursor,
+        arguments: Row,
     },
     Bound(u8, Cursor),
 }

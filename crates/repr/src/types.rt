@@ -4,7 +4,7 @@ ghost use Rattle.nll_spec.specs.Decode.{type};
 ghost use Rattle.repr.specs.Reading.{ended, end_says};
 ghost use Rattle.repr.specs.Types.{node, ref_node, struct_node, bound_node, NodeSays, ArgumentSays, OpenedSays, FirstSays, TypeSays, ArgumentsSay};
 
-use super::{Argument, Cursor, Node, Opened, Refusal, Rest, StructName};
+use super::{Argument, Cursor, Node, Opened, Refusal, Rest, Row, StructName};
 
 impl Cursor {
     #[tactic(auto, using(crate::proofs::ReadLaws::step, crate::proofs::ReadLaws::stop), unfolding(crate::specs::Types::ref_node))]
@@ -27,13 +27,10 @@ impl Cursor {
         ensures { NodeSays struct_node s.now self.at result }
     {
         let (n, next) = self.byte(s)?;
-        let (count, arguments) = next.count(s, 0, 4)?;
+        let (count, from) = next.count(s, 0, 4)?;
         let name = StructName(n);
-        Ok(Node::Struct {
-            name,
-            count,
-            arguments,
-        })
+        let arguments = Row { from, count };
+        Ok(Node::Struct { name, arguments })
     }
 
     // What follows a Bound's tag: its index.
@@ -90,15 +87,11 @@ impl Cursor {
                         next,
                     });
                 }
-                Node::Struct {
-                    count,
-                    arguments,
-                    ..
-                } => {
+                Node::Struct { arguments, .. } => {
                     return Ok(Opened {
-                        count,
+                        count: arguments.count,
                         left: few,
-                        next: arguments,
+                        next: arguments.from,
                     });
                 }
             }

@@ -176,9 +176,9 @@ module _ {input : Record} {which : Which} {from : Rest} {before : List ℕ} wher
       fewer = λ to i. let k = v.fewer to i in omega arith;
     }
 
-    pub adds_struct : {name : StructName} {n : ℕ} {c : Cursor} {x : decl.StructDecl} {after : List ℕ} {r : Result Rest Refusal} → d ≡ Ok (nodes.Struct name n c) → (from.left ≡ 0 → ⊥)
+    pub adds_struct : {name : StructName} {row : Row} {x : decl.StructDecl} {after : List ℕ} {r : Result Rest Refusal} → d ≡ Ok (nodes.Struct name row) → (from.left ≡ 0 → ⊥)
         → ((j : Job) → Holds input j → Declared input.bytes.now (struct_of j.structs name.0) x)
-        → ArgumentsAdd input which (x.parameters) (record { left = from.left - 1; next = c }) n before after r → TypeAdds input which from before after r
+        → ArgumentsAdd input which (x.parameters) (record { left = from.left - 1; next = row.from }) row.count before after r → TypeAdds input which from before after r
     adds_struct {name} e z f v = record {
       adds = λ j l ty bs p k.
           let w = on-node m e p in

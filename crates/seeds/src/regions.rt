@@ -76,12 +76,9 @@ fn add_type(
             add_region(region, which, set);
             add_type(input, Rest { left, next }, in_ref(which), set)
         }
-        Node::Struct {
-            name,
-            count,
-            arguments: next,
-        } => {
+        Node::Struct { name, arguments } => {
             let d = input.struct_decl_at(name);
+            let Row { from: next, count } = arguments;
             add_arguments(input, Rest { left, next }, count, d.parameters, which, set)
         }
     }

@@ -103,18 +103,18 @@ first_found s n h over (Err k) w = absurd w
 
 module _ {a : Arguments} where
   -- the arguments before number k are passed over
-  there : {k : ℕ} {r : Result Rest Refusal} {g : Args} → ArgumentsSay a.bytes.now a.from.at k 32 r → k ≤ a.count → (w : Given a g) → (p : Split (rest a.bytes.now a.from) a.count k g w.over) × (nodes_says a.bytes.now r ≡ read (32 - arg_nodes (take_args k g)) p.mid)
+  there : {k : ℕ} {r : Result Rest Refusal} {g : Args} → ArgumentsSay a.bytes.now a.row.from.at k 32 r → k ≤ a.row.count → (w : Given a g) → (p : Split (rest a.bytes.now a.row.from) a.row.count k g w.over) × (nodes_says a.bytes.now r ≡ read (32 - arg_nodes (take_args k g)) p.mid)
   there {k = k} v h w = let p = split k w.stand h in let l = p.few in let m = w.few in (p, args-passed v p.front (omega arith))
 
   module _ {b : ℕ} where
-    pub found_none : a.count ≡ 0 → FoundSays a b None
+    pub found_none : a.row.count ≡ 0 → FoundSays a b None
     found_none z = record {
       says = λ g w.
           let e : bound_args g b ≡ NoArgs = rw (none_is z w.stand).same (drop-none _) in
           record { region = ap head_region e; type = ap head_type e };
     }
 
-    module _ {k : ℕ} {r : Result Rest Refusal} (z : a.count ≡ 0 → ⊥) (i : k ≡ a.count - b - 1) (v : ArgumentsSay a.bytes.now a.from.at k 32 r) where
+    module _ {k : ℕ} {r : Result Rest Refusal} (z : a.row.count ≡ 0 → ⊥) (i : k ≡ a.row.count - b - 1) (v : ArgumentsSay a.bytes.now a.row.from.at k 32 r) where
       pub found-short : {j : Refusal} → r ≡ Err j → FoundSays a b None
       found-short e = record { says = λ g w. absurd (clash (sym (ap (nodes_says a.bytes.now) e) ∙ (there v (omega arith) w).1)) }
 
@@ -126,7 +126,7 @@ module _ {a : Arguments} where
             let m : p.0.mid ≡ rest a.bytes.now x.next = cc in
             let c = (args-bytes w.stand).count in
             let n : k ≡ arg_count g - suc b = omega arith in
-            let st : ArgsTo (rest a.bytes.now x.next) (a.count - k) (drop_args k g) w.over = transport (λ (o : List ℕ). ArgsTo o (a.count - k) (drop_args k g) w.over) m p.0.back in
+            let st : ArgsTo (rest a.bytes.now x.next) (a.row.count - k) (drop_args k g) w.over = transport (λ (o : List ℕ). ArgsTo o (a.row.count - k) (drop_args k g) w.over) m p.0.back in
             transport (λ (j : ℕ). FoundIs a.bytes.now (drop_args j g) (result_ok d)) n (first_found a.bytes.now _ (drop_args k g) w.over d (argument_is o (λ q. omega arith) st));
       }
 

@@ -247,7 +247,7 @@ module _ {a : List ℕ} {x : ℕ} {b : List ℕ} {y : ℕ} {d : Result Node Refu
       go : (t u : Ty) (o : SomeRegion) (over : List ℕ) (n : Node) → ((j : BorrowKind) (r : Region) (c : Cursor) → n ≡ nodes.Ref j r c → ⊥) → NodeIs a t over (Ok n) → false ≡ same_shape t (RefTy k o u)
       go t u o over (nodes.Unit c) e w = rw w.same
       go t u o over (nodes.Ref j r c) e w = absurd (e j r c refl)
-      go t u o over (nodes.Struct z n c) e w = rw w.same
+      go t u o over (nodes.Struct z g) e w = rw w.same
       go t u o over (nodes.Bound i c) e w = rw w.same
 
   module _ {j : BorrowKind} {o : Region} {c : Cursor} (e : d ≡ Ok (nodes.Ref j o c)) where

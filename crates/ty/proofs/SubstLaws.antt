@@ -10,6 +10,7 @@ use Rattle.nll_spec.specs.Types.{head_type, arg_count, drop_args, bound_args, su
 use Rattle.repr.specs.Reading.{rest, borrow_kind_of, region_of}
 use Rattle.repr.specs.Types.{node, NodeSays, ArgumentSays}
 use Rattle.repr.specs.declared.Cursor.{Cursor}
+use Rattle.repr.specs.declared.Row.{Row}
 use Rattle.repr.specs.declared.BorrowKind.{BorrowKind as Kind}
 use Rattle.repr.specs.declared.Region.{Region}
 use Rattle.repr.specs.declared.StructName.{StructName}
@@ -92,7 +93,7 @@ module _ {f : List ℕ} {c : ℕ} {a : Arguments} {w w₁ : Writer} {d : Result 
   pub subst-refused : {k : Refusal} → d ≡ Err k → SubstSays f c a w w₁ None
   subst-refused e = record { says = λ t over g p q. absurd (on-node m e p); room = tt }
 
-  pub subst-wide : {name : StructName} {n : ℕ} {i : Cursor} → d ≡ Ok (nodes.Struct name n i) → 4 < n → SubstSays f c a w w₁ None
+  pub subst-wide : {name : StructName} {row : Row} → d ≡ Ok (nodes.Struct name row) → 4 < row.count → SubstSays f c a w w₁ None
   subst-wide {name = name} e h = record {
     says = λ t over g p q.
         let x = on-node m e p in
@@ -122,14 +123,14 @@ module _ {f : List ℕ} {c : ℕ} {a : Arguments} {w w₁ : Writer} {d : Result 
       room = room-more h 0 0 w₁ (omega arith) r u.room;
     }
 
-    pub subst_struct : {name : StructName} {n : ℕ} {i : Cursor} {w₀ : Writer} → d ≡ Ok (nodes.Struct name n i) → n ≤ 4 → Puts 1 (2 ∷ name.0 ∷ n ∷ []) w w₀ → ArgumentsSay f i.at n a w₀ w₁ r → SubstSays f c a w w₁ r
+    pub subst_struct : {name : StructName} {row : Row} {w₀ : Writer} → d ≡ Ok (nodes.Struct name row) → row.count ≤ 4 → Puts 1 (2 ∷ name.0 ∷ row.count ∷ []) w w₀ → ArgumentsSay f row.from.at row.count a w₀ w₁ r → SubstSays f c a w w₁ r
     unfolding subst
-    subst_struct {name = name} {n = n} e i h u = record {
+    subst_struct {name = name} {row = row} e i h u = record {
       says = λ t over g p q.
           let x = on-node m e p in
           transport (λ (o : Ty). Writes f over (type_nodes (subst o g)) (spell (subst o g)) w w₁ r) (sym x.same)
-          (struct_writes f over w₁ r name.0 n (subst_args x.given g) (count_same x.given g ∙ (args-bytes x.stands).count) h (u.says x.given over g x.stands q));
-      room = room-more h 0 (3 * n) w₁ (omega arith) r u.room;
+          (struct_writes f over w₁ r name.0 row.count (subst_args x.given g) (count_same x.given g ∙ (args-bytes x.stands).count) h (u.says x.given over g x.stands q));
+      room = room-more h 0 (3 * row.count) w₁ (omega arith) r u.room;
     }
 
 -- ---- Arguments

@@ -15,7 +15,7 @@ use Rattle.ty.specs.declared.write.Arguments.{Arguments}
 -- the arguments g stand there
 pub record Given (a : Arguments) (g : Args) : Type 0 where
   pub over : List ℕ
-  pub stand : ArgsTo (rest a.bytes.now a.from) a.count g over
+  pub stand : ArgsTo (rest a.bytes.now a.row.from) a.row.count g over
   pub few : arg_nodes g ≤ max_nodes
 
 -- The first of the arguments h is a region, a type, or missing.

@@ -4,14 +4,13 @@ ghost use Rattle.repr.specs.Reading.{borrow_kind_of, region_of};
 ghost use Rattle.repr.specs.Spelling.{kind_byte, region_tag, region_number};
 ghost use Rattle.ty.specs.Written.{FoundSays, RegionSays, WholeSays, CopiedSays};
 
-use repr::{Argument, BorrowKind, Cursor, Node, Region, RegionName};
+use repr::{Argument, BorrowKind, Cursor, Node, Region, RegionName, Row};
 
-// A struct's arguments: so many, from a place of the bytes on.
+// A struct's arguments: a row of the bytes.
 #[derive(Clone, Copy)]
 pub struct Arguments<'a> {
     pub bytes: &'a [u8],
-    pub from: Cursor,
-    pub count: u8,
+    pub row: Row,
 }
 
 // The nodes that a type has at most.
@@ -58,11 +57,11 @@ impl Arguments<'_> {
     fn found(&self, b: u8) -> Option<Argument>
         ensures { FoundSays self.now b result }
     {
-        if self.count == 0 {
+        if self.row.count == 0 {
             return None;
         }
-        let number = self.count.saturating_sub(b).saturating_sub(1);
-        let before = self.from.arguments(self.bytes, number, 32).ok()?;
+        let number = self.row.count.saturating_sub(b).saturating_sub(1);
+        let before = self.row.from.arguments(self.bytes, number, 32).ok()?;
         before.next.argument(self.bytes).ok()
     }
 
@@ -147,16 +146,13 @@ impl Writer<'_> {
                 self.put(1, &[1, kind_byte(kind), tag, number]);
                 self.subst_type(f, referent, given)
             }
-            Node::Struct {
-                name,
-                count,
-                arguments,
-            } => {
+            Node::Struct { name, arguments } => {
+                let count = arguments.count;
                 if count > 4 {
                     return None;
                 }
                 self.put(1, &[2, name.0, count]);
-                self.subst_arguments(f, arguments, count, given)
+                self.subst_arguments(f, arguments.from, count, given)
             }
         }
     }

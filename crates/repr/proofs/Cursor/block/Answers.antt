@@ -8,12 +8,12 @@ use Rattle.repr.proofs.Cursor.block.Goals as goal
 
 pub returns-in_err-end : goal.returns-in_err-end
 unfolding block
-returns-in_err-end c = rw (passed_on c.from_residual-in_err-end.ensures) (sym (counted_step _ _ _ _ (sym c.in_ok-successors.ensures) ∙ stop _ _ _ (sym c.in_err-end.ensures)))
+returns-in_err-end c = rw (passed_on c.from_residual-in_err-end.ensures) (sym (counted_step _ _ _ _ (sym c.in_ok-count.ensures) ∙ stop _ _ _ (sym c.in_err-end.ensures)))
 
-pub returns-in_err-actions : goal.returns-in_err-actions
+pub returns-in_err-count-2 : goal.returns-in_err-count-2
 unfolding block
-returns-in_err-actions c = rw (passed_on c.from_residual-in_err-actions.ensures) (sym (counted_step _ _ _ _ (sym c.in_ok-successors.ensures) ∙ step _ _ _ (sym c.in_ok-end.ensures) ∙ counted_stop _ _ _ _ (sym c.in_err-actions.ensures)))
+returns-in_err-count-2 c = rw (passed_on c.from_residual-in_err-count-2.ensures) (sym (counted_step _ _ _ _ (sym c.in_ok-count.ensures) ∙ step _ _ _ (sym c.in_ok-end.ensures) ∙ counted_stop _ _ _ _ (sym c.in_err-count-2.ensures)))
 
 pub returns : goal.returns
 unfolding block block_of
-returns c = sym (counted_step _ _ _ _ (sym c.in_ok-successors.ensures) ∙ step _ _ _ (sym c.in_ok-end.ensures) ∙ counted_step _ _ _ _ (sym c.in_ok-actions.ensures))
+returns c = sym (counted_step _ _ _ _ (sym c.in_ok-count.ensures) ∙ step _ _ _ (sym c.in_ok-end.ensures) ∙ counted_step _ _ _ _ (sym c.in_ok-count-2.ensures))

@@ -1,4 +1,4 @@
--- `refusals::fits::arguments_fit` and `refusals::fits::type_fits` meet their contracts. Assumes nothing.
+-- `refusals::fits::Around::arguments_fit` and `refusals::fits::Around::type_fits` meet their contracts. Assumes nothing.
 use Rattle.std.specs.Prelude.{Ok}
 use Rattle.std.proofs.Common.{rules}
 use mathlib.Core.Path.{◌≡◌, ap, ◌∙◌}
@@ -7,8 +7,8 @@ use native.Mathlib.Omega.{arith}
 use Rattle.repr.proofs.ReadLaws.{passed_on}
 use Rattle.refusals.proofs.FitLaws as laws
 use Rattle.refusals.proofs.WalkLaws as walks
-use Rattle.refusals.proofs.fits.+arguments_fit_type_fits.Goals as goal
-use Rattle.refusals.proofs.fits.+arguments_fit_type_fits.Goals.{arguments_fit-in-Region+else-not-argument_fits, arguments_fit-in-Type+else-ne+in_ok-rest-in-Type}
+use Rattle.refusals.proofs.fits.Around.+arguments_fit_type_fits.Goals as goal
+use Rattle.refusals.proofs.fits.Around.+arguments_fit_type_fits.Goals.{arguments_fit-in-Region+else-not-argument_fits, arguments_fit-in-Type+else-ne+in_ok-rest-in-Type}
 
 pub type_fits-returns-then-left-eq0 : goal.type_fits-returns-then-left-eq0
 type_fits-returns-then-left-eq0 t c = laws.fit_none (omega arith)
@@ -31,11 +31,11 @@ type_fits-returns-then-not-region_fits t c = laws.ref_unfit c.type_node.ensures 
 pub type_fits-returns-else-not-region_fits : goal.type_fits-returns-else-not-region_fits
 type_fits-returns-else-not-region_fits t c = laws.fit_ref c.type_node.ensures (c.in_ok-next.was ∙ ap Ok c.in-Ref.is) c.region_fits.ensures c.if-not-region_fits.false (omega arith) c.type_fits.ensures
 
-pub type_fits-returns-then-named-count : goal.type_fits-returns-then-named-count
-type_fits-returns-then-named-count t c = laws.count_unfit c.type_node.ensures (c.in_ok-next.was ∙ ap Ok c.in-Struct.is) c.struct_decl_at-named.ensures c.if-named-count.true
+pub type_fits-returns-then-named-arguments : goal.type_fits-returns-then-named-arguments
+type_fits-returns-then-named-arguments t c = laws.count_unfit c.type_node.ensures (c.in_ok-next.was ∙ ap Ok c.in-Struct.is) c.struct_decl_at-named.ensures c.if-named-arguments.true
 
-pub type_fits-returns-else-named-count : goal.type_fits-returns-else-named-count
-type_fits-returns-else-named-count t c = laws.fit_struct c.type_node.ensures (c.in_ok-next.was ∙ ap Ok c.in-Struct.is) c.struct_decl_at-named.ensures c.if-named-count.false (omega arith) (rw (← c.if-named-count.false) c.arguments_fit.ensures)
+pub type_fits-returns-else-named-arguments : goal.type_fits-returns-else-named-arguments
+type_fits-returns-else-named-arguments t c = laws.fit_struct c.type_node.ensures (c.in_ok-next.was ∙ ap Ok c.in-Struct.is) c.struct_decl_at-named.ensures c.if-named-arguments.false (omega arith) (rw (← c.if-named-arguments.false) c.arguments_fit.ensures)
 
 pub arguments_fit-returns-in_err-p : goal.arguments_fit-returns-in_err-p
 arguments_fit-returns-in_err-p t c = rw (passed_on c.from_residual.ensures) (c.loop.invariant.whole _ (laws.parameter_refused (omega arith) c.parameter.ensures c.in_err-p.was))
