@@ -46,7 +46,7 @@ use Rattle.constraints.proofs.ListLaws.{gather-below}
 use Rattle.constraints.proofs.ActionLaws.{assign_takes, borrow-takes}
 use Rattle.constraints.proofs.SourceLaws.{source-same}
 use Rattle.repr.specs.declared.refusal.Refusal.{Refusal}
-use Rattle.std.specs.Prelude.{Result, Ok, Err, Option, Some}
+use Rattle.std.specs.Prelude.{Result, Ok, Err, Option, Some, None}
 
 -- ---- A step of a borrow's source
 
@@ -78,21 +78,27 @@ module _ {pair : Pair} {a b k n kinds names : List ℕ} {d e : Option PathType} 
 then_none : (cs : List Outlives) {ds : List Outlives} → ds ≡ [] → cs ++ ds ≡ cs
 then_none cs e = ap (λ (ds : List Outlives). cs ++ ds) e ∙ append-nil cs
 
+-- what the steps of a source make, if there is one
+abbrev source_made : Point → List ℕ → List ℕ → Option Source → List Outlives
+source_made at kinds names (Some of) = source_constraints at kinds names of.supporting of.region.0 of.steps
+source_made at kinds names None = []
+
 no_steps : (how : Related) (at : Point) (j : Job) (q : syntax.Path) → q.steps ≡ [] → along_source how at j q ≡ []
 unfolding relate_source
 no_steps Assigned at j q e = refl
 no_steps (Borrowed r) at j q e = rw e
 
-module _ {input : Record} {q : Path} {b kinds names : List ℕ} {d : Option PathType} (v : PathSays input q b kinds names d) (at : Point) (of : Source) (j : Job) (l : Holds input j) (accepted : refusal j ≡ 0) (w : Takes input.bytes.now j q) where
-  along : (how : Related) → SourceIs input.bytes.now q how kinds of → source_constraints at kinds names of.supporting of.region.0 of.steps ≡ along_source how at j (path_of input.bytes.now q)
-  along Assigned u = ap (source_constraints at kinds names of.supporting of.region.0) u
-  along (Borrowed r) u =
+module _ {input : Record} {q : Path} {b kinds names : List ℕ} {d : Option PathType} (v : PathSays input q b kinds names d) (at : Point) (j : Job) (l : Holds input j) (accepted : refusal j ≡ 0) (w : Takes input.bytes.now j q) where
+  along : (how : Related) (r : Option Source) → SourceIs input.bytes.now q how kinds r → source_made at kinds names r ≡ along_source how at j (path_of input.bytes.now q)
+  along Assigned r u = ap (source_made at kinds names) u
+  along (Borrowed m) None u = absurd u
+  along (Borrowed m) (Some of) u =
       let leaves = taken-leaves j (path_of input.bytes.now q) input.bytes.now b d w.fits (v.says j l w.named) in
       let o = shortest-of j (path_of input.bytes.now q) leaves v.sizes.0 w.short (subst (λ (n : ℕ). ShortestIn kinds n u.of) u.steps u.shortest) in
       ap (λ (n : ℕ). source_constraints at kinds names n of.region.0 of.steps) u.supporting
       ∙ ap (λ (n : RegionName). source_constraints at kinds names u.of.supporting n.0 of.steps) u.same
-      ∙ ap (source_constraints at kinds names u.of.supporting r.0) u.steps
-      ∙ source-same j accepted (path_of input.bytes.now q) leaves w.short o at r.0
+      ∙ ap (source_constraints at kinds names u.of.supporting m.0) u.steps
+      ∙ source-same j accepted (path_of input.bytes.now q) leaves w.short o at m.0
 
 -- the type stands in the record
 stays : {s out : List ℕ} {x : Place} → x.bytes.now ≡ s → PlaceSays s out (found.Inside x.at) x
@@ -110,11 +116,22 @@ module _ {pair : Pair} {ls : List ℕ} where
             ((paths_add (stepless pair.p x.at z.0 vp.1) (stepless pair.q y.at z.1 vq.1) refl refl (stays vp.0) (stays vq.0) u).adds j l wp wq k same);
       }
 
-  pub pair_adds : {b kinds names : List ℕ} {d : Option PathType} {ls₁ ls₂ : List ℕ} {of : Source} → PathSays pair.input.now pair.q b kinds names d
+  pair_made : {b kinds names : List ℕ} {d : Option PathType} {ls₁ ls₂ : List ℕ} {r x : Option Source} → PathSays pair.input.now pair.q b kinds names d
       → PathsAdd pair ls ls₁
-      → SourceSays pair kinds of → Adds (source_constraints pair.at kinds names of.supporting of.region.0 of.steps) ls₁ ls₂
+      → SourceSays pair kinds r → r ≡ x → Adds (source_made pair.at kinds names x) ls₁ ls₂
       → PairAdds pair ls ls₂
-  pair_adds {of = of} v u o src = record { adds = λ j l accepted wp wq k z. adds-append (u.adds j l wp wq k z) (adds_as (along v pair.at of j l accepted wq pair.how o.says) src) }
+  pair_made {kinds = kinds} {names = names} {r = r} v u o e src = record { adds = λ j l accepted wp wq k z. adds-append (u.adds j l wp wq k z) (adds_as (ap (source_made pair.at kinds names) (sym e) ∙ along v pair.at j l accepted wq pair.how r o.says) src) }
+
+  pub pair_adds : {b kinds names : List ℕ} {d : Option PathType} {ls₁ ls₂ : List ℕ} {r : Option Source} {of : Source} → PathSays pair.input.now pair.q b kinds names d
+      → PathsAdd pair ls ls₁
+      → SourceSays pair kinds r → r ≡ Some of → Adds (source_constraints pair.at kinds names of.supporting of.region.0 of.steps) ls₁ ls₂
+      → PairAdds pair ls ls₂
+  pair_adds v u o e src = pair_made v u o e src
+
+  pub pair_sourceless : {b kinds names : List ℕ} {d : Option PathType} {ls₁ : List ℕ} {r : Option Source} → PathSays pair.input.now pair.q b kinds names d
+      → PathsAdd pair ls ls₁
+      → SourceSays pair kinds r → r ≡ None → PairAdds pair ls ls₁
+  pair_sourceless v u o e = pair_made v u o e (adds_none refl)
 
 -- ---- An action
 

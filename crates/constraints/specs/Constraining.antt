@@ -1,5 +1,5 @@
 -- What adding the constraints of an action to a list does.
-use Rattle.std.specs.Prelude.{Some, ◌≡◌, true, ◌&&◌, not, cond, List, [], ◌++◌, ℕ, ◌+◌, ◌≤◌, ◌<◌, length, get_or, T, eqb, leb}
+use Rattle.std.specs.Prelude.{Option, Some, None, ◌≡◌, true, ◌&&◌, not, cond, List, [], ◌++◌, ℕ, ◌+◌, ◌≤◌, ◌<◌, length, get_or, T, eqb, leb}
 use Rattle.nll_spec.specs.Lists.{gather, below}
 use Rattle.nll_spec.specs.Syntax as syntax
 use Rattle.nll_spec.specs.Syntax.{Job, Point, RegionName, BorrowKind, Variance, Co, Contra, Free, Ty, RefTy}
@@ -48,12 +48,13 @@ pub record BorrowSource (s : List ℕ) (p : Path) (region : repr.RegionName) (ki
   pub supporting : r.supporting ≡ of.supporting
 
 -- An assignment has none.
-abbrev pub SourceIs : List ℕ → Path → Related → List ℕ → Source → Type 0
-SourceIs s p Assigned kinds r = r.steps ≡ 0
-SourceIs s p (Borrowed region) kinds r = BorrowSource s p region kinds r
+abbrev pub SourceIs : List ℕ → Path → Related → List ℕ → Option Source → Type 0
+SourceIs s p Assigned kinds r = r ≡ None
+SourceIs s p (Borrowed region) kinds (Some r) = BorrowSource s p region kinds r
+SourceIs s p (Borrowed region) kinds None = ⊥
 
 -- What `Pair::source` says.
-pub record SourceSays (pair : Pair) (kinds : List ℕ) (r : Source) : Type 0 where
+pub record SourceSays (pair : Pair) (kinds : List ℕ) (r : Option Source) : Type 0 where
   pub says : SourceIs pair.input.now.bytes.now pair.q pair.how kinds r
 
 -- The type that a path was found to have stands there.

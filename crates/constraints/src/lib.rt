@@ -84,24 +84,20 @@ fn place_of<'a>(s: &'a [u8], out: &'a [u8], found: PathType) -> Place<'a>
 }
 
 impl<'a> Pair<'a> {
-    // The source of a borrow, by what its steps leave, or one without steps for an assignment.
-    fn source(&self, taken: &[Step; 8]) -> Source
+    // The source of a borrow, by what its steps leave.
+    fn source(&self, taken: &[Step; 8]) -> Option<Source>
         ensures { SourceSays self.now (kinds_of taken.now) result }
     {
         let Related::Borrowed(region) = self.how else {
-            return Source {
-                region: RegionName(0),
-                supporting: 0,
-                steps: 0,
-            };
+            return None;
         };
         let steps = steps_of(self.input.bytes, self.q);
         let of = shortest(taken, steps);
-        Source {
+        Some(Source {
             region,
             supporting: usize::from(of.supporting),
             steps: usize::from(steps),
-        }
+        })
     }
 
     // Relates the types of the paths, which stand at x and at y.
@@ -158,7 +154,9 @@ impl<'a> Pair<'a> {
         let x = path_type(self.input, self.p, &mut a, &mut spare, &mut taken);
         let y = path_type(self.input, self.q, &mut b, &mut spare, &mut taken);
         self.relate_found(&a, &b, x, y, list);
-        relate_source(self.source(&taken), &taken, self.at, list);
+        if let Some(of) = self.source(&taken) {
+            relate_source(of, &taken, self.at, list);
+        }
     }
 
     // The constraints of an assignment or a borrow, at the point.
