@@ -1,8 +1,8 @@
 -- The constraints of an action: of a borrow, of an assignment, and of any other. Assumes nothing.
-use lib.ListN.{get_or}
+use lib.ListN.{length, get_or, take}
 use mathlib.Core.Path.{◌≡◌, refl, sym, ap, ◌∙◌, subst}
 use mathlib.Core.List.{List, [], ◌++◌, append-nil}
-use Prim.Native.Nat.{ℕ, ◌+◌, ◌<◌}
+use Prim.Native.Nat.{ℕ, zero, suc, ◌+◌, ◌-◌, min, ◌≤◌, ◌<◌}
 use native.Mathlib.Omega.{arith}
 use native.Mathlib.Numerals.{add-one}
 use lib.Dec.{T}
@@ -28,6 +28,10 @@ use Rattle.record.specs.Access.{Acts}
 use Rattle.record.specs.declared.Record.{Record}
 use Rattle.record.specs.declared.Offsets.{Offsets}
 use Rattle.repr.proofs.SpellLaws.{clash, carry, then}
+use Rattle.std.proofs.lemmas.List.{get_or-map, length-map, length-take, get_or-take, get_or_past}
+use Rattle.env.specs.Steps.{kind_in, kinds_of, name_in, names_of}
+use Rattle.env.specs.declared.Step.{Step}
+use Rattle.env.specs.declared.Step.TheVariants.{Owned}
 use Rattle.env.specs.Prefixes.{ShortestIn}
 use Rattle.env.specs.Paths.{PathType, PathResult, PathSays}
 use Rattle.env.specs.declared.paths.Found.TheVariants as found
@@ -36,7 +40,7 @@ use Rattle.env.proofs.PrefixLaws.{shortest-of}
 use Rattle.env.proofs.ShortestLaws.{taken-leaves}
 use Rattle.constraint_list.specs.Listed.{Adds}
 use Rattle.constraint_list.proofs.ListLaws.{adds_none, adds-append}
-use Rattle.constraints.specs.Constraining.{step_constraints, source_constraints, Takes, SourceIs, SourceSays, PlaceSays, first, second, along_source, TypesAdd, PathsAdd, PairAdds, Constrains}
+use Rattle.constraints.specs.Constraining.{constraints_of, step_constraints, source_constraints, Takes, SourceIs, SourceSays, PlaceSays, first, second, along_source, TypesAdd, PathsAdd, PairAdds, Constrains}
 use Rattle.constraints.specs.declared.Source.{Source}
 use Rattle.constraints.specs.declared.Place.{Place}
 use Rattle.constraints.specs.declared.Pair.{Pair}
@@ -53,10 +57,37 @@ use Rattle.std.specs.Prelude.{Result, Ok, Err, Option, Some, None}
 adds_as : {cs ds : List Outlives} {ls ls' : List ℕ} → cs ≡ ds → Adds cs ls ls' → Adds ds ls ls'
 adds_as {ls = ls} {ls' = ls'} e x = subst (λ (cs : List Outlives). Adds cs ls ls') e x
 
-module _ (at : Point) (kinds names : List ℕ) (shortest r : ℕ) where
-  pub source_more : {ls ls₁ ls₂ : List ℕ} (i : ℕ) → Adds (source_constraints at kinds names shortest r i) ls ls₁
-      → Adds (step_constraints at kinds names shortest r i) ls₁ ls₂ → Adds (source_constraints at kinds names shortest r (i + 1)) ls ls₂
-  source_more i x y = adds_as (sym (gather-below (step_constraints at kinds names shortest r) i)) (adds-append x y)
+module _ (at : Point) (taken : List Step) (shortest r : ℕ) where
+  abbrev made : ℕ → List Outlives
+  made = source_constraints at (kinds_of taken) (names_of taken) shortest r
+
+  abbrev step_made : ℕ → List Outlives
+  step_made = step_constraints at (kinds_of taken) (names_of taken) shortest r
+
+  pub source_more : {ls ls₁ ls₂ : List ℕ} (n i : ℕ) → i < length (take n taken) → Adds (made i) ls ls₁
+      → (let step = get_or (take n taken) i Owned in Adds (constraints_of at (kind_in step) (name_in step) shortest r i) ls₁ ls₂) → Adds (made (i + 1)) ls ls₂
+  source_more {ls} {ls₁} {ls₂} n i l x y =
+      let z : length (take n taken) ≡ min n (length taken) = length-take n taken in
+      let b : (i < n) × (i < length taken) = (omega arith, omega arith) in
+      let k = get_or-map kind_in taken i Owned 0 b.1 in
+      let m = get_or-map name_in taken i Owned 0 b.1 in
+      let w : Adds (step_made i) ls₁ ls₂ = rw (k, m, ← get_or-take n taken i Owned b.0) y in
+      adds_as (sym (gather-below step_made i)) (adds-append x w)
+
+  -- a step past those that there are makes nothing
+  step_none : (i : ℕ) → length taken ≤ i → step_made i ≡ []
+  step_none i l = rw (get_or_past (kinds_of taken) i 0 (rw (length-map taken kind_in) l)) refl
+
+  past : {ls ls' : List ℕ} (n i : ℕ) → ((k : ℕ) → i ≤ k → k < i + n → length taken ≤ k) → Adds (made i) ls ls' → Adds (made (i + n)) ls ls'
+  past zero i l x = adds_as (ap made (omega arith)) x
+  past (suc n) i l x =
+      adds_as (sym (gather-below step_made (i + n)) ∙ ap made (omega arith)) (adds-append (past n i (λ k a b. l k a (omega arith)) x) (adds_none (step_none (i + n) (l (i + n) (omega arith) (omega arith)))))
+
+  pub source_all : {ls ls' : List ℕ} (n steps i : ℕ) → n ≡ min steps 8 → length taken ≡ 8 → length (take n taken) ≤ i → i ≤ length (take n taken) → Adds (made i) ls ls' → Adds (made steps) ls ls'
+  source_all n steps i e size l m x =
+      let z : length (take n taken) ≡ min n 8 = length-take n taken ∙ ap (min n) size in
+      let o : i ≤ steps = omega arith in
+      adds_as (ap made (omega arith)) (past (steps - i) i (λ k a b. omega arith) x)
 
 -- ---- Two types, where they stand
 

@@ -24,10 +24,14 @@ use Rattle.constraints.specs.declared.Pair.{Pair}
 use Rattle.constraints.specs.declared.Related.{Related}
 use Rattle.constraints.specs.declared.Related.TheVariants.{Assigned, Borrowed}
 
--- Step i of a borrow's source leaves a Ref, and the prefix that it ends has at least as many steps as the shortest supporting one: that Ref's region
--- outlives the borrow's.
+-- Step i of a borrow's source, of this kind and name, leaves a Ref, and the prefix that it ends has at least as many steps as the shortest supporting one:
+-- that Ref's region outlives the borrow's.
+abbrev pub constraints_of : Point → ℕ → ℕ → ℕ → RegionName → ℕ → List Outlives
+constraints_of at kind name shortest r i = cond (not (eqb kind 0) && leb shortest (i + 1)) (require_outlives at (Free name) (Free r)) []
+
+-- the same by the kinds and the names of all steps
 abbrev pub step_constraints : Point → List ℕ → List ℕ → ℕ → RegionName → ℕ → List Outlives
-step_constraints at kinds names shortest r i = cond (not (eqb (get_or kinds i 0) 0) && leb shortest (i + 1)) (require_outlives at (Free (get_or names i 0)) (Free r)) []
+step_constraints at kinds names shortest r i = constraints_of at (get_or kinds i 0) (get_or names i 0) shortest r i
 
 -- the same for the first n steps
 abbrev pub source_constraints : Point → List ℕ → List ℕ → ℕ → RegionName → ℕ → List Outlives
