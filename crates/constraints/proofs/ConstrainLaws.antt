@@ -1,8 +1,8 @@
 -- The constraints of an action: of a borrow, of an assignment, and of any other. Assumes nothing.
-use lib.ListN.{get_or}
+use lib.ListN.{length, get_or, take}
 use mathlib.Core.Path.{◌≡◌, refl, sym, ap, ◌∙◌, subst}
 use mathlib.Core.List.{List, [], ◌++◌, append-nil}
-use Prim.Native.Nat.{ℕ, ◌+◌, ◌<◌}
+use Prim.Native.Nat.{ℕ, zero, suc, ◌+◌, ◌-◌, min, ◌≤◌, ◌<◌}
 use native.Mathlib.Omega.{arith}
 use native.Mathlib.Numerals.{add-one}
 use lib.Dec.{T}
@@ -28,6 +28,10 @@ use Rattle.record.specs.Access.{Acts}
 use Rattle.record.specs.declared.Record.{Record}
 use Rattle.record.specs.declared.Offsets.{Offsets}
 use Rattle.repr.proofs.SpellLaws.{clash, carry, then}
+use Rattle.std.proofs.lemmas.List.{get_or-map, length-map, length-take, get_or-take, get_or_past}
+use Rattle.env.specs.Steps.{kind_in, kinds_of, name_in, names_of}
+use Rattle.env.specs.declared.Step.{Step}
+use Rattle.env.specs.declared.Step.TheVariants.{Owned}
 use Rattle.env.specs.Prefixes.{ShortestIn}
 use Rattle.env.specs.Paths.{PathType, PathResult, PathSays}
 use Rattle.env.specs.declared.paths.Found.TheVariants as found
@@ -36,7 +40,7 @@ use Rattle.env.proofs.PrefixLaws.{shortest-of}
 use Rattle.env.proofs.ShortestLaws.{taken-leaves}
 use Rattle.constraint_list.specs.Listed.{Adds}
 use Rattle.constraint_list.proofs.ListLaws.{adds_none, adds-append}
-use Rattle.constraints.specs.Constraining.{step_constraints, source_constraints, Takes, SourceIs, SourceSays, PlaceSays, first, second, along_source, TypesAdd, PathsAdd, PairAdds, Constrains}
+use Rattle.constraints.specs.Constraining.{constraints_of, step_constraints, source_constraints, Takes, SourceIs, SourceSays, PlaceSays, first, second, along_source, TypesAdd, PathsAdd, PairAdds, Constrains}
 use Rattle.constraints.specs.declared.Source.{Source}
 use Rattle.constraints.specs.declared.Place.{Place}
 use Rattle.constraints.specs.declared.Pair.{Pair}
@@ -46,17 +50,44 @@ use Rattle.constraints.proofs.ListLaws.{gather-below}
 use Rattle.constraints.proofs.ActionLaws.{assign_takes, borrow-takes}
 use Rattle.constraints.proofs.SourceLaws.{source-same}
 use Rattle.repr.specs.declared.refusal.Refusal.{Refusal}
-use Rattle.std.specs.Prelude.{Result, Ok, Err, Option, Some}
+use Rattle.std.specs.Prelude.{Result, Ok, Err, Option, Some, None}
 
 -- ---- A step of a borrow's source
 
 adds_as : {cs ds : List Outlives} {ls ls' : List ℕ} → cs ≡ ds → Adds cs ls ls' → Adds ds ls ls'
 adds_as {ls = ls} {ls' = ls'} e x = subst (λ (cs : List Outlives). Adds cs ls ls') e x
 
-module _ (at : Point) (kinds names : List ℕ) (shortest r : ℕ) where
-  pub source_more : {ls ls₁ ls₂ : List ℕ} (i : ℕ) → Adds (source_constraints at kinds names shortest r i) ls ls₁
-      → Adds (step_constraints at kinds names shortest r i) ls₁ ls₂ → Adds (source_constraints at kinds names shortest r (i + 1)) ls ls₂
-  source_more i x y = adds_as (sym (gather-below (step_constraints at kinds names shortest r) i)) (adds-append x y)
+module _ (at : Point) (taken : List Step) (shortest r : ℕ) where
+  abbrev made : ℕ → List Outlives
+  made = source_constraints at (kinds_of taken) (names_of taken) shortest r
+
+  abbrev step_made : ℕ → List Outlives
+  step_made = step_constraints at (kinds_of taken) (names_of taken) shortest r
+
+  pub source_more : {ls ls₁ ls₂ : List ℕ} (n i : ℕ) → i < length (take n taken) → Adds (made i) ls ls₁
+      → (let step = get_or (take n taken) i Owned in Adds (constraints_of at (kind_in step) (name_in step) shortest r i) ls₁ ls₂) → Adds (made (i + 1)) ls ls₂
+  source_more {ls} {ls₁} {ls₂} n i l x y =
+      let z : length (take n taken) ≡ min n (length taken) = length-take n taken in
+      let b : (i < n) × (i < length taken) = (omega arith, omega arith) in
+      let k = get_or-map kind_in taken i Owned 0 b.1 in
+      let m = get_or-map name_in taken i Owned 0 b.1 in
+      let w : Adds (step_made i) ls₁ ls₂ = rw (k, m, ← get_or-take n taken i Owned b.0) y in
+      adds_as (sym (gather-below step_made i)) (adds-append x w)
+
+  -- a step past those that there are makes nothing
+  step_none : (i : ℕ) → length taken ≤ i → step_made i ≡ []
+  step_none i l = rw (get_or_past (kinds_of taken) i 0 (rw (length-map taken kind_in) l)) refl
+
+  past : {ls ls' : List ℕ} (n i : ℕ) → ((k : ℕ) → i ≤ k → k < i + n → length taken ≤ k) → Adds (made i) ls ls' → Adds (made (i + n)) ls ls'
+  past zero i l x = adds_as (ap made (omega arith)) x
+  past (suc n) i l x =
+      adds_as (sym (gather-below step_made (i + n)) ∙ ap made (omega arith)) (adds-append (past n i (λ k a b. l k a (omega arith)) x) (adds_none (step_none (i + n) (l (i + n) (omega arith) (omega arith)))))
+
+  pub source_all : {ls ls' : List ℕ} (n steps i : ℕ) → n ≡ min steps 8 → length taken ≡ 8 → length (take n taken) ≤ i → i ≤ length (take n taken) → Adds (made i) ls ls' → Adds (made steps) ls ls'
+  source_all n steps i e size l m x =
+      let z : length (take n taken) ≡ min n 8 = length-take n taken ∙ ap (min n) size in
+      let o : i ≤ steps = omega arith in
+      adds_as (ap made (omega arith)) (past (steps - i) i (λ k a b. omega arith) x)
 
 -- ---- Two types, where they stand
 
@@ -78,21 +109,27 @@ module _ {pair : Pair} {a b k n kinds names : List ℕ} {d e : Option PathType} 
 then_none : (cs : List Outlives) {ds : List Outlives} → ds ≡ [] → cs ++ ds ≡ cs
 then_none cs e = ap (λ (ds : List Outlives). cs ++ ds) e ∙ append-nil cs
 
+-- what the steps of a source make, if there is one
+abbrev source_made : Point → List ℕ → List ℕ → Option Source → List Outlives
+source_made at kinds names (Some of) = source_constraints at kinds names of.supporting of.region.0 of.steps
+source_made at kinds names None = []
+
 no_steps : (how : Related) (at : Point) (j : Job) (q : syntax.Path) → q.steps ≡ [] → along_source how at j q ≡ []
 unfolding relate_source
 no_steps Assigned at j q e = refl
 no_steps (Borrowed r) at j q e = rw e
 
-module _ {input : Record} {q : Path} {b kinds names : List ℕ} {d : Option PathType} (v : PathSays input q b kinds names d) (at : Point) (of : Source) (j : Job) (l : Holds input j) (accepted : refusal j ≡ 0) (w : Takes input.bytes.now j q) where
-  along : (how : Related) → SourceIs input.bytes.now q how kinds of → source_constraints at kinds names of.supporting of.region.0 of.steps ≡ along_source how at j (path_of input.bytes.now q)
-  along Assigned u = ap (source_constraints at kinds names of.supporting of.region.0) u
-  along (Borrowed r) u =
+module _ {input : Record} {q : Path} {b kinds names : List ℕ} {d : Option PathType} (v : PathSays input q b kinds names d) (at : Point) (j : Job) (l : Holds input j) (accepted : refusal j ≡ 0) (w : Takes input.bytes.now j q) where
+  along : (how : Related) (r : Option Source) → SourceIs input.bytes.now q how kinds r → source_made at kinds names r ≡ along_source how at j (path_of input.bytes.now q)
+  along Assigned r u = ap (source_made at kinds names) u
+  along (Borrowed m) None u = absurd u
+  along (Borrowed m) (Some of) u =
       let leaves = taken-leaves j (path_of input.bytes.now q) input.bytes.now b d w.fits (v.says j l w.named) in
       let o = shortest-of j (path_of input.bytes.now q) leaves v.sizes.0 w.short (subst (λ (n : ℕ). ShortestIn kinds n u.of) u.steps u.shortest) in
       ap (λ (n : ℕ). source_constraints at kinds names n of.region.0 of.steps) u.supporting
       ∙ ap (λ (n : RegionName). source_constraints at kinds names u.of.supporting n.0 of.steps) u.same
-      ∙ ap (source_constraints at kinds names u.of.supporting r.0) u.steps
-      ∙ source-same j accepted (path_of input.bytes.now q) leaves w.short o at r.0
+      ∙ ap (source_constraints at kinds names u.of.supporting m.0) u.steps
+      ∙ source-same j accepted (path_of input.bytes.now q) leaves w.short o at m.0
 
 -- the type stands in the record
 stays : {s out : List ℕ} {x : Place} → x.bytes.now ≡ s → PlaceSays s out (found.Inside x.at) x
@@ -110,11 +147,22 @@ module _ {pair : Pair} {ls : List ℕ} where
             ((paths_add (stepless pair.p x.at z.0 vp.1) (stepless pair.q y.at z.1 vq.1) refl refl (stays vp.0) (stays vq.0) u).adds j l wp wq k same);
       }
 
-  pub pair_adds : {b kinds names : List ℕ} {d : Option PathType} {ls₁ ls₂ : List ℕ} {of : Source} → PathSays pair.input.now pair.q b kinds names d
+  pair_made : {b kinds names : List ℕ} {d : Option PathType} {ls₁ ls₂ : List ℕ} {r x : Option Source} → PathSays pair.input.now pair.q b kinds names d
       → PathsAdd pair ls ls₁
-      → SourceSays pair kinds of → Adds (source_constraints pair.at kinds names of.supporting of.region.0 of.steps) ls₁ ls₂
+      → SourceSays pair kinds r → r ≡ x → Adds (source_made pair.at kinds names x) ls₁ ls₂
       → PairAdds pair ls ls₂
-  pair_adds {of = of} v u o src = record { adds = λ j l accepted wp wq k z. adds-append (u.adds j l wp wq k z) (adds_as (along v pair.at of j l accepted wq pair.how o.says) src) }
+  pair_made {kinds = kinds} {names = names} {r = r} v u o e src = record { adds = λ j l accepted wp wq k z. adds-append (u.adds j l wp wq k z) (adds_as (ap (source_made pair.at kinds names) (sym e) ∙ along v pair.at j l accepted wq pair.how r o.says) src) }
+
+  pub pair_adds : {b kinds names : List ℕ} {d : Option PathType} {ls₁ ls₂ : List ℕ} {r : Option Source} {of : Source} → PathSays pair.input.now pair.q b kinds names d
+      → PathsAdd pair ls ls₁
+      → SourceSays pair kinds r → r ≡ Some of → Adds (source_constraints pair.at kinds names of.supporting of.region.0 of.steps) ls₁ ls₂
+      → PairAdds pair ls ls₂
+  pair_adds v u o e src = pair_made v u o e src
+
+  pub pair_sourceless : {b kinds names : List ℕ} {d : Option PathType} {ls₁ : List ℕ} {r : Option Source} → PathSays pair.input.now pair.q b kinds names d
+      → PathsAdd pair ls ls₁
+      → SourceSays pair kinds r → r ≡ None → PairAdds pair ls ls₁
+  pair_sourceless v u o e = pair_made v u o e (adds_none refl)
 
 -- ---- An action
 

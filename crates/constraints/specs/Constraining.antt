@@ -1,5 +1,5 @@
 -- What adding the constraints of an action to a list does.
-use Rattle.std.specs.Prelude.{Some, ◌≡◌, true, ◌&&◌, not, cond, List, [], ◌++◌, ℕ, ◌+◌, ◌≤◌, ◌<◌, length, get_or, T, eqb, leb}
+use Rattle.std.specs.Prelude.{Option, Some, None, ◌≡◌, true, ◌&&◌, not, cond, List, [], ◌++◌, ℕ, ◌+◌, ◌≤◌, ◌<◌, length, get_or, T, eqb, leb}
 use Rattle.nll_spec.specs.Lists.{gather, below}
 use Rattle.nll_spec.specs.Syntax as syntax
 use Rattle.nll_spec.specs.Syntax.{Job, Point, RegionName, BorrowKind, Variance, Co, Contra, Free, Ty, RefTy}
@@ -24,10 +24,14 @@ use Rattle.constraints.specs.declared.Pair.{Pair}
 use Rattle.constraints.specs.declared.Related.{Related}
 use Rattle.constraints.specs.declared.Related.TheVariants.{Assigned, Borrowed}
 
--- Step i of a borrow's source leaves a Ref, and the prefix that it ends has at least as many steps as the shortest supporting one: that Ref's region
--- outlives the borrow's.
+-- Step i of a borrow's source, of this kind and name, leaves a Ref, and the prefix that it ends has at least as many steps as the shortest supporting one:
+-- that Ref's region outlives the borrow's.
+abbrev pub constraints_of : Point → ℕ → ℕ → ℕ → RegionName → ℕ → List Outlives
+constraints_of at kind name shortest r i = cond (not (eqb kind 0) && leb shortest (i + 1)) (require_outlives at (Free name) (Free r)) []
+
+-- the same by the kinds and the names of all steps
 abbrev pub step_constraints : Point → List ℕ → List ℕ → ℕ → RegionName → ℕ → List Outlives
-step_constraints at kinds names shortest r i = cond (not (eqb (get_or kinds i 0) 0) && leb shortest (i + 1)) (require_outlives at (Free (get_or names i 0)) (Free r)) []
+step_constraints at kinds names shortest r i = constraints_of at (get_or kinds i 0) (get_or names i 0) shortest r i
 
 -- the same for the first n steps
 abbrev pub source_constraints : Point → List ℕ → List ℕ → ℕ → RegionName → ℕ → List Outlives
@@ -48,12 +52,13 @@ pub record BorrowSource (s : List ℕ) (p : Path) (region : repr.RegionName) (ki
   pub supporting : r.supporting ≡ of.supporting
 
 -- An assignment has none.
-abbrev pub SourceIs : List ℕ → Path → Related → List ℕ → Source → Type 0
-SourceIs s p Assigned kinds r = r.steps ≡ 0
-SourceIs s p (Borrowed region) kinds r = BorrowSource s p region kinds r
+abbrev pub SourceIs : List ℕ → Path → Related → List ℕ → Option Source → Type 0
+SourceIs s p Assigned kinds r = r ≡ None
+SourceIs s p (Borrowed region) kinds (Some r) = BorrowSource s p region kinds r
+SourceIs s p (Borrowed region) kinds None = ⊥
 
 -- What `Pair::source` says.
-pub record SourceSays (pair : Pair) (kinds : List ℕ) (r : Source) : Type 0 where
+pub record SourceSays (pair : Pair) (kinds : List ℕ) (r : Option Source) : Type 0 where
   pub says : SourceIs pair.input.now.bytes.now pair.q pair.how kinds r
 
 -- The type that a path was found to have stands there.

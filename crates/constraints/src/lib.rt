@@ -1,10 +1,10 @@
 #![tactic(auto)]
 // The constraints of an action.
-ghost use Rattle.std.specs.Prelude.{List, ℕ};
-ghost use Rattle.env.specs.Steps.{kinds_of, names_of};
+ghost use Rattle.std.specs.Prelude.{◌<◌, List, ℕ};
+ghost use Rattle.env.specs.Steps.{kind_in, kinds_of, name_in, names_of};
 ghost use Rattle.env.specs.Paths.{PathSays};
 ghost use Rattle.constraint_list.specs.Listed.{Adds};
-ghost use Rattle.constraints.specs.Constraining.{step_constraints, source_constraints, SourceSays, PlaceSays, TypesAdd, PathsAdd, PairAdds, Constrains};
+ghost use Rattle.constraints.specs.Constraining.{constraints_of, source_constraints, SourceSays, PlaceSays, TypesAdd, PathsAdd, PairAdds, Constrains};
 
 use env::Step;
 use env::paths::{Found, PathType, path_type};
@@ -46,14 +46,12 @@ struct Source {
 }
 
 // Step i of a borrow's source: if it leaves a Ref and ends a supporting prefix, that Ref's region outlives the borrow's.
-fn relate_step(of: Source, taken: &[Step; 8], i: usize, at: u16, list: &mut [u32])
-    ensures { Adds (step_constraints at (kinds_of taken.now) (names_of taken.now) of.supporting of.region.0 i)
+fn relate_step(of: Source, step: Step, i: usize, at: u16, list: &mut [u32])
+    requires { i < 8 }
+    ensures { Adds (constraints_of at (kind_in step) (name_in step) of.supporting of.region.0 i)
         list.old list.new }
 {
-    if 8 <= i {
-        return;
-    }
-    let Step::Ref { region, .. } = taken[i] else {
+    let Step::Ref { region, .. } = step else {
         return;
     };
     if i + 1 < of.supporting {
@@ -63,13 +61,13 @@ fn relate_step(of: Source, taken: &[Step; 8], i: usize, at: u16, list: &mut [u32
 }
 
 // The steps of a borrow's source.
-#[tactic(auto, using(crate::proofs::ConstrainLaws::source_more))]
+#[tactic(auto, using(crate::proofs::ConstrainLaws::source_more, crate::proofs::ConstrainLaws::source_all))]
 fn relate_source(of: Source, taken: &[Step; 8], at: u16, list: &mut [u32])
     ensures { Adds (source_constraints at (kinds_of taken.now) (names_of taken.now) of.supporting of.region.0 of.steps)
         list.old list.new }
 {
-    for i in 0..of.steps {
-        relate_step(of, taken, i, at, list);
+    for (i, &step) in taken[..of.steps.min(8)].iter().enumerate() {
+        relate_step(of, step, i, at, list);
     }
 }
 
@@ -84,24 +82,20 @@ fn place_of<'a>(s: &'a [u8], out: &'a [u8], found: PathType) -> Place<'a>
 }
 
 impl<'a> Pair<'a> {
-    // The source of a borrow, by what its steps leave, or one without steps for an assignment.
-    fn source(&self, taken: &[Step; 8]) -> Source
+    // The source of a borrow, by what its steps leave.
+    fn source(&self, taken: &[Step; 8]) -> Option<Source>
         ensures { SourceSays self.now (kinds_of taken.now) result }
     {
         let Related::Borrowed(region) = self.how else {
-            return Source {
-                region: RegionName(0),
-                supporting: 0,
-                steps: 0,
-            };
+            return None;
         };
         let steps = steps_of(self.input.bytes, self.q);
         let of = shortest(taken, steps);
-        Source {
+        Some(Source {
             region,
             supporting: usize::from(of.supporting),
             steps: usize::from(steps),
-        }
+        })
     }
 
     // Relates the types of the paths, which stand at x and at y.
@@ -158,7 +152,9 @@ impl<'a> Pair<'a> {
         let x = path_type(self.input, self.p, &mut a, &mut spare, &mut taken);
         let y = path_type(self.input, self.q, &mut b, &mut spare, &mut taken);
         self.relate_found(&a, &b, x, y, list);
-        relate_source(self.source(&taken), &taken, self.at, list);
+        if let Some(of) = self.source(&taken) {
+            relate_source(of, &taken, self.at, list);
+        }
     }
 
     // The constraints of an assignment or a borrow, at the point.

@@ -1,6 +1,6 @@
 #![tactic(auto)]
 // Where the loans of a job are in scope: loan i at point p is number i of the four words from 4 * p on.
-// The points that follow point p are succ[first[p]..first[p + 1]]. Region r's set starts at word r * width.
+// Region r's set starts at word r * width.
 ghost use Rattle.std.specs.Prelude.{◌≡◌, ◌+◌, ◌*◌, ◌<◌, ◌≤◌, length};
 ghost use Rattle.nll_spec.specs.Syntax.{Job};
 ghost use Rattle.nll_spec.specs.Decode.{code_count};
@@ -52,10 +52,8 @@ fn overwrites(a: Action) -> Option<Path>
 fn overwritten_at(input: &Record<'_>, p: usize) -> Option<Path>
     ensures { (j : Job) → Holds input.now j → p < code_count j.blocks → paths_of input.now.bytes.now result ≡ overwritten (action_at (graph_of j) p) }
 {
-    match input.action_at(p) {
-        Ok((a, _)) => overwrites(a),
-        Err(_) => None,
-    }
+    let (a, _) = input.action_at(p).ok()?;
+    overwrites(a)
 }
 
 // Whether what is overwritten is a prefix of the loan's path.
@@ -96,37 +94,6 @@ fn keep_row(region: &[u32], p: usize, pass: &mut [u32])
     ensures { Gains (Onto region.now (p + 1) p p) pass.old pass.new }
 {
     bit_set::union_from(pass, 4 * p, region, 4 * p, 4);
-}
-
-// Puts what leaves point p into the set of point q, if that is a point of a block.
-fn onto(code: usize, from: &[u32], p: usize, q: u16, scope: &mut [u32])
-    requires { (code ≤ 1024) × (p < code) × (4 * code ≤ length from.now) × (4 * code ≤ length scope.old) }
-    ensures { Gains (Onto from.now code p q) scope.old scope.new }
-{
-    let at = usize::from(q);
-    if at < code {
-        bit_set::union_from(scope, 4 * at, from, 4 * p, 4);
-    }
-}
-
-// The same for each point that follows p.
-fn follow(graph: &FuncGraph<'_>, code: usize, from: &[u32], p: usize, scope: &mut [u32])
-    requires { (code ≤ 1024) × (p < code) × (4 * code ≤ length from.now) × (4 * code ≤ length scope.old) }
-    ensures { Gains (Row from.now code graph.now.first graph.now.succ p) scope.old scope.new }
-{
-    for &s in graph.successors(p) {
-        onto(code, from, p, s, scope);
-    }
-}
-
-// The same for each point.
-fn gather(graph: &FuncGraph<'_>, code: usize, from: &[u32], scope: &mut [u32])
-    requires { (code ≤ 1024) × (4 * code ≤ length from.now) × (4 * code ≤ length scope.old) }
-    ensures { Gains (Rows from.now code graph.now.first graph.now.succ code) scope.old scope.new }
-{
-    for p in 0..code {
-        follow(graph, code, from, p, scope);
-    }
 }
 
 // Leaves in each of the first n words only the numbers that the other table has there too.
@@ -221,6 +188,37 @@ impl<'a> Setup<'a> {
         }
     }
 
+    // Puts what leaves point p into the set of point q, if that is a point of a block.
+    fn onto(&self, from: &[u32], p: usize, q: u16, scope: &mut [u32])
+        requires { (p < self.now.code) × (4 * self.now.code ≤ length from.now) × (4 * self.now.code ≤ length scope.old) }
+        ensures { Gains (Onto from.now self.now.code p q) scope.old scope.new }
+    {
+        let at = usize::from(q);
+        if at < self.code {
+            bit_set::union_from(scope, 4 * at, from, 4 * p, 4);
+        }
+    }
+
+    // The same for each point that follows p.
+    fn follow(&self, from: &[u32], p: usize, scope: &mut [u32])
+        requires { (p < self.now.code) × (4 * self.now.code ≤ length from.now) × (4 * self.now.code ≤ length scope.old) }
+        ensures { Gains (Row from.now self.now.code self.now.graph.now.first self.now.graph.now.succ p) scope.old scope.new }
+    {
+        for &s in self.graph.successors(p) {
+            self.onto(from, p, s, scope);
+        }
+    }
+
+    // The same for each point.
+    fn gather(&self, from: &[u32], scope: &mut [u32])
+        requires { (4 * self.now.code ≤ length from.now) × (4 * self.now.code ≤ length scope.old) }
+        ensures { Gains (Rows from.now self.now.code self.now.graph.now.first self.now.graph.now.succ self.now.code) scope.old scope.new }
+    {
+        for p in 0..self.code {
+            self.follow(from, p, scope);
+        }
+    }
+
     // Puts the loans in scope at each point into its set, by tables of N words.
     #[inline(never)]
     fn with_tables<const N: usize>(&self, scope: &mut [u32])
@@ -239,7 +237,7 @@ impl<'a> Setup<'a> {
             Direction::Forward,
         );
         bit_set::clear(scope, 0, 4 * self.code);
-        gather(self.graph, self.code, &leaves, scope);
+        self.gather(&leaves, scope);
         mask(&region, 4 * self.code, scope);
     }
 
