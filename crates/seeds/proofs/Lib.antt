@@ -4,3 +4,4 @@ pub mod ClosureLaws
 pub mod RowLaws
 pub mod LiveLaws
 pub mod SeedLaws
+pub mod KeptLaws

@@ -17,7 +17,7 @@ use Rattle.bit_set.proofs.BitLaws.{length_with}
 use Rattle.bit_set.proofs.SetLaws.{length-joined, joined_outside, has-joined, has-joined_other}
 use Rattle.bit_set.proofs.TableLaws.{outside}
 use Rattle.record.specs.declared.Head.{Head}
-use Rattle.seeds.specs.Seeded.{Room, Adds, lent, ended, end_seed, declared_seed, spreads}
+use Rattle.seeds.specs.Seeded.{Room, Adds, end_seed, declared_seed, spreads}
 use Rattle.seeds.proofs.AddLaws.{has_one}
 
 pub and_no : (b : Bool) → (b && false) ≡ false
@@ -127,26 +127,23 @@ spreading_start h names live from w ws = record {
   adds = λ e l. adds_none w h.regions _ ws (λ k p hk hp. below_none k h.declared (has names (word_bits * 0 + k)) (has live (word_bits * from + p)));
 }
 
-length-lent : (names : List ℕ) (r : ℕ) (live : List ℕ) (from w : ℕ) (ws : List ℕ) → length (lent names r live from w ws) ≡ length ws
-length-lent names r live from w ws = go (has names (word_bits * 0 + r))
-  where
-    go : (b : Bool) → length (cond b (joined ws (r * w) live from w) ws) ≡ length ws
-    go true = length-joined ws (r * w) live from w
-    go false = refl
-
 module _ {h : Head} {names live : List ℕ} {from w i : ℕ} {before ws : List ℕ} (x : Spreading h names live from w i before ws) where
-  pub spreading_more : {vs : List ℕ} → h.declared ≤ i → i < h.regions → vs ≡ lent names i live from w ws → Spreading h names live from w (i + 1) before vs
-  spreading_more {vs} low hi e = record {
-    size = ap length e ∙ length-lent names i live from w ws ∙ x.size;
+  pub spreading_more : {b : Bool} {vs : List ℕ} → h.declared ≤ i → i < h.regions → b ≡ has names (word_bits * 0 + i) → vs ≡ cond b (joined ws (i * w) live from w) ws → Spreading h names live from w (i + 1) before vs
+  spreading_more {b} {vs} low hi t e = record {
+    size = ap length e ∙ kept b ∙ x.size;
     adds = λ m l.
         rows_more i (λ k p. leb h.declared k && has names (word_bits * 0 + k) && has live (word_bits * from + p)) (x.adds m l)
         (subst (λ (us : List ℕ). Adds w h.regions (λ k p. eqb k i && (leb h.declared k && has names (word_bits * 0 + k) && has live (word_bits * from + p))) ws us) (sym e)
-        (adds_same (adds_if w h.regions (λ k p. eqb k i && has live (word_bits * from + p)) (has names (word_bits * 0 + i)) ws (joined ws (i * w) live from w)
+        (adds_same (adds_if w h.regions (λ k p. eqb k i && has live (word_bits * from + p)) b ws (joined ws (i * w) live from w)
         (adds-joined w h.regions i ws live from hi (rw x.size l) m))
         (λ k p. eqb k i && (leb h.declared k && has names (word_bits * 0 + k) && has live (word_bits * from + p)))
-        (λ k p hk hp. turn k p (ℕ_discrete k i))));
+        (λ k p hk hp. ap (λ (z : Bool). z && (eqb k i && has live (word_bits * from + p))) t ∙ turn k p (ℕ_discrete k i))));
   }
     where
+      kept : (b : Bool) → length (cond b (joined ws (i * w) live from w) ws) ≡ length ws
+      kept true = length-joined ws (i * w) live from w
+      kept false = refl
+
       turn : (k p : ℕ) → Dec (k ≡ i) → (has names (word_bits * 0 + i) && (eqb k i && has live (word_bits * from + p))) ≡ (eqb k i && (leb h.declared k && has names (word_bits * 0 + k) && has live (word_bits * from + p)))
       turn k p (yes q) = rw (eq-eqb k i q, q, le-leb h.declared i low)
       turn k p (no q) = rw (ne_eqb k i q) (and_no (has names (word_bits * 0 + i)))
@@ -195,26 +192,23 @@ end_more code i ends r p = go (dec_lt p code) (dec_lt (p - code) i) (ℕ_discret
         rw (le-leb code p (omega arith), le-ltb (p - code) i (omega arith), lt-ltb (p - code) (i + 1) (omega arith), eq-eqb p (code + i) e) (and_yes y ∙ ap (λ (z : ℕ). has ends (word_bits * r + z)) (sym q))
     go (no l) (no d) (no e) = rw (le-leb code p (omega arith), le-ltb (p - code) i (omega arith), le-ltb (p - code) (i + 1) (omega (arith, e)), ne_eqb p (code + i) e) (and_no y)
 
-length-ended : (ends : List ℕ) (r e s point : ℕ) (ws : List ℕ) → length (ended ends r e s point ws) ≡ length ws
-length-ended ends r e s point ws = go (has ends (word_bits * r + e))
-  where
-    go : (b : Bool) → length (cond b (with_bit ws (word_bits * s + point)) ws) ≡ length ws
-    go true = length_with ws (word_bits * s + point)
-    go false = refl
-
-pub ending_more : {ends : List ℕ} {r w code start i : ℕ} {before ws vs : List ℕ} → Ending ends r w code start i before ws → vs ≡ ended ends r i start (code + i) ws → Ending ends r w code start (i + 1) before vs
-ending_more {ends} {r} {w} {code} {start} {i} {before} {ws} {vs} x e = record {
-  size = ap length e ∙ length-ended ends r i start (code + i) ws ∙ x.size;
+pub ending_more : {ends : List ℕ} {r w code start i : ℕ} {before ws vs : List ℕ} {b : Bool} → Ending ends r w code start i before ws → b ≡ has ends (word_bits * r + i) → vs ≡ cond b (with_bit ws (word_bits * start + (code + i))) ws → Ending ends r w code start (i + 1) before vs
+ending_more {ends} {r} {w} {code} {start} {i} {before} {ws} {vs} {b} x t e = record {
+  size = ap length e ∙ kept b ∙ x.size;
   adds = λ m n hr hm hn hi es.
       adds_same
       (adds_then (x.adds m n hr hm hn (omega arith) es)
-      (subst (λ (us : List ℕ). Adds w m (λ k p. has ends (word_bits * r + i) && (eqb k r && eqb p (code + i))) ws us) (sym (e ∙ ap (λ (z : ℕ). ended ends r i z (code + i) ws) es))
-      (adds_if w m (λ k p. eqb k r && eqb p (code + i)) (has ends (word_bits * r + i)) ws (with_bit ws (word_bits * (r * w) + (code + i)))
+      (subst (λ (us : List ℕ). Adds w m (λ k p. b && (eqb k r && eqb p (code + i))) ws us) (sym (e ∙ ap (λ (z : ℕ). cond b (with_bit ws (word_bits * z + (code + i))) ws) es))
+      (adds_if w m (λ k p. eqb k r && eqb p (code + i)) b ws (with_bit ws (word_bits * (r * w) + (code + i)))
       (adds-point w m r (code + i) ws hr (rw x.size hm) (omega arith)))))
       (λ k p. eqb k r && end_seed code (i + 1) ends r p)
-      (λ k p hk hp. turn (eqb k r) p);
+      (λ k p hk hp. ap (λ (z : Bool). eqb k r && end_seed code i ends r p || z && (eqb k r && eqb p (code + i))) t ∙ turn (eqb k r) p);
 }
   where
+    kept : (b : Bool) → length (cond b (with_bit ws (word_bits * start + (code + i))) ws) ≡ length ws
+    kept true = length_with ws (word_bits * start + (code + i))
+    kept false = refl
+
     turn : (b : Bool) (p : ℕ) → (b && end_seed code i ends r p || has ends (word_bits * r + i) && (b && eqb p (code + i))) ≡ (b && end_seed code (i + 1) ends r p)
     turn true p = end_more code i ends r p
     turn false p = and_no (has ends (word_bits * r + i))

@@ -1,15 +1,16 @@
 -- The regions' starting sets, as rows of words.
-use Rattle.std.specs.Prelude.{◌≡◌, Bool, false, ◌&&◌, ◌||◌, cond, List, ℕ, zero, suc, ◌+◌, ◌-◌, ◌*◌, ◌≤◌, ◌<◌, length, get_or, ltb, leb}
+use Rattle.std.specs.Prelude.{◌≡◌, Bool, false, ◌&&◌, ◌||◌, List, ℕ, zero, suc, ◌+◌, ◌-◌, ◌*◌, ◌≤◌, ◌<◌, length, get_or, ltb, leb}
 use Rattle.nll_spec.specs.Lists.{contains}
 use Rattle.nll_spec.specs.Types.{variable_type}
 use Rattle.nll_spec.specs.Output.{word_bits}
 use Rattle.nll_spec.specs.Syntax.{Job}
 use Rattle.nll_spec.specs.Graph.{graph_of}
 use Rattle.nll_spec.specs.Regions.{seed_table}
-use Rattle.bit_set.specs.Bits.{has, with_bit, joined}
+use Rattle.bit_set.specs.Bits.{has}
 use Rattle.bit_set.specs.Rows.{Says}
 use Rattle.record.specs.declared.Head.{Head}
 use Rattle.liveness.specs.Rows.{row_bit}
+use Rattle.seeds.specs.declared.rows.Rows.{Rows}
 use Rattle.seeds.specs.declared.Which.{Which}
 use Rattle.seeds.specs.declared.Which.TheVariants.{Every, Dropped}
 use Rattle.seeds.specs.Chosen.{chosen}
@@ -27,11 +28,17 @@ pub record Room (h : Head) (w : ℕ) (ws : List ℕ) : Type 0 where
   pub words : h.regions * w ≤ length ws
   pub ends : h.code + h.declared ≤ word_bits * w
 
--- ---- Variables
+-- The rows are in the same words, and as wide.
+pub record Kept (before after : Rows) : Type 0 where
+  pub width : after.width ≡ before.width
+  pub same : after.words.ghost_name ≡ before.words.ghost_name
+  pub size : length after.words.now ≡ length before.words.now
 
--- the run of w words from `from` on put into row r, if the name is in the set
-abbrev pub lent : List ℕ → ℕ → List ℕ → ℕ → ℕ → List ℕ → List ℕ
-lent names r live from w ws = cond (has names (word_bits * 0 + r)) (joined ws (r * w) live from w) ws
+-- The points that g gives are put into the rows of a head's regions, which have room.
+abbrev pub Gets : Head → (ℕ → ℕ → Bool) → Rows → Rows → Type 0
+Gets h g before after = Room h before.width before.words.now → Adds before.width h.regions g before.words.now after.words.now
+
+-- ---- Variables
 
 -- row v of the live points, of w words, for the regions from d on whose names are in the set
 abbrev pub spreads : ℕ → List ℕ → ℕ → List ℕ → ℕ → ℕ → ℕ → Bool
@@ -50,10 +57,6 @@ any_to f zero = false
 any_to f (suc n) = any_to f n || f n
 
 -- ---- Declared regions
-
--- a point put into the set that starts at word s, if row r has e
-abbrev pub ended : List ℕ → ℕ → ℕ → ℕ → ℕ → List ℕ → List ℕ
-ended ends r e s point ws = cond (has ends (word_bits * r + e)) (with_bit ws (word_bits * s + point)) ws
 
 -- p is the end of a region below n that region r outlives
 abbrev pub end_seed : ℕ → ℕ → List ℕ → ℕ → ℕ → Bool

@@ -17,7 +17,7 @@ ghost use Rattle.seeds.specs.Seeded.{Seeded};
 
 use declared::ends;
 use graph::tables::FuncGraph;
-use rows::{fill_declared, fill_live};
+use rows::Rows;
 
 // Which regions are taken of a type: every one, those that a drop of it needs, or none.
 #[derive(Clone, Copy, PartialEq, Eq)]
@@ -40,8 +40,9 @@ pub fn seeds(graph: &FuncGraph<'_>, used: &[u32], dropped: &[u32], width: usize,
     }
     let input = &graph.input;
     bit_set::clear(words, 0, usize::from(input.head.regions) * width);
-    let mut rows = [0; 16];
-    ends(input, &mut rows);
-    fill_declared(graph, &rows, width, words);
-    fill_live(input, used, dropped, width, words);
+    let mut outlived = [0; 16];
+    ends(input, &mut outlived);
+    let mut rows = Rows { words, width };
+    rows.fill_declared(graph, &outlived);
+    rows.fill_live(input, used, dropped);
 }
