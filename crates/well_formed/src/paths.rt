@@ -33,10 +33,8 @@ pub fn path_fits(input: &Record<'_>, p: Path) -> Result<(), Refusal>
         return Ok(());
     }
     let mut out = [0; 512];
-    match type_of(input, p, &mut out) {
-        Some(_) => Ok(()),
-        None => Err(Refusal::Path),
-    }
+    type_of(input, p, &mut out).ok_or(Refusal::Path)?;
+    Ok(())
 }
 
 // Where a path ends, if it fits.

@@ -42,10 +42,9 @@ fn second_refusal(
         return types_refusal(wanted, a, x, input.bytes, input.variable_at(q.base));
     }
     let mut b = [0; 512];
-    match type_of(input, q, &mut b) {
-        Some(Found::Inside(y)) => types_refusal(wanted, a, x, input.bytes, y),
-        Some(Found::Written(y)) => types_refusal(wanted, a, x, &b, y),
-        None => Err(Refusal::Path),
+    match type_of(input, q, &mut b).ok_or(Refusal::Path)? {
+        Found::Inside(y) => types_refusal(wanted, a, x, input.bytes, y),
+        Found::Written(y) => types_refusal(wanted, a, x, &b, y),
     }
 }
 
@@ -61,9 +60,8 @@ pub fn pair_refusal(wanted: Wanted, input: &Record<'_>, p: Path, q: Path) -> Res
         return second_refusal(wanted, input, input.bytes, x, q);
     }
     let mut a = [0; 512];
-    match type_of(input, p, &mut a) {
-        Some(Found::Inside(x)) => second_refusal(wanted, input, input.bytes, x, q),
-        Some(Found::Written(x)) => second_refusal(wanted, input, &a, x, q),
-        None => Err(Refusal::Path),
+    match type_of(input, p, &mut a).ok_or(Refusal::Path)? {
+        Found::Inside(x) => second_refusal(wanted, input, input.bytes, x, q),
+        Found::Written(x) => second_refusal(wanted, input, &a, x, q),
     }
 }
