@@ -3,7 +3,7 @@ use mathlib.Core.Path.{◌≡◌, refl, sym, ap, subst as transport, ◌∙◌}
 use mathlib.Core.Bool.{Bool, true, false, ◌&&◌, cond}
 use mathlib.Core.List.{List, [], ◌∷◌, ◌++◌, append_assoc, append-nil}
 use mathlib.Core.Option.{Option, none, some}
-use Prim.Native.Nat.{ℕ, ◌+◌, ◌-◌, ◌≤◌, ◌<◌}
+use Prim.Native.Nat.{ℕ, ◌+◌, ◌≤◌, ◌<◌}
 use native.Mathlib.Omega.{arith}
 use native.Mathlib.Decide.{dec_lt}
 use lib.Dec.{leb}
@@ -12,10 +12,10 @@ use lib.Seq.{take-append-le, take_at, get_or-set_same, get_or-set_other}
 use borrow.Author.Tests.{ne_eqb, le-leb, lt-leb}
 use Rattle.nll_spec.specs.Syntax.{BorrowKind, Mut, Shared, Ty, UnitTy, RefTy, StructTy, BoundTy, Args, StructDecl, Job}
 use Rattle.nll_spec.specs.Syntax as syntax
-use Rattle.nll_spec.specs.Decode.{byte, max_nodes}
+use Rattle.nll_spec.specs.Decode.{max_nodes}
 use Rattle.nll_spec.specs.Types.{is_ref, ref_region, type_nodes, arg_nodes, struct_of, subst, field_type, step_type, step, type_after, variable_type, path_type}
 use Rattle.nll_spec.specs.WellFormed.{steps_fit, path_fits}
-use Rattle.repr.specs.Reading.{says, itself, borrow_kind_of, region_of, path_of}
+use Rattle.repr.specs.Reading.{borrow_kind_of, region_of, path_of}
 use Rattle.repr.specs.Types.{node, NodeSays}
 use Rattle.repr.specs.declared.Cursor.{Cursor}
 use Rattle.repr.specs.declared.Row.{Row}
@@ -49,7 +49,6 @@ use Rattle.env.specs.declared.paths.Ahead.{Ahead}
 use Rattle.env.specs.declared.paths.Found.{Found}
 use Rattle.env.specs.declared.paths.Found.TheVariants as found
 use Rattle.env.proofs.FieldLaws.{type-few}
-use Rattle.env.proofs.StepLaws.{steps_out, steps_first}
 
 -- ---- A copy
 
@@ -268,41 +267,37 @@ module _ {ss : List StructDecl} {t : Ty} {all bytes : List ℕ} {at : ℕ} {kind
 -- ---- What the loops keep
 
 -- A stage at the start is one here.
-pub record Onward (input : Record) (bytes : List ℕ) (c : ℕ) (kinds names : List ℕ) (i at left : ℕ) (bytes' : List ℕ) (c' : ℕ) (kinds' names' : List ℕ) (i' at' left' : ℕ) : Type 0 where
-  pub goes : (j : Job) → Holds input j → (u : Ty) (all : List ℕ) → Stage j.structs u all bytes c kinds names i (take left (drop at input.bytes.now)) → Stage j.structs u all bytes' c' kinds' names' i' (take left' (drop at' input.bytes.now))
+pub record Onward (input : Record) (bytes : List ℕ) (c : ℕ) (kinds names : List ℕ) (i : ℕ) (ahead bytes' : List ℕ) (c' : ℕ) (kinds' names' : List ℕ) (i' : ℕ) (ahead' : List ℕ) : Type 0 where
+  pub goes : (j : Job) → Holds input j → (u : Ty) (all : List ℕ) → Stage j.structs u all bytes c kinds names i ahead → Stage j.structs u all bytes' c' kinds' names' i' ahead'
 
-pub onward : (input : Record) (bytes : List ℕ) (c : ℕ) (kinds names : List ℕ) (i at left : ℕ) → Onward input bytes c kinds names i at left bytes c kinds names i at left
-onward input bytes c kinds names i at left = record { goes = λ j l u all g. g }
+pub onward : (input : Record) (bytes : List ℕ) (c : ℕ) (kinds names : List ℕ) (i : ℕ) (ahead : List ℕ) → Onward input bytes c kinds names i ahead bytes c kinds names i ahead
+onward input bytes c kinds names i ahead = record { goes = λ j l u all g. g }
 
 -- steps within the same bytes
-module _ {input : Record} {bytes : List ℕ} {c : ℕ} {kinds names : List ℕ} {i at left : ℕ} {c' : ℕ} {kinds' names' : List ℕ} {i' at' left' : ℕ}
-    (g : Onward input bytes c kinds names i at left bytes c' kinds' names' i' at' left') (size : (length kinds' ≡ 8) × (length names' ≡ 8)) where
-  pub along-end : {to : List ℕ} (x : Cursor) → x.at ≡ c' → left' ≡ 0 → AlongSays input bytes c kinds names i at left to kinds' names' (Some (found.Inside x))
-  along-end x o z = record { says = λ j l u all a. rw o (stage_end (g.goes j l u all a) (rw z)); sizes = size; taken = tt }
+module _ {input : Record} {bytes : List ℕ} {c : ℕ} {kinds names : List ℕ} {i : ℕ} {ahead : List ℕ} {c' : ℕ} {kinds' names' : List ℕ} {i' : ℕ} {ahead' : List ℕ}
+    (g : Onward input bytes c kinds names i ahead bytes c' kinds' names' i' ahead') (size : (length kinds' ≡ 8) × (length names' ≡ 8)) where
+  pub along-end : {to : List ℕ} (x : Cursor) → x.at ≡ c' → ahead' ≡ [] → AlongSays input bytes c kinds names i ahead to kinds' names' (Some (found.Inside x))
+  along-end x o z = record { says = λ j l u all a. rw o (stage_end (g.goes j l u all a) z); sizes = size; taken = tt }
 
-  module _ {b : Result (ℕ × Cursor) Refusal} (m : says itself input.bytes.now b ≡ byte (drop at' input.bytes.now)) where
-    pub along_out : {to : List ℕ} (x : Cursor) → x.at ≡ c' → {k : Refusal} → b ≡ Err k → AlongSays input bytes c kinds names i at left to kinds' names' (Some (found.Inside x))
-    along_out x o e = record { says = λ j l u all a. rw o (stage_end (g.goes j l u all a) (steps_out input.bytes.now at' left' m e)); sizes = size; taken = tt }
+  module _ {f : ℕ} {fs : List ℕ} (e : ahead' ≡ f ∷ fs) {to kinds'' names'' : List ℕ} {d : std.Option (Found (Unit {0}))} (v : StepSays input bytes c' f i' to kinds' names' kinds'' names'' d) where
+    sized : (length kinds'' ≡ 8) × (length names'' ≡ 8)
+    sized = (v.kind_size ∙ size.0, v.name_size ∙ size.1)
 
-    module _ {f : ℕ} {next : Cursor} (e : b ≡ Ok (f, next)) (z : left' ≡ 0 → ⊥) {to kinds'' names'' : List ℕ} {d : std.Option (Found (Unit {0}))} (v : StepSays input bytes c' f i' to kinds' names' kinds'' names'' d) where
-      sized : (length kinds'' ≡ 8) × (length names'' ≡ 8)
-      sized = (v.kind_size ∙ size.0, v.name_size ∙ size.1)
+    pub along-refused : d ≡ None → AlongSays input bytes c kinds names i ahead to kinds'' names'' None
+    along-refused o = record { says = λ j l u all a. let w = g.goes j l u all a in stage_fails w e (step_is v o j l (type_after j.structs u w.taken) w.stands w.few); sizes = sized; taken = tt }
 
-      pub along-refused : d ≡ None → AlongSays input bytes c kinds names i at left to kinds'' names'' None
-      along-refused o = record { says = λ j l u all a. let w = g.goes j l u all a in stage_fails w (steps_first input.bytes.now at' left' m e z) (step_is v o j l (type_after j.structs u w.taken) w.stands w.few); sizes = sized; taken = tt }
+    pub along_written : {x : Ahead} → d ≡ Some (found.Written tt) → x.steps.now ≡ fs → x.i ≡ i' + 1 → length fs < length ahead → i' + 1 + length fs ≤ i + length ahead → AlongSays input bytes c kinds names i ahead to kinds'' names'' (Some (found.Written x))
+    along_written o p q less within = record {
+      says = λ j l u all a. let w = g.goes j l u all a in rw (p, q) (stage_more w e size (step_is v o j l (type_after j.structs u w.taken) w.stands w.few));
+      sizes = sized;
+      taken = rw (p, q) (less, within);
+    }
 
-      pub along_written : d ≡ Some (found.Written tt) → left' ≤ left → i' + left' ≤ i + left → AlongSays input bytes c kinds names i at left to kinds'' names'' (Some (found.Written (record { at = next; left = left' - 1; i = i' + 1 })))
-      along_written o p q = record {
-        says = λ j l u all a. let w = g.goes j l u all a in stage_more w (steps_first input.bytes.now at' left' m e z) size (step_is v o j l (type_after j.structs u w.taken) w.stands w.few);
-        sizes = sized;
-        taken = (omega (arith, p, z), omega (arith, q, z));
-      }
+    pub onward-more : {y : Cursor} → d ≡ Some (found.Inside y) → Onward input bytes c kinds names i ahead bytes y.at kinds'' names'' (i' + 1) fs
+    onward-more o = record { goes = λ j l u all a. let w = g.goes j l u all a in stage_more w e size (step_is v o j l (type_after j.structs u w.taken) w.stands w.few) }
 
-      pub onward-more : {y : Cursor} → d ≡ Some (found.Inside y) → Onward input bytes c kinds names i at left bytes y.at kinds'' names'' (i' + 1) next.at (left' - 1)
-      onward-more o = record { goes = λ j l u all a. let w = g.goes j l u all a in stage_more w (steps_first input.bytes.now at' left' m e z) size (step_is v o j l (type_after j.structs u w.taken) w.stands w.few) }
-
-along-is : {input : Record} {from : List ℕ} {c : ℕ} {kinds names : List ℕ} {i at left : ℕ} {to kinds' names' : List ℕ} {r x : std.Option (Found Ahead)} → AlongSays input from c kinds names i at left to kinds' names' r → r ≡ x → AlongSays input from c kinds names i at left to kinds' names' x
-along-is {input} {from} {c} {kinds} {names} {i} {at} {left} {to} {kinds'} {names'} v e = transport (λ (y : std.Option (Found Ahead)). AlongSays input from c kinds names i at left to kinds' names' y) e v
+along-is : {input : Record} {from : List ℕ} {c : ℕ} {kinds names : List ℕ} {i : ℕ} {steps to kinds' names' : List ℕ} {r x : std.Option (Found Ahead)} → AlongSays input from c kinds names i steps to kinds' names' r → r ≡ x → AlongSays input from c kinds names i steps to kinds' names' x
+along-is {input} {from} {c} {kinds} {names} {i} {steps} {to} {kinds'} {names'} v e = transport (λ (y : std.Option (Found Ahead)). AlongSays input from c kinds names i steps to kinds' names' y) e v
 
 -- what was reached in the bytes `from` is reached where they were copied to
 copy_reached : (ss : List StructDecl) (t : Ty) (all s from out : List ℕ) {at : ℕ} {kinds names : List ℕ} → (m : Reached ss t all from at kinds names) (r : std.Option PathType) → CopyIs out (type_after ss t all) r → OnwardIs ss t all s out kinds names r
@@ -311,19 +306,19 @@ copy_reached ss t all s from out m (Some (found.Written c)) w = record { fits = 
 copy_reached ss t all s from out m None w = absurd w
 
 -- then steps within the bytes that were written
-module _ {input : Record} {bytes : List ℕ} {c : ℕ} {kinds names : List ℕ} {i at left : ℕ} {bytes' : List ℕ} {c' : ℕ} {kinds' names' : List ℕ} {i' at' left' : ℕ}
-    (g : Onward input bytes c kinds names i at left bytes' c' kinds' names' i' at' left') where
-  pub onward-end : (length kinds' ≡ 8) × (length names' ≡ 8) → (x : Cursor) → x.at ≡ c' → left' ≡ 0 → OnwardSays input bytes c kinds names i at left bytes' kinds' names' (Some (found.Written x))
-  onward-end size x o z = record { says = λ j l u all a. rw o (stage_end (g.goes j l u all a) (rw z)); sizes = size }
+module _ {input : Record} {bytes : List ℕ} {c : ℕ} {kinds names : List ℕ} {i : ℕ} {ahead bytes' : List ℕ} {c' : ℕ} {kinds' names' : List ℕ} {i' : ℕ} {ahead' : List ℕ}
+    (g : Onward input bytes c kinds names i ahead bytes' c' kinds' names' i' ahead') where
+  pub onward-end : (length kinds' ≡ 8) × (length names' ≡ 8) → (x : Cursor) → x.at ≡ c' → ahead' ≡ [] → OnwardSays input bytes c kinds names i ahead bytes' kinds' names' (Some (found.Written x))
+  onward-end size x o z = record { says = λ j l u all a. rw o (stage_end (g.goes j l u all a) z); sizes = size }
 
-  module _ {to kinds'' names'' : List ℕ} {r : std.Option (Found Ahead)} (v : AlongSays input bytes' c' kinds' names' i' at' left' to kinds'' names'' r) where
-    pub onward-refused : {end : List ℕ} → r ≡ None → OnwardSays input bytes c kinds names i at left end kinds'' names'' None
+  module _ {to kinds'' names'' : List ℕ} {r : std.Option (Found Ahead)} (v : AlongSays input bytes' c' kinds' names' i' ahead' to kinds'' names'' r) where
+    pub onward-refused : {end : List ℕ} → r ≡ None → OnwardSays input bytes c kinds names i ahead end kinds'' names'' None
     onward-refused e = record { says = λ j l u all a. (along-is v e).says j l u all (g.goes j l u all a); sizes = v.sizes }
 
-    pub onward-inside : {x : Cursor} → r ≡ Some (found.Inside x) → OnwardSays input bytes c kinds names i at left bytes' kinds'' names'' (Some (found.Written x))
+    pub onward-inside : {x : Cursor} → r ≡ Some (found.Inside x) → OnwardSays input bytes c kinds names i ahead bytes' kinds'' names'' (Some (found.Written x))
     onward-inside e = record { says = λ j l u all a. (along-is v e).says j l u all (g.goes j l u all a); sizes = v.sizes }
 
-    pub onward_copied : {x : Cursor} {out : List ℕ} {q : std.Option PathType} → r ≡ Some (found.Inside x) → CopiedSays bytes' x.at out q → OnwardSays input bytes c kinds names i at left out kinds'' names'' q
+    pub onward_copied : {x : Cursor} {out : List ℕ} {q : std.Option PathType} → r ≡ Some (found.Inside x) → CopiedSays bytes' x.at out q → OnwardSays input bytes c kinds names i ahead out kinds'' names'' q
     onward_copied {x} {out} {q} e w = record {
       says = λ j l u all a.
           let m = (along-is v e).says j l u all (g.goes j l u all a) in
@@ -331,7 +326,7 @@ module _ {input : Record} {bytes : List ℕ} {c : ℕ} {kinds names : List ℕ} 
       sizes = v.sizes;
     }
 
-    pub onward_written : {a : Ahead} → r ≡ Some (found.Written a) → Onward input bytes c kinds names i at left to 0 kinds'' names'' a.i a.at.at a.left
+    pub onward_written : {a : Ahead} → r ≡ Some (found.Written a) → Onward input bytes c kinds names i ahead to 0 kinds'' names'' a.i a.steps.now
     onward_written e = record { goes = λ j l u all o. (along-is v e).says j l u all (g.goes j l u all o) }
 
 -- ---- The whole path
@@ -342,12 +337,12 @@ path-result j p s out kinds names (Some (found.Inside c)) w = record { fits = w.
 path-result j p s out kinds names (Some (found.Written c)) w = record { fits = w.fits; stands = w.stands; few = w.few; leaves = w.leaves }
 path-result j p s out kinds names None w = w
 
-module _ {input : Record} (p : repr.Path) {c : ℕ} {kinds names : List ℕ} {out kinds' names' : List ℕ} {r : std.Option (Found Ahead)} (v : c ≡ get_or input.layout.now.variables p.base.0 0)
-    (g : AlongSays input input.bytes.now c kinds names 0 p.from.at p.steps out kinds' names' r) where
-  reaches : (j : Job) → Holds input j → p.base.0 < length j.variables → {x : std.Option (Found Ahead)} → r ≡ x → AlongIs j.structs (variable_type j p.base.0) (path_of input.bytes.now p).steps input.bytes.now input.bytes.now out kinds' names' x
+module _ {input : Record} (p : repr.Path) {c : ℕ} {kinds names : List ℕ} {out kinds' names' : List ℕ} {r : std.Option (Found Ahead)} {steps : List ℕ} (v : c ≡ get_or input.layout.now.variables p.base.0 0) (same : steps ≡ (path_of input.bytes.now p).steps)
+    (g : AlongSays input input.bytes.now c kinds names 0 steps out kinds' names' r) where
+  reaches : (j : Job) → Holds input j → p.base.0 < length j.variables → {x : std.Option (Found Ahead)} → r ≡ x → AlongIs j.structs (variable_type j p.base.0) (path_of input.bytes.now p).steps input.bytes.now out kinds' names' x
   reaches j l o e =
       let w = variable_at l p.base.0 UnitTy o in
-      (along-is g e).says j l (variable_type j p.base.0) (path_of input.bytes.now p).steps (stage_start (rw v (type-stands w.reads)) (type-few (drop (get_or input.layout.now.variables p.base.0 0) input.bytes.now) w.reads))
+      (along-is g e).says j l (variable_type j p.base.0) (path_of input.bytes.now p).steps (rw same (stage_start (rw v (type-stands w.reads)) (type-few (drop (get_or input.layout.now.variables p.base.0 0) input.bytes.now) w.reads)))
 
   pub path_inside : {x : Cursor} {end : List ℕ} → r ≡ Some (found.Inside x) → PathSays input p end kinds' names' (Some (found.Inside x))
   path_inside {x} {end} e = record { says = λ j l o. path-result j (path_of input.bytes.now p) input.bytes.now end kinds' names' (Some (found.Inside x)) (reaches j l o e); sizes = g.sizes }
@@ -355,7 +350,7 @@ module _ {input : Record} (p : repr.Path) {c : ℕ} {kinds names : List ℕ} {ou
   pub path-refused : {end : List ℕ} → r ≡ None → PathSays input p end kinds' names' None
   path-refused {end} e = record { says = λ j l o. path-result j (path_of input.bytes.now p) input.bytes.now end kinds' names' None (reaches j l o e); sizes = g.sizes }
 
-  pub path-onward : {a : Ahead} {end kinds'' names'' : List ℕ} {q : std.Option PathType} → r ≡ Some (found.Written a) → OnwardSays input out 0 kinds' names' a.i a.at.at a.left end kinds'' names'' q → PathSays input p end kinds'' names'' q
+  pub path-onward : {a : Ahead} {end kinds'' names'' : List ℕ} {q : std.Option PathType} → r ≡ Some (found.Written a) → OnwardSays input out 0 kinds' names' a.i a.steps.now end kinds'' names'' q → PathSays input p end kinds'' names'' q
   path-onward {end = end} {kinds'' = kinds''} {names'' = names''} {q = q} e u = record {
     says = λ j l o. path-result j (path_of input.bytes.now p) input.bytes.now end kinds'' names'' q (u.says j l (variable_type j p.base.0) (path_of input.bytes.now p).steps (reaches j l o e));
     sizes = u.sizes;
@@ -369,4 +364,6 @@ no_entries = 0 ∷ 0 ∷ 0 ∷ 0 ∷ 0 ∷ 0 ∷ 0 ∷ 0 ∷ []
 
 -- its type stands where its variable's does
 pub stepless : {input : Record} (p : repr.Path) (x : Cursor) → p.steps ≡ 0 → x.at ≡ get_or input.layout.now.variables p.base.0 0 → PathSays input p [] no_entries no_entries (Some (found.Inside x))
-stepless {input} p x z v = path_inside p v (along-end (onward input input.bytes.now x.at no_entries no_entries 0 p.from.at p.steps) (refl, refl) {to = []} x refl z) refl
+stepless {input} p x z v =
+    let none : (path_of input.bytes.now p).steps ≡ [] = rw z in
+    path_inside p v (sym none) (along-end (onward input input.bytes.now x.at no_entries no_entries 0 []) (refl, refl) {to = []} x refl refl) refl

@@ -114,22 +114,22 @@ pub record Reached (ss : List StructDecl) (t : Ty) (all bytes : List ℕ) (at : 
   pub leaves : Leaves ss t all kinds names
 
 -- The steps end in the bytes `from`, or one is written into `to` with steps that are left, or they may not be taken.
-abbrev pub AlongIs : List StructDecl → Ty → List ℕ → List ℕ → List ℕ → List ℕ → List ℕ → List ℕ → std.Option (Found Ahead) → Type 0
-AlongIs ss t all s from to kinds names (Some (found.Inside c)) = Reached ss t all from c.at kinds names
-AlongIs ss t all s from to kinds names (Some (found.Written a)) = Stage ss t all to 0 kinds names a.i (take a.left (drop a.at.at s))
-AlongIs ss t all s from to kinds names None = steps_fit ss t all ≡ false
+abbrev pub AlongIs : List StructDecl → Ty → List ℕ → List ℕ → List ℕ → List ℕ → List ℕ → std.Option (Found Ahead) → Type 0
+AlongIs ss t all from to kinds names (Some (found.Inside c)) = Reached ss t all from c.at kinds names
+AlongIs ss t all from to kinds names (Some (found.Written a)) = Stage ss t all to 0 kinds names a.i a.steps.now
+AlongIs ss t all from to kinds names None = steps_fit ss t all ≡ false
 
 -- Where a type is written, fewer steps are left, and their numbers end no later.
 abbrev pub Taken : ℕ → ℕ → std.Option (Found Ahead) → Type 0
 Taken i left (Some (found.Inside c)) = Unit {0}
-Taken i left (Some (found.Written a)) = (a.left < left) × (a.i + a.left ≤ i + left)
+Taken i left (Some (found.Written a)) = (length a.steps.now < left) × (a.i + length a.steps.now ≤ i + left)
 Taken i left None = Unit {0}
 
 -- What steps from the type that stands there reach.
-pub record AlongSays (input : Record) (from : List ℕ) (c : ℕ) (kinds names : List ℕ) (i at left : ℕ) (to kinds' names' : List ℕ) (r : std.Option (Found Ahead)) : Type 0 where
-  pub says : (j : Job) → Holds input j → (u : Ty) (all : List ℕ) → Stage j.structs u all from c kinds names i (take left (drop at input.bytes.now)) → AlongIs j.structs u all input.bytes.now from to kinds' names' r
+pub record AlongSays (input : Record) (from : List ℕ) (c : ℕ) (kinds names : List ℕ) (i : ℕ) (steps to kinds' names' : List ℕ) (r : std.Option (Found Ahead)) : Type 0 where
+  pub says : (j : Job) → Holds input j → (u : Ty) (all : List ℕ) → Stage j.structs u all from c kinds names i steps → AlongIs j.structs u all from to kinds' names' r
   pub sizes : (length kinds' ≡ 8) × (length names' ≡ 8)
-  pub taken : Taken i left r
+  pub taken : Taken i (length steps) r
 
 abbrev pub OnwardIs : List StructDecl → Ty → List ℕ → List ℕ → List ℕ → List ℕ → List ℕ → std.Option PathType → Type 0
 OnwardIs ss t all s out kinds names (Some (found.Inside c)) = Reached ss t all s c.at kinds names
@@ -137,6 +137,6 @@ OnwardIs ss t all s out kinds names (Some (found.Written c)) = Reached ss t all 
 OnwardIs ss t all s out kinds names None = steps_fit ss t all ≡ false
 
 -- The same, to the last step.
-pub record OnwardSays (input : Record) (bytes : List ℕ) (at : ℕ) (kinds names : List ℕ) (i from left : ℕ) (out kinds' names' : List ℕ) (r : std.Option PathType) : Type 0 where
-  pub says : (j : Job) → Holds input j → (u : Ty) (all : List ℕ) → Stage j.structs u all bytes at kinds names i (take left (drop from input.bytes.now)) → OnwardIs j.structs u all input.bytes.now out kinds' names' r
+pub record OnwardSays (input : Record) (bytes : List ℕ) (at : ℕ) (kinds names : List ℕ) (i : ℕ) (steps out kinds' names' : List ℕ) (r : std.Option PathType) : Type 0 where
+  pub says : (j : Job) → Holds input j → (u : Ty) (all : List ℕ) → Stage j.structs u all bytes at kinds names i steps → OnwardIs j.structs u all input.bytes.now out kinds' names' r
   pub sizes : (length kinds' ≡ 8) × (length names' ≡ 8)

@@ -1,11 +1,12 @@
 // The types along a path: whether its steps may be taken, what each leaves and what the last reaches.
-ghost use Rattle.std.specs.Prelude.{◌≡◌, ◌+◌, ◌≤◌, set};
+ghost use Rattle.std.specs.Prelude.{◌≡◌, ◌+◌, ◌≤◌, length, set};
 ghost use Rattle.repr.specs.Reading.{region_of};
 ghost use Rattle.env.specs.Steps.{kinds_of, names_of};
 ghost use Rattle.env.specs.Paths.{Named, FieldStepSays, StepSays, CopiedSays, AlongSays, OnwardSays, PathSays};
 
 use super::Step;
 use super::fields::field_type;
+use super::prefixes::steps;
 use record::Record;
 use repr::{Cursor, FieldName, Node, Path, Region, RegionName, StructName};
 use ty::write::{Arguments, copy, subst};
@@ -20,11 +21,10 @@ pub enum Found<T> {
 // The type of a path, in the record or written into the lent bytes, from a place on.
 pub type PathType = Found<Cursor>;
 
-// The steps of a path that are left: so many, at a place, the first of them number i.
+// The steps of a path that are left, the first of them number i.
 #[derive(Clone, Copy)]
-struct Ahead {
-    at: Cursor,
-    left: u8,
+struct Ahead<'a> {
+    steps: &'a [u8],
     i: usize,
 }
 
@@ -108,36 +108,27 @@ fn copied(s: &[u8], c: Cursor, out: &mut [u8; 512]) -> Option<PathType>
 }
 
 // The steps ahead from the type at `start`, as long as they stay in the same bytes. The type that one does not is written into the others, from the first on, and comes with the steps that are left.
-fn steps_within(
+fn steps_within<'a>(
     input: &Record<'_>,
     from: &[u8],
     start: Cursor,
-    ahead: Ahead,
+    ahead: Ahead<'a>,
     to: &mut [u8; 512],
     taken: &mut [Step; 8],
-) -> Option<Found<Ahead>>
-    requires { ahead.i + ahead.left ≤ 255 }
-    ensures { AlongSays input.now from.now start.at (kinds_of taken.old) (names_of taken.old) ahead.i ahead.at.at ahead.left to.new (kinds_of taken.new) (names_of taken.new) result }
+) -> Option<Found<Ahead<'a>>>
+    requires { ahead.i + length ahead.steps.now ≤ 255 }
+    ensures { AlongSays input.now from.now start.at (kinds_of taken.old) (names_of taken.old) ahead.entry.i ahead.entry.steps.now to.new (kinds_of taken.new) (names_of taken.new) result }
 {
     let mut c = start;
-    let mut at = ahead.at;
-    for k in 0..ahead.left {
-        let Ok((f, next)) = at.byte(input.bytes) else {
-            return Some(Found::Inside(c));
-        };
-        let i = ahead.i + usize::from(k);
+    for (k, &f) in ahead.steps.iter().enumerate() {
+        let i = ahead.i + k;
         match take_step(input, from, c, FieldName(f), i, to, taken)? {
             Found::Written(()) => {
-                let left = ahead.left - k - 1;
-                return Some(Found::Written(Ahead {
-                    at: next,
-                    left,
-                    i: i + 1,
-                }));
+                let steps = &ahead.steps[k + 1..];
+                return Some(Found::Written(Ahead { steps, i: i + 1 }));
             }
             Found::Inside(d) => c = d,
         }
-        at = next;
     }
     Some(Found::Inside(c))
 }
@@ -145,17 +136,17 @@ fn steps_within(
 // The steps ahead from the type that the lent bytes begin with. What a step writes goes into the other bytes in turn.
 fn steps_on(
     input: &Record<'_>,
-    from: Ahead,
+    from: Ahead<'_>,
     out: &mut [u8; 512],
     spare: &mut [u8; 512],
     taken: &mut [Step; 8],
 ) -> Option<PathType>
-    requires { from.i + from.left ≤ 255 }
-    ensures { OnwardSays input.now out.old 0 (kinds_of taken.old) (names_of taken.old) from.i from.at.at from.left out.new (kinds_of taken.new) (names_of taken.new) result }
+    requires { from.i + length from.steps.now ≤ 255 }
+    ensures { OnwardSays input.now out.old 0 (kinds_of taken.old) (names_of taken.old) from.entry.i from.entry.steps.now out.new (kinds_of taken.new) (names_of taken.new) result }
 {
     let start = Cursor { at: 0 };
     let mut ahead = from;
-    while ahead.left != 0 {
+    while !ahead.steps.is_empty() {
         match steps_within(input, out, start, ahead, spare, taken)? {
             Found::Inside(c) => return Some(Found::Written(c)),
             Found::Written(more) => match steps_within(input, spare, start, more, out, taken)? {
@@ -179,8 +170,7 @@ pub fn path_type(
 {
     let c = input.variable_at(p.base);
     let ahead = Ahead {
-        at: p.from,
-        left: p.steps,
+        steps: steps(input.bytes, p),
         i: 0,
     };
     match steps_within(input, input.bytes, c, ahead, out, taken)? {

@@ -14,7 +14,7 @@ use record::Record;
 use repr::{BorrowKind, Path};
 
 // The steps of a path, as far as there are any.
-fn steps(s: &[u8], p: Path) -> &[u8]
+pub(super) fn steps(s: &[u8], p: Path) -> &[u8]
     ensures { result.now ≡ (path_of s.now p).steps }
 {
     let from = p.from.at.min(s.len());
