@@ -2,11 +2,13 @@
 use mathlib.Core.Path.{◌≡◌, refl, sym, ap, ap₂, ◌∙◌}
 use mathlib.Core.Bool.{Bool, ◌||◌, or_assoc, or-true, or-false}
 use mathlib.Core.List.{List, [], ◌∷◌, ◌++◌}
-use Prim.Native.Nat.{ℕ, ◌+◌, ◌-◌, ◌*◌, ◌/◌, ◌<◌}
+use Prim.Native.Nat.{ℕ, ◌+◌, ◌*◌, ◌/◌, ◌<◌}
 use native.Mathlib.Omega.{arith}
-use native.Mathlib.Nat.{sub-zero}
 use native.Mathlib.Decide.{ℕ_discrete}
-use lib.ListN.{length, drop}
+use lib.ListN.{length, take, get_or}
+use native.Mathlib.Decide.{dec_lt}
+use Rattle.std.proofs.lemmas.List.{take_more}
+use Rattle.repr.proofs.ReadLaws.{bytes-at, bytes-short}
 use lib.Dec.{eqb}
 use borrow.Author.Tests.{eq-eqb, ne_eqb}
 use Rattle.nll_spec.specs.Lists.{any, contains}
@@ -14,12 +16,6 @@ use Rattle.nll_spec.specs.Output.{word_bits}
 use Rattle.bit_set.specs.Bits.{has, with_bit}
 use Rattle.bit_set.proofs.BitLaws.{length_with, has_with, has_with_other}
 use Rattle.nll_spec.specs.Decode.{read, byte, items}
-use Rattle.repr.specs.Reading.{says, itself}
-use Rattle.repr.specs.declared.refusal.Refusal.{Refusal}
-use Rattle.std.specs.Prelude.{Result, Ok, Err}
-use Rattle.repr.specs.declared.Cursor.{Cursor}
-use Rattle.repr.specs.Stands.{Stands}
-use Rattle.repr.proofs.ItemLaws.{first_of, none_of}
 use Rattle.repr.proofs.SpellLaws.{clash}
 use Rattle.seeds.specs.Chosen.{add_all}
 
@@ -62,38 +58,14 @@ has-added ws s xs p h = has_add ws s xs (word_bits * s + p) (omega arith) ∙ ap
 
 -- ---- Bytes that are put in one by one
 
--- `left` of them are still to be read, after which the words are the last ones
-pub record ToAdd (s : List ℕ) (at left r : ℕ) (last ws : List ℕ) : Type 0 where
-  pub others : List ℕ
-  pub stand : Stands (items left byte) others (drop at s)
-  pub same : last ≡ add_all ws r others
+pub adding_more : {us vs : List ℕ} {k x y : ℕ} (ws : List ℕ) (r : ℕ) (xs : List ℕ) → k < length xs → us ≡ add_all ws r (take k xs) → x ≡ get_or xs k 0 → y ≡ x → vs ≡ with_bit us (word_bits * r + y) → vs ≡ add_all ws r (take (k + 1) xs)
+adding_more {k = k} ws r xs h e i j q =
+    q ∙ rw (e, j, i) refl ∙ sym (ap (add_all ws r) (take_more xs k 0 h) ∙ add_append ws r (take k xs) (get_or xs k 0 ∷ []))
 
--- of n bytes, `over` are put in
-pub record Adding (s : List ℕ) (from n r : ℕ) (before : List ℕ) (at over : ℕ) (ws : List ℕ) : Type 0 where
-  pub goes : (xs : List ℕ) → Stands (items n byte) xs (drop from s) → ToAdd s at (n - over) r (add_all before r xs) ws
-
-pub adding_start : (s : List ℕ) (from n r : ℕ) (ws : List ℕ) → Adding s from n r ws from 0 ws
-adding_start s from n r ws = record { goes = λ xs p. record { others = xs; stand = rw sub-zero p; same = refl } }
-
-module _ {s : List ℕ} {from n r : ℕ} {before : List ℕ} {at over : ℕ} {ws : List ℕ} (g : Adding s from n r before at over ws) where
-  pub adding_end : over ≡ n → (xs : List ℕ) → Stands (items n byte) xs (drop from s) → ws ≡ add_all before r xs
-  adding_end z xs p = let w = g.goes xs p in sym (w.same ∙ ap (add_all ws r) (none_of byte (n - over) (drop at s) (omega arith) w.stand.reads).0)
-
-  module _ {d : Result (ℕ × Cursor) Refusal} (z : over < n) (m : says itself s d ≡ byte (drop at s)) where
-    pub adding_stop : {k : Refusal} → d ≡ Err k → (xs : List ℕ) → Stands (items n byte) xs (drop from s) → ws ≡ add_all before r xs
-    adding_stop e xs p =
-        let w = g.goes xs p in
-        let u = first_of byte (n - over) (drop at s) (omega arith) w.stand.reads in
-        absurd (clash (sym (ap (says itself s) e) ∙ m ∙ u.first))
-
-    pub adding_more : {x y : ℕ} {c : Cursor} {vs : List ℕ} → d ≡ Ok (x, c) → y ≡ x → vs ≡ with_bit ws (word_bits * r + y) → Adding s from n r before c.at (over + 1) vs
-    adding_more {x} {y} {c} {vs} e i q = record {
-      goes = λ xs p.
-          let w = g.goes xs p in
-          let u = first_of byte (n - over) (drop at s) (omega arith) w.stand.reads in
-          let f : read x (drop c.at s) ≡ read u.item u.mid = sym (ap (says itself s) e) ∙ m ∙ u.first in
-          let a : x ≡ u.item = cc in
-          let b : drop c.at s ≡ u.mid = cc in
-          let l : n - over - 1 ≡ n - (over + 1) = omega arith in
-          record { others = u.others; stand = record { over = w.stand.over; reads = rw (b, ← l) u.reads }; same = w.same ∙ ap (add_all ws r) u.same ∙ rw (q, i, a) };
-    }
+-- the bytes that were read
+pub bytes-are : (n : ℕ) (bs : List ℕ) {xs end : List ℕ} → items n byte bs ≡ read xs end → take n bs ≡ xs
+bytes-are n bs {xs} {end} e = go (dec_lt (length bs) n)
+  where
+    go : Dec (length bs < n) → take n bs ≡ xs
+    go (yes h) = absurd (clash (sym (bytes-short n bs h) ∙ e))
+    go (no h) = let i = sym e ∙ bytes-at n bs (omega arith) in cc

@@ -7,7 +7,7 @@ use Prim.Native.Nat.{ℕ, zero, suc, ◌+◌, ◌*◌, ◌≤◌, ◌<◌}
 use native.Mathlib.Omega.{arith}
 use native.Mathlib.Numerals.{add-one}
 use native.Mathlib.Decide.{ℕ_discrete, dec_lt}
-use lib.ListN.{length, get_or, drop}
+use lib.ListN.{length, get_or, take, drop}
 use lib.Dec.{T, leb, leb→le, eqb, eqb→eq, eqb_refl, ltb, ltb→lt, lt→ltb}
 use borrow.Author.Tests.{eq-eqb, ne_eqb, le-leb, lt-ltb, le-ltb}
 use Rattle.nll_spec.specs.Lists.{any, every, contains}
@@ -22,8 +22,8 @@ use Rattle.bit_set.proofs.SetLaws.{length-within, has_within, has-within_other, 
 use Rattle.bit_set.proofs.BitLaws.{length_with, has_with_other}
 use Rattle.seeds.specs.Chosen.{add_all}
 use Rattle.seeds.specs.Closure.{linked, passed, closed, Listed, Listing, Ends}
-use Rattle.seeds.proofs.AddLaws.{length_add, has_add, has-added, has_one}
-use Rattle.nll_spec.specs.Decode.{byte, count, items, counted, max_outlived}
+use Rattle.seeds.proofs.AddLaws.{length_add, has_add, has-added, has_one, bytes-are}
+use Rattle.nll_spec.specs.Decode.{byte, count, counted, max_outlived}
 use Rattle.nll_spec.proofs.Tests.{or_left, or_right, or_cases, and_intro, and_left, and_right}
 use Rattle.nll_spec.proofs.Lookup.{every-at}
 use Rattle.nll_spec.proofs.Least.{same_bool}
@@ -130,12 +130,13 @@ module _ (input : Record) (at r : ℕ) (i : at ≡ get_or input.layout.now.outli
     listed_refused ws vs e j w l = absurd (let y = then (count 0 max_outlived) _ (drop at input.bytes.now) (row-stands w l).reads in clash (sym (ap (says reading.itself input.bytes.now) e) ∙ m ∙ y.first))
 
     pub listed_row : {n : ℕ} {c : Cursor} (row : ℕ) (ws us : List ℕ) {vs : List ℕ} → d ≡ Ok (n, c) → row ≡ r → us ≡ with_bit ws (word_bits * row + row)
-        → ((xs : List ℕ) → Stands (items n byte) xs (rest input.bytes.now c) → vs ≡ add_all us row xs)
+        → vs ≡ add_all us row (take n (rest input.bytes.now c))
         → (j : Job) → Holds input j → r < length j.outlives → vs ≡ add_all (with_bit ws (word_bits * r + r)) r (get_or j.outlives r [])
     unfolding counted
-    listed_row row ws us e k f g j w l =
+    listed_row {n = n} {c = c} row ws us e k f g j w l =
         let y = row-stands w l in
-        g (get_or j.outlives r []) (record { over = y.over; reads = sym (step (count 0 max_outlived) _ (drop at input.bytes.now) (sym m ∙ ap (says reading.itself input.bytes.now) e)) ∙ y.reads })
+        g
+        ∙ ap (add_all us row) (bytes-are n (rest input.bytes.now c) (sym (step (count 0 max_outlived) _ (drop at input.bytes.now) (sym m ∙ ap (says reading.itself input.bytes.now) e)) ∙ y.reads))
         ∙ rw (f, k)
 
 -- none of some small numbers is put into another row

@@ -1,10 +1,8 @@
 // What each declared region outlives: row r, a word, has the regions that region r outlives.
-ghost use Rattle.std.specs.Prelude.{◌≡◌, List, [], ℕ, ◌+◌, ◌*◌, ◌<◌, length, get_or};
+ghost use Rattle.std.specs.Prelude.{◌≡◌, [], ◌+◌, ◌*◌, ◌<◌, length, get_or, take};
 ghost use Rattle.nll_spec.specs.Output.{word_bits};
 ghost use Rattle.nll_spec.specs.Syntax.{Job};
-ghost use Rattle.nll_spec.specs.Decode.{byte, items};
 ghost use Rattle.repr.specs.Reading.{rest};
-ghost use Rattle.repr.specs.Stands.{Stands};
 ghost use Rattle.record.specs.Layout.{Holds};
 ghost use Rattle.bit_set.specs.Bits.{with_bit};
 ghost use Rattle.seeds.specs.Chosen.{add_all};
@@ -13,17 +11,15 @@ ghost use Rattle.seeds.specs.Closure.{linked, passed, closed, Listing, Ends};
 use record::Record;
 use repr::{Cursor, RegionName};
 
-// Puts so many numbers, each a byte, into row r.
+// Puts so many bytes, as far as there are any, into row r.
 fn add_bytes(s: &[u8], from: Cursor, count: u8, r: usize, rows: &mut [u32; 16])
-    ensures { (xs : List ℕ) → Stands (items count byte) xs (rest s.now from) → rows.new ≡ add_all rows.old r xs }
+    ensures { rows.new ≡ add_all rows.old r (take count (rest s.now from)) }
 {
-    let mut c = from;
-    for _ in 0..count {
-        let Ok((x, next)) = c.byte(s) else {
-            return;
-        };
-        bit_set::add(rows, r, usize::from(x));
-        c = next;
+    let Some(rest) = s.get(from.at..) else {
+        return;
+    };
+    for x in &rest[..usize::from(count).min(rest.len())] {
+        bit_set::add(rows, r, usize::from(*x));
     }
 }
 
