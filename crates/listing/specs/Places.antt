@@ -1,5 +1,5 @@
 -- The listing of an answer from each of its places on, by the words and bytes that the analysis wrote.
-use Rattle.std.specs.Prelude.{◌≡◌, Bool, true, false, cond, List, [], ◌∷◌, ◌++◌, ℕ, ◌+◌, ◌-◌, ◌*◌, ◌≤◌, length, get_or, eqb}
+use Rattle.std.specs.Prelude.{◌≡◌, Bool, cond, List, [], ◌∷◌, ◌++◌, ℕ, ◌+◌, ◌-◌, ◌*◌, ◌≤◌, length, get_or, eqb, Option, Some, None}
 use Rattle.nll_spec.specs.Lists.{gather, count_from}
 use Rattle.nll_spec.specs.Syntax.{Job}
 use Rattle.nll_spec.specs.Decode.{max_regions, max_declared, max_points, point_count}
@@ -10,7 +10,7 @@ use Rattle.buffer.specs.Appending.{Appends}
 use Rattle.listing.specs.declared.Counts.{Counts}
 use Rattle.listing.specs.declared.places.Answer.{Answer}
 use Rattle.listing.specs.declared.Place.{Place}
-use Rattle.listing.specs.declared.Place.TheVariants.{Points, Region, Within, Access, Grown, Done}
+use Rattle.listing.specs.declared.Place.TheVariants.{Points, Region, Within, Access, Grown}
 
 -- The counts are those of the job, within the limits of a record.
 pub record Counted (j : Job) (n : Counts) : Type 0 where
@@ -67,15 +67,11 @@ module _ (n : Counts) (ws bs : List ℕ) where
   rest (Within r p) = text_from (point_text ws n.points r) p n.points ++ (0x0A ∷ region_from (r + 1))
   rest (Access p) = access_from p
   rest (Grown r) = grown_from r
-  rest Done = []
 
-abbrev pub is_done : Place → Bool
-is_done Points = false
-is_done (Region r) = false
-is_done (Within r p) = false
-is_done (Access p) = false
-is_done (Grown r) = false
-is_done Done = true
+  -- from the place that follows, if any
+  abbrev pub rest_after : Option Place → List ℕ
+  rest_after (Some place) = rest place
+  rest_after None = []
 
 -- a bound on the steps that are left
 abbrev pub left : Counts → Place → ℕ
@@ -84,26 +80,29 @@ left n (Region r) = (n.regions - r) * 70000 + n.points + n.declared + 3
 left n (Within r p) = (n.regions - (r + 1)) * 70000 + (n.points - p) + n.points + n.declared + 4
 left n (Access p) = (n.points - p) + n.declared + 2
 left n (Grown r) = (n.declared - r) + 1
-left n Done = 0
+
+abbrev pub left_after : Counts → Option Place → ℕ
+left_after n (Some place) = left n place
+left_after n None = 0
 
 -- The place follows region r's line.
 pub record Follows (n : Counts) (r : ℕ) (place : Place) : Type 0 where
   pub goes : (ws bs : List ℕ) → rest n ws bs place ≡ region_from n ws bs (r + 1)
   pub less : left n place ≤ (n.regions - (r + 1)) * 70000 + n.points + n.declared + 3
 
--- all from a place of an answer's listing on
-abbrev pub rest_of : Answer → Place → List ℕ
-rest_of a place = rest a.counts a.words.now a.bytes.now place
+-- all of an answer's listing from a place on, if any
+abbrev pub rest_of : Answer → Option Place → List ℕ
+rest_of a next = rest_after a.counts a.words.now a.bytes.now next
 
 -- A step: a few bytes are put, which come first at the place, and the place that follows is nearer to the end.
-pub record Steps (a : Answer) (from : Place) (old : List ℕ) (next : Place) (new : List ℕ) : Type 0 where
+pub record Steps (a : Answer) (from : Place) (old : List ℕ) (next : Option Place) (new : List ℕ) : Type 0 where
   pub bytes : List ℕ
   pub puts : Appends bytes old new
   pub short : length bytes ≤ 32
-  pub goes : rest_of a from ≡ bytes ++ rest_of a next
-  pub less : left a.counts next ≤ left a.counts from - 1
+  pub goes : rest_of a (Some from) ≡ bytes ++ rest_of a next
+  pub less : left_after a.counts next ≤ left a.counts from - 1
 
 -- A chunk: the text comes first at the place, and then all from the place that follows, which is nearer to the end.
-pub record Fills (a : Answer) (from next : Place) (text : List ℕ) : Type 0 where
-  pub goes : rest_of a from ≡ text ++ rest_of a next
-  pub less : left a.counts next ≤ left a.counts from - 1
+pub record Fills (a : Answer) (from : Place) (next : Option Place) (text : List ℕ) : Type 0 where
+  pub goes : rest_of a (Some from) ≡ text ++ rest_of a next
+  pub less : left_after a.counts next ≤ left a.counts from - 1

@@ -24,5 +24,4 @@ pub enum Place {
     Within(u8, u16),
     Access(u16),
     Grown(u8),
-    Done,
 }

@@ -1,5 +1,5 @@
 // The lines of an answer: each step puts what comes next at a place of the listing.
-ghost use Rattle.std.specs.Prelude.{◌≡◌, ◌+◌, ◌≤◌, length};
+ghost use Rattle.std.specs.Prelude.{◌≡◌, ◌+◌, ◌≤◌, length, Some};
 ghost use Rattle.nll_spec.specs.Syntax.{Job};
 ghost use Rattle.nll_spec.specs.Decode.{decode, decoded};
 
@@ -44,7 +44,7 @@ impl Answer<'_> {
     // At the beginning of a region's line.
     fn at_region(&self, r: u8, text: &mut Text) -> Place
         requires { length text.old + 32 ≤ 4096 }
-        ensures { Steps self.now (Place.Region r) text.old result text.new }
+        ensures { Steps self.now (Place.Region r) text.old (Some result) text.new }
     {
         if r >= self.counts.regions {
             return Place::Access(0);
@@ -57,7 +57,7 @@ impl Answer<'_> {
     // Within a region's line.
     fn within(&self, r: u8, p: u16, text: &mut Text) -> Place
         requires { length text.old + 32 ≤ 4096 }
-        ensures { Steps self.now (Place.Within r p) text.old result text.new }
+        ensures { Steps self.now (Place.Within r p) text.old (Some result) text.new }
     {
         if p >= self.counts.points {
             text.push(b'\n');
@@ -72,7 +72,7 @@ impl Answer<'_> {
     // At a point's line.
     fn at_access(&self, p: u16, text: &mut Text) -> Place
         requires { length text.old + 32 ≤ 4096 }
-        ensures { Steps self.now (Place.Access p) text.old result text.new }
+        ensures { Steps self.now (Place.Access p) text.old (Some result) text.new }
     {
         if p >= self.counts.points {
             return Place::Grown(0);
@@ -87,40 +87,39 @@ impl Answer<'_> {
     }
 
     // At a declared region's line.
-    fn at_grown(&self, r: u8, text: &mut Text) -> Place
+    fn at_grown(&self, r: u8, text: &mut Text) -> Option<Place>
         requires { length text.old + 32 ≤ 4096 }
         ensures { Steps self.now (Place.Grown r) text.old result text.new }
     {
         if r >= self.counts.declared {
-            return Place::Done;
+            return None;
         }
         let at = 2 * usize::from(self.counts.points) + usize::from(r);
         if get_or(self.bytes, at, 0) != 0 {
             line(text, b"grown", &[u16::from(r)]);
         }
-        Place::Grown(r + 1)
+        Some(Place::Grown(r + 1))
     }
 
     // Puts what comes next at a place.
-    fn step(&self, from: Place, text: &mut Text) -> Place
+    fn step(&self, from: Place, text: &mut Text) -> Option<Place>
         requires { length text.old + 32 ≤ 4096 }
         ensures { Steps self.now from text.old result text.new }
     {
         match from {
             Place::Points => {
                 line(text, b"points", &[self.counts.points]);
-                Place::Region(0)
+                Some(Place::Region(0))
             }
-            Place::Region(r) => self.at_region(r, text),
-            Place::Within(r, p) => self.within(r, p, text),
-            Place::Access(p) => self.at_access(p, text),
+            Place::Region(r) => Some(self.at_region(r, text)),
+            Place::Within(r, p) => Some(self.within(r, p, text)),
+            Place::Access(p) => Some(self.at_access(p, text)),
             Place::Grown(r) => self.at_grown(r, text),
-            Place::Done => Place::Done,
         }
     }
 
-    // Makes a text of what comes next at a place, until it has room for fewer than 32 bytes or 4,096 steps were made, and answers the place that follows.
-    pub fn fill(&self, from: Place, text: &mut Text) -> Place
+    // Makes a text of what comes next at a place, until it has room for fewer than 32 bytes or 4,096 steps were made, and answers the place that follows, if any.
+    pub fn fill(&self, from: Place, text: &mut Text) -> Option<Place>
         ensures { Fills self.now from result text.new }
     {
         text.clear();
@@ -129,20 +128,9 @@ impl Answer<'_> {
             if text.room() < 32 {
                 break;
             }
-            place = self.step(place, text);
+            place = self.step(place, text)?;
         }
-        place
-    }
-}
-
-impl Place {
-    ghost use Rattle.listing.specs.Places.{is_done};
-
-    // Whether nothing comes at the place any more.
-    pub fn is_done(self) -> bool
-        ensures { result ≡ is_done self }
-    {
-        matches!(self, Place::Done)
+        Some(place)
     }
 }
 

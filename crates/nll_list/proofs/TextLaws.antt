@@ -14,11 +14,12 @@ use Rattle.repr.specs.declared.refusal.Refusal.TheVariants as refusals
 use Rattle.nll.specs.Analysis.{AnalyseSays}
 use Rattle.listing.specs.Reading.{Feeds}
 use Rattle.listing.specs.Places.{Counted, rest, rest_of, Fills}
+use Rattle.std.specs.Prelude.{Option, Some, None}
 use Rattle.listing.specs.declared.reader.Hex.{Hex}
 use Rattle.listing.specs.declared.Counts.{Counts}
 use Rattle.listing.specs.declared.places.Answer.{Answer}
 use Rattle.listing.specs.declared.Place.{Place}
-use Rattle.listing.specs.declared.Place.TheVariants.{Points, Done}
+use Rattle.listing.specs.declared.Place.TheVariants.{Points}
 use Rattle.listing.proofs.WriteLaws.{line-room}
 use Rattle.listing.proofs.ListingLaws.{lists_refusal, lists_answer}
 use Rattle.nll_list.specs.Text.{IsRead, Begins}
@@ -30,15 +31,15 @@ read_more piece m f = record { text = m.text ++ piece; reads = f m.text m.reads 
 
 -- ---- The chunks
 
--- What was printed so far, and then all from `place` on, is all from `from` on after the first text.
-pub record Printing (a : Answer) (first : List ℕ) (from place : Place) : Type 0 where
+-- What was printed so far, and then all from `next` on, is all from `from` on after the first text.
+pub record Printing (a : Answer) (first : List ℕ) (from next : Option Place) : Type 0 where
   pub printed : List ℕ
-  pub goes : first ++ rest_of a from ≡ printed ++ rest_of a place
+  pub goes : first ++ rest_of a from ≡ printed ++ rest_of a next
 
-pub printing_none : (a : Answer) (first : List ℕ) (from : Place) → Printing a first from from
+pub printing_none : (a : Answer) (first : List ℕ) (from : Option Place) → Printing a first from from
 printing_none a first from = record { printed = first; goes = refl }
 
-pub printing_more : {a : Answer} {first : List ℕ} {from place next : Place} {new : List ℕ} → Printing a first from place → Fills a place next new → Printing a first from next
+pub printing_more : {a : Answer} {first : List ℕ} {from next : Option Place} {place : Place} {new : List ℕ} → Printing a first from (Some place) → Fills a place next new → Printing a first from next
 printing_more {a} {next = next} {new = new} p f =
     record {
       printed = p.printed ++ new;
@@ -62,7 +63,7 @@ not_zero refusals.Room z = omega arith
 
 module _ (input ws bs : List ℕ) (n : Counts) (counted : (j : Job) → decode input ≡ decoded j → Counted j n) (w : length ws ≡ 4096) (b : length bs ≡ 2064)
     {number : ℕ} {ws' bs' : List ℕ} (s : AnalyseSays input ws bs number ws' bs') where
-  pub begins_answer : {t : List ℕ} → number ≡ 0 → t ≡ [] → Begins input (record { text = t; counts = n; next = Points }) ws' bs'
+  pub begins_answer : {t : List ℕ} → number ≡ 0 → t ≡ [] → Begins input (record { text = t; counts = n; next = Some Points }) ws' bs'
   begins_answer {t} e z =
       record {
         within = omega (arith, ap length z);
@@ -72,7 +73,7 @@ module _ (input ws bs : List ℕ) (n : Counts) (counted : (j : Job) → decode i
             ∙ ap (λ (l : List ℕ). l ++ rest n ws' bs' Points) (sym z);
       }
 
-  pub begins_refusal : (k : Refusal) {m : ℕ} {t : List ℕ} → number ≡ number_of k → m ≡ number_of k → t ≡ line "refused" (m ∷ []) → Begins input (record { text = t; counts = n; next = Done }) ws' bs'
+  pub begins_refusal : (k : Refusal) {m : ℕ} {t : List ℕ} → number ≡ number_of k → m ≡ number_of k → t ≡ line "refused" (m ∷ []) → Begins input (record { text = t; counts = n; next = None }) ws' bs'
   unfolding ascii
   begins_refusal k {m} {t} e f p =
       record {

@@ -13,12 +13,12 @@ pub fn begin(input: &[u8], words: &mut [u32; 4096], bytes: &mut [u8; 2064]) -> B
         Ok(()) => Begun {
             text: Text::new(),
             counts,
-            next: Place::Points,
+            next: Some(Place::Points),
         },
         Err(refusal) => Begun {
             text: listing::refused(u8::from(refusal)),
             counts,
-            next: Place::Done,
+            next: None,
         },
     }
 }

@@ -12,12 +12,12 @@ use listing::{Answer, Counts, Hex, Place, Text};
 use std::io;
 use std::io::{Read, Write};
 
-// What the analysis begins to say: a text, and the place that follows it.
+// What the analysis begins to say: a text, and the place that follows it, if any.
 #[derive(Drop)]
 pub struct Begun {
     pub text: Text,
     pub counts: Counts,
-    pub next: Place,
+    pub next: Option<Place>,
 }
 
 // Reads to the end of the input. A proved loop has to end, and nothing says that the input does: no run uses up these turns.
@@ -36,13 +36,18 @@ fn read_text<R: Read>(input: &mut R) -> io::Result<Hex>
     Ok(text)
 }
 
-// Prints the text and all from a place on, chunk by chunk, until a write fails.
-fn print<W: Write>(output: &mut W, answer: &Answer, first: Text, from: Place) -> io::Result<()> {
+// Prints the text and all from a place on, if any, chunk by chunk, until a write fails.
+fn print<W: Write>(
+    output: &mut W,
+    answer: &Answer,
+    first: Text,
+    from: Option<Place>,
+) -> io::Result<()> {
     let mut text = first;
-    let mut place = from;
+    let mut next = from;
     output.write_all(text.as_bytes())?;
-    while !place.is_done() {
-        place = answer.fill(place, &mut text);
+    while let Some(place) = next {
+        next = answer.fill(place, &mut text);
         output.write_all(text.as_bytes())?;
     }
     Ok(())

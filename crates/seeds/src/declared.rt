@@ -1,5 +1,5 @@
 // What each declared region outlives: row r, a word, has the regions that region r outlives.
-ghost use Rattle.std.specs.Prelude.{◌≡◌, List, [], ℕ, ◌+◌, ◌*◌, ◌<◌, length, get_or, take};
+ghost use Rattle.std.specs.Prelude.{◌≡◌, [], ◌+◌, ◌*◌, ◌<◌, length, get_or, take};
 ghost use Rattle.nll_spec.specs.Output.{word_bits};
 ghost use Rattle.nll_spec.specs.Syntax.{Job};
 ghost use Rattle.repr.specs.Reading.{rest};
