@@ -1,6 +1,6 @@
 -- The search over loans and prefixes. Assumes nothing.
-use mathlib.Core.Path.{◌≡◌, refl, sym, subst, ◌∙◌}
-use mathlib.Core.Bool.{Bool, true, false, ◌||◌, true≢false}
+use mathlib.Core.Path.{◌≡◌, refl, sym, ◌∙◌}
+use mathlib.Core.Bool.{Bool, true, false}
 use mathlib.Core.List.{List}
 use Prim.Native.Nat.{ℕ, ◌+◌, ◌≤◌, ◌<◌}
 use native.Mathlib.Omega.{arith}
@@ -8,16 +8,13 @@ use native.Mathlib.Decide.{dec_lt}
 use lib.ListN.{length}
 use lib.Dec.{eqb}
 use borrow.Author.Tests.{eq-eqb, ne_eqb, eqb-true, eqb-false}
-use Rattle.std.specs.Bool.{MatchBool}
-use Rattle.std.specs.List.{range_with_len, AllWithin, HoldsAt}
-use Rattle.std.proofs.lemmas.List.FromFn.{length-range_with_len, get_or-range_with_len}
 use Rattle.nll_spec.specs.Syntax.{Path, Job}
 use Rattle.nll_spec.specs.Types.{is_prefix, is_supporting, is_frozen}
 use Rattle.repr.specs.Reading.{borrow_kind_of, path_of}
 use Rattle.env.specs.Prefixes.{ShortestOf}
 use Rattle.loans.specs.Loans.{nth_loan, loan_of}
 use Rattle.loans.specs.declared.Loan.{Loan}
-use Rattle.borrowck.specs.Search.{counts, near, meets, lent_at, own_at, Touches, Prefixes, FoundIn, nth_access}
+use Rattle.borrowck.specs.Search.{counts, near, meets, lent_at, own_at, Prefixes, FoundIn, nth_access}
 use Rattle.borrowck.specs.declared.Access.{Access}
 use Rattle.borrowck.specs.declared.Depth.{Depth}
 use Rattle.borrowck.specs.declared.Depth.TheVariants.{Shallow, Deep}
@@ -38,24 +35,6 @@ near_apart j Shallow q p e = rw e
 -- The prefixes of fewer than k steps do not conflict.
 pub record Looked (s : List ℕ) (loan : Loan) (x : Access) (k : ℕ) : Type 0 where
   pub before : (j : Job) → ShortestOf j (path_of s loan.path) loan.shortest → (m : ℕ) → m < k → (lent_at j s loan x.path m ≡ false) × (own_at j s x.depth loan x.path m ≡ false)
-
--- The two prefixes of k steps do not conflict.
-pub record Missed (s : List ℕ) (loan : Loan) (x : Access) (k : ℕ) : Type 0 where
-  pub misses : (j : Job) → ShortestOf j (path_of s loan.path) loan.shortest → (lent_at j s loan x.path k ≡ false) × (own_at j s x.depth loan x.path k ≡ false)
-
-or_false : (a b : Bool) → false ≡ a || b → (a ≡ false) × (b ≡ false)
-or_false true b e = absurd (true≢false (sym e))
-or_false false b e = (refl, sym e)
-
-pub missed : {s : List ℕ} {loan : Loan} {x : Access} {k : ℕ} {r : Bool} → Touches s loan x k r → r ≡ false → Missed s loan x k
-missed t e = record { misses = λ j z. or_false _ _ (sym e ∙ t.says j z) }
-
--- what `any` shows of the prefixes
-pub looked_all : {s : List ℕ} {loan : Loan} {x : Access} (n : ℕ) (r : Bool) → r ≡ false
-    → MatchBool r ((k : ℕ) × (k < length (range_with_len 0 n)) × HoldsAt (λ k. Unit {0}) (range_with_len 0 n) k) (AllWithin (Missed s loan x) (range_with_len 0 n) 0 (length (range_with_len 0 n))) → Looked s loan x n
-looked_all n true e h = absurd (true≢false e)
-looked_all {s} {loan} {x} n false e h =
-    record { before = λ j z m l. (subst (Missed s loan x) (get_or-range_with_len 0 n m 0 l ∙ omega arith) (h m 0 (omega arith) (omega (arith, l, length-range_with_len 0 n)))).misses j z }
 
 module _ (s : List ℕ) (loan : Loan) (x : Access) where
   -- all prefixes are looked at, and none conflicts

@@ -62,12 +62,16 @@ fn prefixes(loan: Loan, access: Access) -> usize
 pub fn search(s: &[u8], loans: &[Loan], access: Access) -> Option<usize>
     ensures { FoundIn s.now access loans.now result }
 {
-    for (i, &loan) in loans.iter().enumerate() {
-        if (0..prefixes(loan, access)).any(|k| touches(s, loan, access, k)) {
-            return Some(i);
+    'search: {
+        for (i, &loan) in loans.iter().enumerate() {
+            for k in 0..prefixes(loan, access) {
+                if touches(s, loan, access, k) {
+                    break 'search Some(i);
+                }
+            }
         }
+        None
     }
-    None
 }
 
 // The first of the accesses that conflicts with one of the loans.
