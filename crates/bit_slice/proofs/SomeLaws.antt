@@ -22,7 +22,7 @@ blank_bit words i e = rw (e, zero-div (2 ^ (i % word_bits)))
 abbrev pub run : List ℕ → ℕ → ℕ → List ℕ
 run words start end = take (end - start) (drop start words)
 
-run_word : (words : List ℕ) (start end k : ℕ) → k < end - start → get_or (run words start end) k 0 ≡ get_or words (start + k) 0
+pub run_word : (words : List ℕ) (start end k : ℕ) → k < end - start → get_or (run words start end) k 0 ≡ get_or words (start + k) 0
 run_word words start end k l = get_or-take (end - start) (drop start words) k 0 l ∙ get_or-drop start words k 0
 
 -- what `any` shows of the run

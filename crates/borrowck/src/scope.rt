@@ -47,7 +47,7 @@ impl InScope<'_> {
                     next: i,
                 };
             }
-            if bit_set::test(self.scope, 4 * self.p, i) {
+            if bit_slice::is_set(self.scope, 4 * self.p, i) {
                 held[n] = lent[i];
                 n += 1;
             }

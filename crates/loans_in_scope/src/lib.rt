@@ -93,7 +93,7 @@ fn keep_row(region: &[u32], p: usize, pass: &mut [u32])
     requires { (p < 1024) × (4 * p + 4 ≤ length region.now) × (4 * p + 4 ≤ length pass.old) }
     ensures { Gains (Onto region.now (p + 1) p p) pass.old pass.new }
 {
-    bit_set::union_from(pass, 4 * p, region, 4 * p, 4);
+    bit_slice::insert_bits_from_slice(pass, 4 * p, region, 4 * p, 4);
 }
 
 // Leaves in each of the first n words only the numbers that the other table has there too.
@@ -195,7 +195,7 @@ impl<'a> Setup<'a> {
     {
         let at = usize::from(q);
         if at < self.code {
-            bit_set::union_from(scope, 4 * at, from, 4 * p, 4);
+            bit_slice::insert_bits_from_slice(scope, 4 * at, from, 4 * p, 4);
         }
     }
 
