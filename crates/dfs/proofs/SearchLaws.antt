@@ -10,16 +10,16 @@ use native.Mathlib.Decide.{ℕ_discrete, dec_lt}
 use native.Mathlib.Omega.{arith}
 use lib.ListN.{length, get_or, set, replicate, length-set, length-replicate}
 use lib.Seq.{get_or-set_same, get_or-set_other}
-use lib.Dec.{leb, ltb}
-use borrow.Author.Tests.{ltb-true, ltb-false, lt-ltb, le-ltb, leb-true, leb-false, le-leb, not-true, not-false}
+use lib.Dec.{eqb, leb, ltb}
+use borrow.Author.Tests.{eqb-true, eqb-false, eq-eqb, ltb-true, ltb-false, lt-ltb, le-ltb, leb-true, leb-false, le-leb, not-true, not-false}
 use Rattle.std.proofs.Common.{Some}
 use Rattle.nll_spec.specs.Output.{word_bits}
 use Rattle.bit_set.specs.Bits.{has, with_bit}
 use Rattle.bit_set.proofs.BitLaws.{has_with, has_with_other}
 use Rattle.graph.specs.Tables.{row_start, row_end, Edge, up_to, successors}
 use Rattle.graph.proofs.RowLaws.{successor_at}
-use Rattle.graph.specs.Search.{is_marked, Marked, Popped, State, state, unmarked}
-use Rattle.graph.proofs.SearchLaws.{mark-kept, mark-new, mark-old, no_mark, work, unmarked-less, unmarked-all}
+use Rattle.graph.specs.Search.{Marked, Popped, State, state, pushed_within, zeros}
+use Rattle.graph.proofs.SearchLaws.{mark-kept, mark-new, mark-old, no_mark, work, within_pushed, zeros-mark, zeros-replicate}
 use Rattle.graph.specs.Search.{pushed}
 use Rattle.dfs.specs.Walk.{in_code, Chained, Along, Stopped, Reach, here, step, visited, nexts, row, left, Roomy, Leaf, is_leaf, Reaches}
 use Rattle.dfs.proofs.ChainLaws.{with_kept, has-none, up_to_le}
@@ -39,23 +39,23 @@ module _ (E : ℕ → ℕ → Type 0) (h : ℕ → Bool) where
     pub pending : (x : ℕ) → Marked st.seen x → X x ⊎ OnStack st x
 
   -- only points that p reaches are put, and each point after one of them that h holds is marked or put
-  pub record Walked (p : ℕ) (ps : List ℕ) (seen : List Bool) : Type 0 where
+  pub record Walked (p : ℕ) (ps seen : List ℕ) : Type 0 where
     pub sound : (x : ℕ) → has ps x ≡ true → Reach E h p x
     pub closed : (x : ℕ) → has ps x ≡ true → (s : ℕ) → E x s → h s ≡ true → Marked seen s ⊎ (has ps s ≡ true)
 
 module _ (E : ℕ → ℕ → Type 0) (h : ℕ → Bool) (p : ℕ) where
   -- a point that p reaches and that has no mark is marked and pushed
-  push : {X : ℕ → Type 0} (st : State) (s : ℕ) → Searching E h p X st → Reach E h p s → s < 1024 → is_marked st.seen s ≡ false → Searching E h p X (pushed s st)
+  push : {X : ℕ → Type 0} (st : State) (s : ℕ) → Searching E h p X st → Reach E h p s → s < 1024 → get_or st.seen s 0 ≡ 0 → Searching E h p X (pushed s st)
   push {X} st s w r hs e =
       record {
-        roomy = record { room = omega (arith, z, w.roomy.room); sized = length-set seen s true ∙ w.roomy.sized };
+        roomy = record { room = omega (arith, z, w.roomy.room); sized = length-set seen s 1 ∙ w.roomy.sized };
         stack_len = length-set stack d s ∙ w.stack_len;
-        sound = λ x m. elim (ℕ_discrete x s) [ yes q ↦ rw q r | no n ↦ w.sound x (mark-old seen s x n m) ];
+        sound = λ x m. elim (ℕ_discrete x s) [ yes q ↦ rw q r | no n ↦ w.sound x (mark-old seen s 1 x n m) ];
         on_stack = on_stack';
         pending = pending';
       }
     where
-      seen : List Bool
+      seen : List ℕ
       seen = st.seen
 
       stack : List ℕ
@@ -67,13 +67,13 @@ module _ (E : ℕ → ℕ → Type 0) (h : ℕ → Bool) (p : ℕ) where
       hl : s < length seen
       hl = rw w.roomy.sized hs
 
-      z : unmarked seen ≡ unmarked (set seen s true) + 1
-      z = unmarked-less seen s hl e
+      z : zeros seen ≡ zeros (set seen s 1) + 1
+      z = zeros-mark seen s hl e
 
       hd : d < length stack
       hd = omega (arith, z, w.stack_len, w.roomy.room)
 
-      keep : (x : ℕ) → Marked seen x → Marked (set seen s true) x
+      keep : (x : ℕ) → Marked seen x → Marked (set seen s 1) x
       keep x m = mark-kept seen s x hl m
 
       top : get_or (set stack d s) d 0 ≡ s
@@ -82,14 +82,14 @@ module _ (E : ℕ → ℕ → Type 0) (h : ℕ → Bool) (p : ℕ) where
       under : (i : ℕ) → i < d → get_or (set stack d s) i 0 ≡ get_or stack i 0
       under i l = get_or-set_other stack d i s 0 (λ q. omega arith)
 
-      on_stack' : (i : ℕ) → i < d + 1 → Marked (set seen s true) (get_or (set stack d s) i 0)
+      on_stack' : (i : ℕ) → i < d + 1 → Marked (set seen s 1) (get_or (set stack d s) i 0)
       on_stack' i l = elim (ℕ_discrete i d) [ yes q ↦ rw (q, top) (mark-new seen s hl) | no n ↦ low n ]
         where
-          low : (i ≡ d → ⊥) → Marked (set seen s true) (get_or (set stack d s) i 0)
+          low : (i ≡ d → ⊥) → Marked (set seen s 1) (get_or (set stack d s) i 0)
           low n = let b : i < d = omega (arith, n) in rw (under i b) (keep (get_or stack i 0) (w.on_stack i b))
 
-      pending' : (x : ℕ) → Marked (set seen s true) x → X x ⊎ OnStack (pushed s st) x
-      pending' x m = elim (ℕ_discrete x s) [ yes q ↦ inr (d, omega arith, top ∙ sym q) | no n ↦ old (w.pending x (mark-old seen s x n m)) ]
+      pending' : (x : ℕ) → Marked (set seen s 1) x → X x ⊎ OnStack (pushed s st) x
+      pending' x m = elim (ℕ_discrete x s) [ yes q ↦ inr (d, omega arith, top ∙ sym q) | no n ↦ old (w.pending x (mark-old seen s 1 x n m)) ]
         where
           old : X x ⊎ OnStack st x → X x ⊎ OnStack (pushed s st) x
           old (inl a) = inl a
@@ -103,20 +103,22 @@ module _ (E : ℕ → ℕ → Type 0) (h : ℕ → Bool) (p : ℕ) where
     pub less : work st' ≤ work st
 
   visit : {X : ℕ → Type 0} (st : State) (s : ℕ) → Searching E h p X st → (h s ≡ true → Reach E h p s) → (h s ≡ true → s < 1024) → Visited X s st (visited h s st)
-  visit {X} st s w r hs = go (is_marked st.seen s) (h s) refl refl
+  visit {X} st s w r hs = go (eqb (get_or st.seen s 0) 0) (h s) refl refl
     where
-      go : (a b : Bool) → is_marked st.seen s ≡ a → h s ≡ b → Visited X s st (cond (not a && b) (pushed s st) st)
-      go false true e eb =
+      go : (a b : Bool) → eqb (get_or st.seen s 0) 0 ≡ a → h s ≡ b → Visited X s st (cond (a && b) (pushed s st) st)
+      go true true ea eb =
+          let e : get_or st.seen s 0 ≡ 0 = eqb-true (get_or st.seen s 0) 0 ea in
           let hl : s < length st.seen = rw w.roomy.sized (hs eb) in
-          let z = unmarked-less st.seen s hl e in
+          let z = zeros-mark st.seen s hl e in
           record {
             search = push st s w (r eb) (hs eb) e;
             marks = λ q. mark-new st.seen s hl;
             kept = λ x m. mark-kept st.seen s x hl m;
             less = omega arith;
           }
-      go false false e eb = record { search = w; marks = λ q. absurd (true≢false (sym q ∙ eb)); kept = λ x m. m; less = omega arith }
-      go true b e eb = record { search = w; marks = λ q. e; kept = λ x m. m; less = omega arith }
+      go true false ea eb = record { search = w; marks = λ q. absurd (true≢false (sym q ∙ eb)); kept = λ x m. m; less = omega arith }
+      go false b ea eb =
+          record { search = w; marks = λ q. eqb-false (get_or st.seen s 0) 0 ea; kept = λ x m. m; less = omega arith }
 
   -- the first m points of succ from lo on are visited
   record Nexts (X : ℕ → Type 0) (succ : List ℕ) (lo m : ℕ) (st st' : State) : Type 0 where
@@ -145,20 +147,20 @@ module _ (E : ℕ → ℕ → Type 0) (h : ℕ → Bool) (p : ℕ) where
       }
 
   -- the first point is marked and pushed
-  pub begin : (X : ℕ → Type 0) → h p ≡ true → p < 1024 → Searching E h p X (pushed p (state (replicate 1024 false) (replicate 1024 0) 0))
-  begin X e l = push (state (replicate 1024 false) (replicate 1024 0) 0) p none (here e) l (no_mark 1024 p)
+  pub begin : (X : ℕ → Type 0) → h p ≡ true → p < 1024 → Searching E h p X (pushed p (state (replicate 1024 0) (replicate 1024 0) 0))
+  begin X e l = push (state (replicate 1024 0) (replicate 1024 0) 0) p none (here e) l (no_mark 1024 p)
     where
-      none : Searching E h p X (state (replicate 1024 false) (replicate 1024 0) 0)
+      none : Searching E h p X (state (replicate 1024 0) (replicate 1024 0) 0)
       none =
           record {
-            roomy = record { room = rw unmarked-all (omega arith); sized = length-replicate {A = Bool} 1024 false };
+            roomy = record { room = rw zeros-replicate (omega arith); sized = length-replicate {A = ℕ} 1024 0 };
             stack_len = length-replicate {A = ℕ} 1024 0;
-            sound = λ x m. absurd (true≢false (sym m ∙ no_mark 1024 x));
+            sound = λ x m. absurd (m (no_mark 1024 x));
             on_stack = λ i l. absurd (not-suc-le-zero l);
-            pending = λ x m. absurd (true≢false (sym m ∙ no_mark 1024 x));
+            pending = λ x m. absurd (m (no_mark 1024 x));
           }
 
-  pub walked_none : (seen : List Bool) → Walked E h p (replicate 32 0) seen
+  pub walked_none : (seen : List ℕ) → Walked E h p (replicate 32 0) seen
   walked_none seen = record { sound = λ x m. absurd (true≢false (sym m ∙ has-none 32 x)); closed = λ x m. absurd (true≢false (sym m ∙ has-none 32 x)) }
 
   -- a point of Y is taken off the stack, where Y has what X has
@@ -185,16 +187,22 @@ module _ (E : ℕ → ℕ → Type 0) (h : ℕ → Bool) (p : ℕ) where
 
 -- ---- Visits of the points that follow one
 
+-- the stack has a place for a point without a mark
+pub visited-new : (h : ℕ → Bool) (s : ℕ) (st : State) → Roomy st.seen st.depth → s < 1024 → get_or st.seen s 0 ≡ 0 → h s ≡ true → pushed_within 1024 s st ≡ visited h s st
+visited-new h s st w l e q =
+    let z = zeros-mark st.seen s (rw w.sized l) e in
+    within_pushed 1024 s st l (omega (arith, w.room)) ∙ rw (eq-eqb (get_or st.seen s 0) 0 e, q)
+
 -- no visit of a point below 1024 takes the room on the stack
 pub visited_roomy : (h : ℕ → Bool) (s : ℕ) (st : State) → (h s ≡ true → s < 1024) → Roomy st.seen st.depth → Roomy (visited h s st).seen (visited h s st).depth
-visited_roomy h s st hs w = go (is_marked st.seen s) (h s) refl refl
+visited_roomy h s st hs w = go (eqb (get_or st.seen s 0) 0) (h s) refl refl
   where
-    go : (a b : Bool) → is_marked st.seen s ≡ a → h s ≡ b → Roomy (cond (not a && b) (pushed s st) st).seen (cond (not a && b) (pushed s st) st).depth
-    go false true e eb =
-        let z = unmarked-less st.seen s (rw w.sized (hs eb)) e in
-        record { room = omega (arith, w.room); sized = length-set st.seen s true ∙ w.sized }
-    go false false e eb = w
-    go true b e eb = w
+    go : (a b : Bool) → eqb (get_or st.seen s 0) 0 ≡ a → h s ≡ b → Roomy (cond (a && b) (pushed s st) st).seen (cond (a && b) (pushed s st) st).depth
+    go true true e eb =
+        let z = zeros-mark st.seen s (rw w.sized (hs eb)) (eqb-true (get_or st.seen s 0) 0 e) in
+        record { room = omega (arith, w.room); sized = length-set st.seen s 1 ∙ w.sized }
+    go true false e eb = w
+    go false b e eb = w
 
 -- The first i of the points that follow q are visited.
 pub record Nexted (h : ℕ → Bool) (first succ : List ℕ) (q : ℕ) (ss : List ℕ) (i : ℕ) (st u : State) : Type 0 where
@@ -224,6 +232,9 @@ module _ {h : ℕ → Bool} {first succ : List ℕ} {q : ℕ} {ss : List ℕ} wh
 
 pub code_out : (ws : List ℕ) (from code s : ℕ) → code ≤ s → in_code ws from code s ≡ false
 code_out ws from code s l = rw (le-ltb s code l)
+
+pub code_held : (ws : List ℕ) (from code s : ℕ) → s < code → has ws (word_bits * from + s) ≡ true → in_code ws from code s ≡ true
+code_held ws from code s l e = rw (lt-ltb s code l) e
 
 pub code_below : (ws : List ℕ) (from code s : ℕ) → in_code ws from code s ≡ true → s < code
 code_below ws from code s e = go (ltb s code) refl
@@ -272,14 +283,14 @@ module _ (chain first succ : List ℕ) (h : ℕ → Bool) (p : ℕ) where
     pub start : Marked st.seen p
 
 module _ (chain first succ : List ℕ) (h : ℕ → Bool) (p : ℕ) (small : (s : ℕ) → h s ≡ true → s < 1024) where
-  pub going_start : h p ≡ true → Going chain first succ h p (replicate 32 0) false (pushed p (state (replicate 1024 false) (replicate 1024 0) 0))
+  pub going_start : h p ≡ true → Going chain first succ h p (replicate 32 0) false (pushed p (state (replicate 1024 0) (replicate 1024 0) 0))
   going_start e =
       record {
         sized = length-replicate {A = ℕ} 32 0;
         search = begin (Steps chain first succ) h p (λ x. has (replicate 32 0) x ≡ true) e (small p e);
-        walked = walked_none (Steps chain first succ) h p (set (replicate 1024 false) p true);
+        walked = walked_none (Steps chain first succ) h p (set (replicate 1024 0) p 1);
         exits = exits-none chain first;
-        start = mark-new (replicate 1024 false) p (rw length-replicate (small p e));
+        start = mark-new (replicate 1024 0) p (rw length-replicate (small p e));
       }
 
   -- a point is taken off the stack, the points after it along the chain are put, and those after the last of them are visited
@@ -336,7 +347,7 @@ module _ (chain first succ : List ℕ) (h : ℕ → Bool) (p : ℕ) (small : (s 
     popped : Searching E h p (λ x. has ps' x ≡ true) st₁
     popped = pop E h p {X = λ x. has ps x ≡ true} {Y = λ x. has ps' x ≡ true} st g.search hd old has_q
 
-    walked' : (seen : List Bool) → ((x : ℕ) → Marked st.seen x → Marked seen x) → ((s : ℕ) → E e s → h s ≡ true → Marked seen s ⊎ (has ps' s ≡ true)) → Walked E h p ps' seen
+    walked' : (seen : List ℕ) → ((x : ℕ) → Marked st.seen x → Marked seen x) → ((s : ℕ) → E e s → h s ≡ true → Marked seen s ⊎ (has ps' s ≡ true)) → Walked E h p ps' seen
     walked' seen keep last = record { sound = sound'; closed = λ x m s k i. to x s k i (split x m) }
       where
         run : (x s : ℕ) → q ≤ x → x < e → E x s → Marked seen s ⊎ (has ps' s ≡ true)
@@ -470,7 +481,7 @@ module _ (chain first succ : List ℕ) (h : ℕ → Bool) (p : ℕ) (small : (s 
   straight ps e t hp w et y ch =
       let c : has chain e ≡ true = sym et ∙ y in
       let zeros : List ℕ = replicate 1024 0 in
-      let st : State = pushed p (state (replicate 1024 false) zeros 0) in
+      let st : State = pushed p (state zeros zeros 0) in
       let eq : p ≡ get_or st.stack 0 0 = sym (get_or-set_same zeros 0 p 0 (rw length-replicate (omega arith))) in
       let es : state st.seen st.stack 0 ≡ left chain h first succ e (state st.seen st.stack 0) = rw c in
       let ex : false ≡ is_leaf chain first e = rw c in

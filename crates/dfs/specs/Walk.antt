@@ -1,9 +1,9 @@
 -- What the search of one constraint computes, from the tables and the words that it is handed.
-use Rattle.std.specs.Prelude.{◌≡◌, ◌⊎◌, Bool, true, not, ◌&&◌, cond, List, ℕ, zero, suc, ◌+◌, ◌-◌, ◌*◌, ◌/◌, ◌%◌, ◌^◌, ◌≤◌, ◌<◌, length, get_or, leb, ltb}
+use Rattle.std.specs.Prelude.{◌≡◌, ◌⊎◌, Bool, true, not, ◌&&◌, cond, List, ℕ, zero, suc, ◌+◌, ◌-◌, ◌*◌, ◌/◌, ◌%◌, ◌^◌, ◌≤◌, ◌<◌, length, get_or, eqb, leb, ltb}
 use Rattle.nll_spec.specs.Output.{word_bits}
 use Rattle.bit_set.specs.Bits.{has}
 use Rattle.graph.specs.Tables.{row_start, row_end, up_to, Edge}
-use Rattle.graph.specs.Search.{State, pushed, is_marked, unmarked}
+use Rattle.graph.specs.Search.{zeros, State, pushed}
 
 -- ---- The walk
 
@@ -52,7 +52,7 @@ pub record Mask (b n m : ℕ) : Type 0 where
 
 -- s is marked and pushed, where it has no mark and h holds it
 abbrev pub visited : (ℕ → Bool) → ℕ → State → State
-visited h s st = cond (not (is_marked st.seen s) && h s) (pushed s st) st
+visited h s st = cond (eqb (get_or st.seen s 0) 0 && h s) (pushed s st) st
 
 -- the same for the first m points of succ from lo on
 unfoldable pub nexts : (ℕ → Bool) → List ℕ → ℕ → ℕ → State → State
@@ -68,8 +68,8 @@ abbrev pub left : List ℕ → (ℕ → Bool) → List ℕ → List ℕ → ℕ 
 left chain h first succ q st = cond (has chain q) st (row h first succ q st)
 
 -- the stack has room for each point without a mark
-pub record Roomy (seen : List Bool) (depth : ℕ) : Type 0 where
-  pub room : depth + unmarked seen ≤ 1024
+pub record Roomy (seen : List ℕ) (depth : ℕ) : Type 0 where
+  pub room : depth + zeros seen ≤ 1024
   pub sized : length seen ≡ 1024
 
 -- ---- Points that nothing follows

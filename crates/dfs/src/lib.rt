@@ -131,7 +131,7 @@ impl Walk<'_> {
         if self.code <= at {
             return;
         }
-        if search.seen[at] {
+        if search.seen[at] != 0 {
             return;
         }
         if !bit_set::test(self.words, self.from, at) {
@@ -171,7 +171,11 @@ impl Walk<'_> {
     {
         let mut points = [0; 32];
         let mut exit = false;
-        let mut search = Search::<1024>::new();
+        let mut search = Search {
+            seen: [0; 1024],
+            stack: [0; 1024],
+            depth: 0,
+        };
         search.push(p as u16);
         while let Some(q) = search.pop() {
             let end = self.follow(&mut points, q);

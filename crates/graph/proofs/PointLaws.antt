@@ -1,13 +1,13 @@
 -- Points of walked blocks. Assumes nothing.
 use mathlib.Core.Path.{◌≡◌, refl, sym, ap, ◌∙◌}
-use mathlib.Core.Bool.{Bool, true, false, ◌&&◌}
+use mathlib.Core.Bool.{true, false, ◌&&◌}
 use mathlib.Core.List.{List}
 use Prim.Native.Nat.{ℕ, zero, suc, ◌+◌, ◌-◌, ◌*◌, ◌≤◌, ◌<◌}
 use native.Mathlib.Omega.{arith}
 use native.Mathlib.Decide.{dec_lt}
 use lib.ListN.{length, get_or}
 use lib.Dec.{T, ltb, lt→ltb}
-use borrow.Author.Tests.{lt-ltb, le-ltb}
+use borrow.Author.Tests.{lt-ltb, le-ltb, eq-eqb, ne_eqb}
 use Rattle.nll_spec.specs.Syntax.{Job, BlockIndex}
 use Rattle.nll_spec.specs.Fixpoint.{holds}
 use Rattle.nll_spec.specs.Output.{word_bits}
@@ -61,7 +61,7 @@ module _ (ws : List ℕ) (p : ℕ) where
 
 -- ---- One block
 
-module _ {s : List ℕ} {t : Offsets} {seen : List Bool} {h : Head} {j : Job} (w : Given s t h j) (marks : MarksWalked seen j) (b : BlockIndex) (l : b < length j.blocks) {d : Shape} (says : ShapeSays s (get_or t.blocks b 0) d) {p : ℕ} {ws : List ℕ} (was : WalkedBelow j b p ws) where
+module _ {s : List ℕ} {t : Offsets} {seen : List ℕ} {h : Head} {j : Job} (w : Given s t h j) (marks : MarksWalked seen j) (b : BlockIndex) (l : b < length j.blocks) {d : Shape} (says : ShapeSays s (get_or t.blocks b 0) d) {p : ℕ} {ws : List ℕ} (was : WalkedBelow j b p ws) where
   shaped : Shaped (block_at j.blocks b) d
   shaped = says.shaped (block_at j.blocks b) (block-at w.layout b no_block l)
 
@@ -88,18 +88,18 @@ module _ {s : List ℕ} {t : Offsets} {seen : List Bool} {h : Head} {j : Job} (w
         go q k (no a) (yes c) = these q (omega arith) c k ∙ sym (here q (omega arith) c) ∙ rw (lt-ltb q (p + (d.actions + 1)) c)
         go q k (no a) (no c) = others q (λ e. omega arith) ∙ was.points q k ∙ rw (le-ltb q p (omega arith), le-ltb q (p + (d.actions + 1)) (omega arith))
 
-  pub below_unmarked : is_marked seen b ≡ false → WalkedBelow j (b + 1) (p + (d.actions + 1)) ws
+  pub below_unmarked : get_or seen b 0 ≡ 0 → WalkedBelow j (b + 1) (p + (d.actions + 1)) ws
   below_unmarked e =
-      below_more (λ q k. refl) (λ q a c k. was.points q k ∙ rw (le-ltb q p a, e))
+      below_more (λ q k. refl) (λ q a c k. was.points q k ∙ rw (le-ltb q p a, eq-eqb (get_or seen b 0) 0 e))
 
-  pub below-marked : length ws ≡ 32 → is_marked seen b ≡ true → WalkedBelow j (b + 1) (p + (d.actions + 1)) (with_run ws p (d.actions + 1))
+  pub below-marked : length ws ≡ 32 → (get_or seen b 0 ≡ 0 → ⊥) → WalkedBelow j (b + 1) (p + (d.actions + 1)) (with_run ws p (d.actions + 1))
   below-marked z e =
       below_more (λ q k. run_other ws p (d.actions + 1) q k)
-      (λ q a c k. run_in ws p (d.actions + 1) q (let r = points-room in omega arith) a c ∙ rw e)
+      (λ q a c k. run_in ws p (d.actions + 1) q (let r = points-room in omega arith) a c ∙ rw (ne_eqb (get_or seen b 0) 0 e))
 
 -- ---- What is returned
 
-module _ (s : List ℕ) (t : Offsets) (seen : List Bool) (b : BlockIndex) (p : ℕ) {ws : List ℕ} (size : length ws ≡ 32) where
+module _ (s : List ℕ) (t : Offsets) (seen : List ℕ) (b : BlockIndex) (p : ℕ) {ws : List ℕ} (size : length ws ≡ 32) where
   pub points_none : p ≤ 1024 → 64 ≤ b → BlockPoints s t seen b p p ws ws
   points_none r h = record { size = size; within = r; points = λ _ j w m l was. absurd (omega (arith, few-blocks w.layout)) }
 
@@ -107,10 +107,10 @@ module _ (s : List ℕ) (t : Offsets) (seen : List Bool) (b : BlockIndex) (p : �
     pub points-over : p ≤ 1024 → 1024 < p + (d.actions + 1) → BlockPoints s t seen b p p ws ws
     points-over r h = record { size = size; within = r; points = λ _ j w m l was. absurd (omega (arith, points-room w m b l says was)) }
 
-    pub points_unmarked : p + (d.actions + 1) ≤ 1024 → {at : ℕ} → at ≡ b → is_marked seen at ≡ false → BlockPoints s t seen b p (p + (d.actions + 1)) ws ws
+    pub points_unmarked : p + (d.actions + 1) ≤ 1024 → {at : ℕ} → at ≡ b → get_or seen at 0 ≡ 0 → BlockPoints s t seen b p (p + (d.actions + 1)) ws ws
     points_unmarked r {at} i e = record { size = size; within = r; points = λ _ j w m l was. below_unmarked w m b l says was (rw i at e) }
 
-    pub points-marked : p + (d.actions + 1) ≤ 1024 → {at : ℕ} → at ≡ b → is_marked seen at ≡ true → {u : List ℕ} → u ≡ with_run ws p (d.actions + 1) → BlockPoints s t seen b p (p + (d.actions + 1)) ws u
+    pub points-marked : p + (d.actions + 1) ≤ 1024 → {at : ℕ} → at ≡ b → (get_or seen at 0 ≡ 0 → ⊥) → {u : List ℕ} → u ≡ with_run ws p (d.actions + 1) → BlockPoints s t seen b p (p + (d.actions + 1)) ws u
     points-marked r {at} i e {u} k =
         record {
           size = ap length k ∙ length_run ws p (d.actions + 1) ∙ size;
@@ -121,13 +121,13 @@ module _ (s : List ℕ) (t : Offsets) (seen : List Bool) (b : BlockIndex) (p : �
 -- ---- The whole
 
 -- The set has the walked points of the first b blocks of every job of the record with these marks.
-pub record Pointed (s : List ℕ) (t : Offsets) (seen : List Bool) (h : Head) (b : BlockIndex) (p : ℕ) (ws : List ℕ) : Type 0 where
+pub record Pointed (s : List ℕ) (t : Offsets) (seen : List ℕ) (h : Head) (b : BlockIndex) (p : ℕ) (ws : List ℕ) : Type 0 where
   pub turns : b ≤ h.blocks
   pub size : length ws ≡ 32
   pub within : p ≤ 1024
   pub points : (j : Job) → Given s t h j → MarksWalked seen j → WalkedBelow j b p ws
 
-module _ (s : List ℕ) (t : Offsets) (seen : List Bool) (h : Head) where
+module _ (s : List ℕ) (t : Offsets) (seen : List ℕ) (h : Head) where
   pub pointed_none : (ws : List ℕ) {u : List ℕ} → length ws ≡ 32 → u ≡ cleared ws 0 32 → Pointed s t seen h 0 0 u
   pointed_none ws {u} z e =
       record {

@@ -1,7 +1,6 @@
 -- Why the search finds the walked blocks: what holds of its marks and its stack at each step. Assumes nothing.
 use mathlib.Core.Path.{◌≡◌, refl, sym, ap, subst, ◌∙◌}
 use mathlib.Core.Logic.{◌⊎◌, inl, inr}
-use mathlib.Core.Bool.{Bool, true, false, true≢false}
 use mathlib.Core.List.{List, [], ◌∷◌, ◌++◌}
 use Prim.Native.Nat.{ℕ, zero, suc, ◌+◌, ◌-◌, ◌*◌, ◌≤◌, ◌<◌}
 use native.Mathlib.Omega.{arith}
@@ -11,70 +10,80 @@ use native.Mathlib.Decide.{ℕ_discrete, dec_lt}
 use lib.ListN.{length, get_or, set, take, replicate, length-set, length-replicate, get_or-replicate, get_or-eq_default}
 use lib.Seq.{get_or-set_same, get_or-set_other, take-suc, take_all}
 use lib.Dec.{T, eqb, eqb→eq}
-use borrow.Author.Tests.{lt-ltb, le-ltb}
+use borrow.Author.Tests.{eq-eqb, ne_eqb, lt-ltb, le-ltb}
 use Rattle.nll_spec.specs.Lists.{contains}
 use Rattle.nll_spec.proofs.Tests.{any-there, contains-here, or_cases}
-use Rattle.graph.specs.Search.{unmarked, State, state, Marked, Roomy, pushed, visited, visits}
+use Rattle.graph.specs.Search.{zeros, State, state, Marked, Roomy, pushed, pushed_within, visited, visits}
 
 -- ---- Marks
 
-pub unmarked-less : (l : List Bool) (i : ℕ) → i < length l → get_or l i false ≡ false → unmarked l ≡ unmarked (set l i true) + 1
-unfolding unmarked
-unmarked-less [] i h e = absurd (not-suc-le-zero h)
-unmarked-less (false ∷ xs) zero h e = sym (add-one (unmarked xs))
-unmarked-less (true ∷ xs) zero h e = absurd (true≢false e)
-unmarked-less (false ∷ xs) (suc i) h e = let r : unmarked xs ≡ unmarked (set xs i true) + 1 = unmarked-less xs i (le_of_suc-le-suc h) e in omega arith
-unmarked-less (true ∷ xs) (suc i) h e = unmarked-less xs i (le_of_suc-le-suc h) e
+pub zeros-mark : (l : List ℕ) (i : ℕ) → i < length l → get_or l i 0 ≡ 0 → zeros l ≡ zeros (set l i 1) + 1
+unfolding zeros
+zeros-mark [] i h e = absurd (not-suc-le-zero h)
+zeros-mark (zero ∷ xs) zero h e = sym (add-one (zeros xs))
+zeros-mark (suc x ∷ xs) zero h e = omega arith
+zeros-mark (zero ∷ xs) (suc i) h e = let r : zeros xs ≡ zeros (set xs i 1) + 1 = zeros-mark xs i (le_of_suc-le-suc h) e in omega arith
+zeros-mark (suc x ∷ xs) (suc i) h e = zeros-mark xs i (le_of_suc-le-suc h) e
 
-pub unmarked-all : (n : ℕ) → unmarked (replicate n false) ≡ n
-unfolding unmarked
-unmarked-all zero = refl
-unmarked-all (suc n) = ap suc (unmarked-all n)
+pub zeros-replicate : (n : ℕ) → zeros (replicate n 0) ≡ n
+unfolding zeros
+zeros-replicate zero = refl
+zeros-replicate (suc n) = ap suc (zeros-replicate n)
 
--- where nothing was put, each entry is the default
-pub no_mark : {A : Type 0} {v : A} (n x : ℕ) → get_or (replicate n v) x v ≡ v
-no_mark {v = v} n x = elim (dec_lt x n) [ yes l ↦ get_or-replicate n x v v l | no k ↦ get_or-eq_default (replicate n v) v (rw length-replicate (omega (arith, k))) ]
+pub no_mark : (n x : ℕ) → get_or {A = ℕ} (replicate n 0) x 0 ≡ 0
+no_mark n x = elim (dec_lt x n) [ yes l ↦ get_or-replicate n x 0 0 l | no k ↦ get_or-eq_default (replicate n 0) 0 (rw length-replicate (omega (arith, k))) ]
 
-pub mark-new : (l : List Bool) (i : ℕ) → i < length l → Marked (set l i true) i
-mark-new l i hl = get_or-set_same l i true false hl
+pub mark-kept : (l : List ℕ) (i x : ℕ) → i < length l → Marked l x → Marked (set l i 1) x
+mark-kept l i x hl m e = go (ℕ_discrete x i)
+  where
+    go : Dec (x ≡ i) → ⊥
+    go (yes q) = let z : 1 ≡ get_or (set l i 1) x 0 = rw q (sym (get_or-set_same l i 1 0 hl)) in omega arith
+    go (no n) = m (sym (get_or-set_other l i x 1 0 n) ∙ e)
 
-pub mark-kept : (l : List Bool) (i x : ℕ) → i < length l → Marked l x → Marked (set l i true) x
-mark-kept l i x hl m = elim (ℕ_discrete x i) [ yes q ↦ rw q (mark-new l i hl) | no n ↦ get_or-set_other l i x true false n ∙ m ]
+pub mark-new : (l : List ℕ) (i : ℕ) → i < length l → Marked (set l i 1) i
+mark-new l i hl e = let z : get_or (set l i 1) i 0 ≡ 1 = get_or-set_same l i 1 0 hl in omega arith
 
-pub mark-old : (l : List Bool) (i x : ℕ) → (x ≡ i → ⊥) → Marked (set l i true) x → Marked l x
-mark-old l i x n m = sym (get_or-set_other l i x true false n) ∙ m
+pub mark-old : (l : List ℕ) (i v x : ℕ) → (x ≡ i → ⊥) → Marked (set l i v) x → Marked l x
+mark-old l i v x n m e = m (get_or-set_other l i x v 0 n ∙ e)
+
+pub mark_bits : (l : List ℕ) (i x : ℕ) → i < length l → get_or l x 0 ≤ 1 → get_or (set l i 1) x 0 ≤ 1
+mark_bits l i x hl m = elim (ℕ_discrete x i) [ yes q ↦ rw (q, get_or-set_same l i 1 0 hl) (omega arith) | no n ↦ rw (get_or-set_other l i x 1 0 n) m ]
 
 -- what is left to do
 abbrev pub work : State → ℕ
-work st = 2 * unmarked st.seen + st.depth
+work st = 2 * zeros st.seen + st.depth
 
 -- ---- One visit
+
+pub within_pushed : (n s : ℕ) (st : State) → s < n → st.depth < n → pushed_within n s st ≡ pushed s st
+within_pushed n s st h k = rw (lt-ltb s n h, lt-ltb st.depth n k)
 
 module _ (b : ℕ) (st : State) where
   pub visited_out : 64 ≤ b → st ≡ visited b st
   visited_out h = rw (le-ltb b 64 h)
 
   pub visited-seen : b < 64 → Marked st.seen b → st ≡ visited b st
-  visited-seen h m = rw (lt-ltb b 64 h, m)
+  visited-seen h m = rw (lt-ltb b 64 h, ne_eqb (get_or st.seen b 0) 0 m)
 
-  pub visited-new : b < 64 → get_or st.seen b false ≡ false → pushed b st ≡ visited b st
-  visited-new h e = rw (lt-ltb b 64 h, e)
+  pub visited-new : b < 64 → get_or st.seen b 0 ≡ 0 → pushed b st ≡ visited b st
+  visited-new h e = rw (lt-ltb b 64 h, eq-eqb (get_or st.seen b 0) 0 e)
 
-module _ {b : ℕ} {st : State} (w : Roomy st) (l : b < 64) (e : get_or st.seen b false ≡ false) where
-  push_less : unmarked st.seen ≡ unmarked (set st.seen b true) + 1
-  push_less = unmarked-less st.seen b (omega (arith, w.marks)) e
+module _ {b : ℕ} {st : State} (w : Roomy st) (l : b < 64) (e : get_or st.seen b 0 ≡ 0) where
+  push_zeros : zeros st.seen ≡ zeros (set st.seen b 1) + 1
+  push_zeros = zeros-mark st.seen b (omega (arith, w.marks)) e
 
   pub push_room : st.depth < 64
-  push_room = let z = push_less in omega (arith, w.room)
+  push_room = let z = push_zeros in omega (arith, w.room)
 
   push_roomy : Roomy (pushed b st)
   push_roomy =
-      let z = push_less in
+      let z = push_zeros in
       record {
-        marks = length-set st.seen b true ∙ w.marks;
+        marks = length-set st.seen b 1 ∙ w.marks;
         places = length-set st.stack st.depth b ∙ w.places;
         room = omega (arith, w.room);
         small = λ i h. at i h (ℕ_discrete i st.depth);
+        bits = λ x. mark_bits st.seen b x (omega (arith, w.marks)) (w.bits x);
       }
     where
       at : (i : ℕ) → i < st.depth + 1 → Dec (i ≡ st.depth) → get_or (set st.stack st.depth b) i 0 < 64
@@ -85,15 +94,15 @@ module _ {b : ℕ} {st : State} (w : Roomy st) (l : b < 64) (e : get_or st.seen 
 data Visit (b : ℕ) (st : State) : Type 0 where
   out : 64 ≤ b → Visit b st
   seen : b < 64 → Marked st.seen b → Visit b st
-  new : b < 64 → get_or st.seen b false ≡ false → Visit b st
+  new : b < 64 → get_or st.seen b 0 ≡ 0 → Visit b st
 
 which : (b : ℕ) (st : State) → Visit b st
-which b st = go (dec_lt b 64) (get_or st.seen b false) refl
+which b st = go (dec_lt b 64) (ℕ_discrete (get_or st.seen b 0) 0)
   where
-    go : Dec (b < 64) → (m : Bool) → get_or st.seen b false ≡ m → Visit b st
-    go (no h) m e = out (omega arith)
-    go (yes h) true e = seen h e
-    go (yes h) false e = new h e
+    go : Dec (b < 64) → Dec (get_or st.seen b 0 ≡ 0) → Visit b st
+    go (no h) d = out (omega arith)
+    go (yes h) (yes e) = new h e
+    go (yes h) (no e) = seen h e
 
 -- a visit keeps the room, and what is left to do does not grow
 pub record Kept (st u : State) : Type 0 where
@@ -114,7 +123,7 @@ visited-kept b {st} w = go (which b st)
     go (out h) = subst (Kept st) (visited_out b st h) (kept_self w)
     go (seen h m) = subst (Kept st) (visited-seen b st h m) (kept_self w)
     go (new h e) =
-        let z = push_less w h e in
+        let z = push_zeros w h e in
         subst (Kept st) (visited-new b st h e)
         (record { roomy = push_roomy w h e; less = omega arith; marks = λ x m. mark-kept st.seen b x (omega (arith, w.marks)) m })
 
@@ -166,15 +175,15 @@ module _ (E : ℕ → ℕ → Type 0) (A : ℕ → Type 0) where
     pub pushed : (i : ℕ) → i < st.depth → Marked st.seen (get_or st.stack i 0)
     pub pending : (x : ℕ) → Marked st.seen x → X x ⊎ (OnStack st x ⊎ Closed st x)
 
-  pub walk_none : Walk (λ x. ⊥) (state (replicate 64 false) (replicate 64 0) 0)
-  walk_none = record { sound = λ x m. absurd (true≢false (sym m ∙ no_mark 64 x)); pushed = λ i l. absurd (not-suc-le-zero l); pending = λ x m. absurd (true≢false (sym m ∙ no_mark 64 x)) }
+  pub walk_none : Walk (λ x. ⊥) (state (replicate 64 0) (replicate 64 0) 0)
+  walk_none = record { sound = λ x m. absurd (m (no_mark 64 x)); pushed = λ i l. absurd (not-suc-le-zero l); pending = λ x m. absurd (m (no_mark 64 x)) }
 
-  walk_push : {X : ℕ → Type 0} {b : ℕ} {st : State} → Roomy st → Walk X st → A b → b < 64 → get_or st.seen b false ≡ false → Walk X (pushed b st)
+  walk_push : {X : ℕ → Type 0} {b : ℕ} {st : State} → Roomy st → Walk X st → A b → b < 64 → get_or st.seen b 0 ≡ 0 → Walk X (pushed b st)
   walk_push {X} {b} {st} room w a l e =
       record {
-        sound = λ x m. elim (ℕ_discrete x b) [ yes q ↦ rw q a | no n ↦ w.sound x (mark-old st.seen b x n m) ];
+        sound = λ x m. elim (ℕ_discrete x b) [ yes q ↦ rw q a | no n ↦ w.sound x (mark-old st.seen b 1 x n m) ];
         pushed = λ i h. pushed' i h (ℕ_discrete i st.depth);
-        pending = λ x m. elim (ℕ_discrete x b) [ yes q ↦ inr (inl (st.depth, omega arith, top ∙ sym q)) | no n ↦ old x (w.pending x (mark-old st.seen b x n m)) ];
+        pending = λ x m. elim (ℕ_discrete x b) [ yes q ↦ inr (inl (st.depth, omega arith, top ∙ sym q)) | no n ↦ old x (w.pending x (mark-old st.seen b 1 x n m)) ];
       }
     where
       hl : b < length st.seen
@@ -186,7 +195,7 @@ module _ (E : ℕ → ℕ → Type 0) (A : ℕ → Type 0) where
       under : (i : ℕ) → i < st.depth → get_or (set st.stack st.depth b) i 0 ≡ get_or st.stack i 0
       under i h = get_or-set_other st.stack st.depth i b 0 (λ q. omega arith)
 
-      pushed' : (i : ℕ) → i < st.depth + 1 → Dec (i ≡ st.depth) → Marked (set st.seen b true) (get_or (set st.stack st.depth b) i 0)
+      pushed' : (i : ℕ) → i < st.depth + 1 → Dec (i ≡ st.depth) → Marked (set st.seen b 1) (get_or (set st.stack st.depth b) i 0)
       pushed' i h (yes q) = rw (q, top) (mark-new st.seen b hl)
       pushed' i h (no n) = let k : i < st.depth = omega arith in rw (under i k) (mark-kept st.seen b (get_or st.stack i 0) hl (w.pushed i k))
 
@@ -268,8 +277,8 @@ module _ (E : ℕ → ℕ → Type 0) (A : ℕ → Type 0) where
       go (inr (inl a)) = absurd (omega (arith, a.1))
       go (inr (inr a)) = a y e
 
-pub roomy_none : Roomy (state (replicate 64 false) (replicate 64 0) 0)
-roomy_none = record { marks = length-replicate {A = Bool} 64 false; places = length-replicate {A = ℕ} 64 0; room = rw unmarked-all (omega arith); small = λ i l. absurd (not-suc-le-zero l) }
+pub roomy_none : Roomy (state (replicate 64 0) (replicate 64 0) 0)
+roomy_none = record { marks = length-replicate {A = ℕ} 64 0; places = length-replicate {A = ℕ} 64 0; room = rw zeros-replicate (omega arith); small = λ i l. absurd (not-suc-le-zero l); bits = λ x. rw (no_mark 64 x) (omega arith) }
 
 pub roomy_pop : {st : State} → Roomy st → Roomy (state st.seen st.stack (st.depth - 1))
-roomy_pop w = record { marks = w.marks; places = w.places; room = omega (arith, w.room); small = λ i l. w.small i (omega arith) }
+roomy_pop w = record { marks = w.marks; places = w.places; room = omega (arith, w.room); small = λ i l. w.small i (omega arith); bits = w.bits }

@@ -1,17 +1,18 @@
 -- The search of a job's blocks: its marks are the walked blocks. Assumes nothing.
 use mathlib.Core.Path.{◌≡◌, sym, ap, subst, ◌∙◌}
 use mathlib.Core.Logic.{◌⊎◌, inl, inr}
-use mathlib.Core.Bool.{Bool, false, ◌&&◌}
+use mathlib.Core.Bool.{Bool, ◌&&◌}
 use mathlib.Core.List.{List}
 use Prim.Native.Nat.{ℕ, ◌-◌, ◌<◌}
 use native.Mathlib.Omega.{arith}
 use lib.ListN.{length, get_or, replicate}
 use lib.Dec.{T, eqb, eqb→eq, eqb_refl, ltb, ltb→lt}
+use borrow.Author.Tests.{eq-eqb, ne_eqb}
 use Rattle.nll_spec.specs.Lists.{any, contains, below}
 use Rattle.nll_spec.specs.Syntax.{Job, BlockIndex}
 use Rattle.nll_spec.specs.Fixpoint.{Table, holds}
 use Rattle.nll_spec.specs.Graph.{block_successors, walked_rule, walked_table}
-use Rattle.nll_spec.proofs.Tests.{is_true, or_left, or_right, or_cases, and_intro, and_left, and_right, contains-below, length-count_from, any_of, any_found}
+use Rattle.nll_spec.proofs.Tests.{or_left, or_right, or_cases, and_intro, and_left, and_right, contains-below, length-count_from, any_of, any_found}
 use Rattle.nll_spec.proofs.Least.{Inside, held-inside, sized-least, least_ind, same_bool}
 use Rattle.nll_spec.proofs.GraphLaws.{block_at, no_block, walked_block, successor_named}
 use Rattle.record.specs.declared.Head.{Head}
@@ -59,7 +60,7 @@ module _ (j : Job) where
       (any_of (follows c) (below (length j.blocks)) b (contains-below (length j.blocks) b (walked-inside b w)) (and_intro (holds (walked_table j) 0 b) (contains (block_successors j b) c) w h)))
 
   -- marks that have the start and are closed have every walked block
-  walked-marked : (seen : List Bool) → Marked seen j.start → ((b c : ℕ) → Marked seen b → After b c → Marked seen c) → (row b : ℕ) → T (holds (walked_table j) row b) → Marked seen b
+  walked-marked : (seen : List ℕ) → Marked seen j.start → ((b c : ℕ) → Marked seen b → After b c → Marked seen c) → (row b : ℕ) → T (holds (walked_table j) row b) → Marked seen b
   unfolding walked_table
   walked-marked seen first closed = least_ind (walked_rule j) (λ row b. Marked seen b) 1 (below (length j.blocks)) keeps
     where
@@ -90,7 +91,7 @@ pub record Searching (s : List ℕ) (t : Offsets) (start : ℕ) (st : State) : T
 
 -- nothing is marked
 abbrev pub nothing : State
-nothing = state (replicate 64 false) (replicate 64 0) 0
+nothing = state (replicate 64 0) (replicate 64 0) 0
 
 searching_start : (s : List ℕ) (t : Offsets) (start : ℕ) → Searching s t start (visited start nothing)
 searching_start s t start =
@@ -146,11 +147,17 @@ module _ {s : List ℕ} {t : Offsets} {start : ℕ} {st : State} (room : Roomy s
 
 -- ---- The marks
 
+marked_true : (seen : List ℕ) (b : ℕ) → Marked seen b → T (is_marked seen b)
+marked_true seen b m = rw (ne_eqb (get_or seen b 0) 0 m) tt
+
+true_marked : (seen : List ℕ) (b : ℕ) → T (is_marked seen b) → Marked seen b
+true_marked seen b h e = rw (eq-eqb (get_or seen b 0) 0 e) at h
+
 searching_all : {s : List ℕ} {t : Offsets} {start : ℕ} {st : State} → Searching s t start st → st.depth ≡ 0 → (h : Head) (j : Job) → Starts s t start h j → (b : ℕ) → is_marked st.seen b ≡ holds (walked_table j) 0 b
 searching_all {s} {t} {start} {st} w z h j g b =
     same_bool (is_marked st.seen b) (holds (walked_table j) 0 b)
-    (λ m. (w.walk h j g).sound b (is_true _ m))
-    (λ m. rw (walked-marked j st.seen (subst (Marked st.seen) (sym g.is) (w.first h j g)) (walk-closed (After j) (IsWalked j) (w.walk h j g) z) 0 b m) tt)
+    (λ m. (w.walk h j g).sound b (true_marked st.seen b m))
+    (λ m. marked_true st.seen b (walked-marked j st.seen (subst (Marked st.seen) (sym g.is) (w.first h j g)) (walk-closed (After j) (IsWalked j) (w.walk h j g) z) 0 b m))
 
 -- ---- The loop
 
@@ -177,5 +184,6 @@ pub turned_all : {s : List ℕ} {t : Offsets} {from st u : State} {start : ℕ} 
 turned_all {s} {t} {from} {st} {start = start} w k e =
     rw k.1 record {
       size = w.roomy.marks;
+      bits = w.roomy.bits;
       marks = λ h j g i n. record { same = searching_all (w.on start (subst (Searching s t start) (sym e) (searching_start s t start))) k.0 h j (record { given = g; is = i; named = n }) };
     }

@@ -20,7 +20,7 @@ fn visit(search: &mut Search<64>, b: u8)
     if 64 <= at {
         return;
     }
-    if search.seen[at] {
+    if search.seen[at] != 0 {
         return;
     }
     search.push(u16::from(b));
@@ -37,7 +37,7 @@ fn visit_next(search: &mut Search<64>, successors: &[u8])
 }
 
 // The walked blocks, as marks, of a job that starts at this block.
-pub fn blocks(input: &Record<'_>, start: BasicBlockIndex) -> [bool; 64]
+pub fn blocks(input: &Record<'_>, start: BasicBlockIndex) -> [u8; 64]
     ensures { WalkedBlocks input.now.bytes.now input.now.layout.now start.0 result }
 {
     let mut search = Search::<64>::new();
@@ -62,7 +62,7 @@ fn run(words: &mut [u32; 32], p: usize, n: usize)
 // Puts the points of block b, the first of which is p, into the set if the block is marked. Returns the next block's first point.
 fn block_points(
     input: &Record<'_>,
-    seen: &[bool; 64],
+    seen: &[u8; 64],
     b: u8,
     p: usize,
     words: &mut [u32; 32],
@@ -80,7 +80,7 @@ fn block_points(
         return p;
     }
     let at = usize::from(b);
-    if !seen[at] {
+    if seen[at] == 0 {
         return next;
     }
     run(words, p, n);

@@ -1,14 +1,17 @@
 -- `dfs::Walk::search`. The loop's invariant: `Going`. The measure is `work`. Assumes nothing.
-use mathlib.Core.Path.{ap, ◌∙◌}
-use Rattle.graph.specs.Search.{pushed}
-use Rattle.graph.specs.Search.{state_of}
+use mathlib.Core.Path.{◌∙◌}
+use native.Mathlib.Omega.{arith}
+use lib.ListN.{replicate}
+use Rattle.graph.specs.Search.{state, state_of}
+use Rattle.graph.proofs.SearchLaws.{within_pushed}
 use Rattle.dfs.specs.Walk.{in_code}
 use Rattle.dfs.proofs.SearchLaws.{going_start, popped_small, turn_popped, finish, code-small}
 use Rattle.dfs.proofs.Walk.search.Goals as goal
 
 pub loop-q-init : goal.loop-q-init
 loop-q-init c = let w = c.args.self.now in
-    rw (c.push.ensures ∙ ap (pushed _) c.new-search.ensures) (going_start w.chain.now w.graph.now.first w.graph.now.succ (in_code w.words.now w.from w.code) c.args.p (code-small w.words.now w.from w.code c.requires.0) c.requires.1)
+    let small = code-small w.words.now w.from w.code c.requires.0 in
+    rw (c.push.ensures ∙ within_pushed 1024 c.args.p (state (replicate 1024 0) (replicate 1024 0) 0) (small c.args.p c.requires.1) (omega arith)) (going_start w.chain.now w.graph.now.first w.graph.now.succ (in_code w.words.now w.from w.code) c.args.p small c.requires.1)
 
 pub follow-end-requires : goal.follow-end-requires
 follow-end-requires c = let w = c.args.self.now in

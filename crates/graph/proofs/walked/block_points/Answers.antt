@@ -9,8 +9,8 @@ returns-then-b-ge64 c = points_none _ _ _ _ _ (search rules) c.requires c.if-b-g
 pub returns-then-next-gt1024 : goal.returns-then-next-gt1024
 returns-then-next-gt1024 c = points-over _ _ _ _ _ (search rules) c.shape-d.ensures c.requires c.if-next-gt1024.true
 
-pub returns-then-not-seen-at : goal.returns-then-not-seen-at
-returns-then-not-seen-at c = points_unmarked _ _ _ _ _ (search rules) c.shape-d.ensures c.if-next-gt1024.false c.from-at.ensures c.if-not-seen-at.true
+pub returns-then-seen-at-eq0 : goal.returns-then-seen-at-eq0
+returns-then-seen-at-eq0 c = points_unmarked _ _ _ _ _ (search rules) c.shape-d.ensures c.if-next-gt1024.false c.from-at.ensures c.if-seen-at-eq0.true
 
 pub returns : goal.returns
-returns c = points-marked _ _ _ _ _ (search rules) c.shape-d.ensures c.if-next-gt1024.false c.from-at.ensures c.if-not-seen-at.false c.run.ensures
+returns c = points-marked _ _ _ _ _ (search rules) c.shape-d.ensures c.if-next-gt1024.false c.from-at.ensures c.if-seen-at-eq0.false c.run.ensures
