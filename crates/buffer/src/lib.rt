@@ -1,12 +1,12 @@
 #![tactic(auto)]
 // The first bytes of an array, and room for more.
-ghost use Rattle.std.specs.Prelude.{◌≡◌, ◌∷◌, [], ◌+◌, ◌≤◌, ◌<◌, ◌↔◌, List, ℕ, length, take, IsTrue};
-ghost use Rattle.buffer.specs.Appending.{Appends};
+ghost use Rattle.std.specs.Prelude.{◌≡◌, ◌∷◌, [], ◌+◌, ◌≤◌, ◌↔◌, length, IsTrue};
+ghost use Rattle.buffer.specs.Appending.{Puts};
 
 use std::marker::Model;
 
 // At most N bytes.
-#[derive(Drop)]
+#[derive(Clone, Copy)]
 pub struct Buffer<const N: usize> {
     bytes: [u8; N],
     len: usize,
@@ -14,11 +14,22 @@ pub struct Buffer<const N: usize> {
 
 // Clauses see the bytes that were put.
 impl<const N: usize> Model for Buffer<N> {
+    ghost use Rattle.std.specs.Prelude.{◌≡◌, ◌++◌, ◌-◌, ◌≤◌, List, ℕ, length, take, drop, replicate};
+    ghost use Rattle.std.proofs.Common.{length-take-le};
+    ghost use Rattle.buffer.specs.Room.{whole};
+
     ghost Value = { List ℕ };
 
     ghost view = { λ b. take b.len b.bytes };
 
-    ghost invariant = { λ b. b.len ≤ N };
+    ghost inverse = { λ s. record { bytes = s ++ replicate (N - length s) 0; len = length s } };
+
+    ghost inverse_ok = { λ b h i. record {
+      bytes = whole N b.len b.bytes h.0 h.1 i;
+      len = length-take-le b.len b.bytes h.0 i;
+    } };
+
+    ghost invariant = { λ b. (b.len ≤ length b.bytes) × (drop b.len b.bytes ≡ replicate (N - b.len) 0) };
 }
 
 impl<const N: usize> Buffer<N> {
@@ -55,23 +66,28 @@ impl<const N: usize> Buffer<N> {
     pub fn clear(&mut self)
         ensures { self.new ≡ [] }
     {
+        self.bytes[..self.len].fill(0);
         self.len = 0;
     }
 
-    // Puts a byte after the others.
+    // Puts a byte after the others, where there is room for it.
     pub fn push(&mut self, byte: u8)
-        requires { length self.old < N }
-        ensures { Appends (byte ∷ []) self.old self.new }
+        ensures { Puts N (byte ∷ []) self.old self.new }
     {
+        if self.is_full() {
+            return;
+        }
         self.bytes[self.len] = byte;
         self.len += 1;
     }
 
-    // Puts the bytes of src after the others.
+    // Puts the bytes of src after the others, where there is room for them.
     pub fn put(&mut self, src: &[u8])
-        requires { length self.old + length src.now ≤ N }
-        ensures { Appends src.now self.old self.new }
+        ensures { Puts N src.now self.old self.new }
     {
+        if src.len() > self.room() {
+            return;
+        }
         let end = self.len + src.len();
         let all = &mut self.bytes[..];
         all[self.len..end].copy_from_slice(src);

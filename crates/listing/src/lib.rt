@@ -5,7 +5,7 @@ mod reader;
 mod writer;
 
 pub use places::{Answer, count};
-pub use reader::Hex;
+pub use reader::{Hex, ROOM};
 pub use writer::{Text, refused};
 
 // How many points, regions and declared regions an answer has.

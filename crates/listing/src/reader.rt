@@ -17,7 +17,7 @@ pub enum Digits {
 }
 
 // A text that was read so far: its digits, and the first bytes of its record.
-#[derive(Drop)]
+#[derive(Clone, Copy)]
 pub struct Hex {
     digits: Digits,
     kept: Buffer<ROOM>,

@@ -13,7 +13,7 @@ use std::io;
 use std::io::{Read, Write};
 
 // What the analysis begins to say: a text, and the place that follows it, if any.
-#[derive(Drop)]
+#[derive(Clone, Copy)]
 pub struct Begun {
     pub text: Text,
     pub counts: Counts,

@@ -9,8 +9,13 @@ use Rattle.listing.proofs.writer.+number.Goals.{then-n-ge10, else-n-ge10}
 pub number-requires : goal.number-requires
 number-requires t c = (omega (arith, c.decreases), omega (arith, c.requires, decimal_longer c.args.n c.if-n-ge10.true))
 
-pub push-requires : goal.push-requires
-push-requires t c = elim c.if-n-ge10.branch [ then-n-ge10 w ↦ omega (arith, c.requires, decimal_longer c.args.n w.if-n-ge10.true, ap length w.text-is) | else-n-ge10 w ↦ omega (arith, c.requires, ap length (decimal_last c.args.n w.if-n-ge10.false), ap length w.text-is) ]
-
 pub returns : goal.returns
-returns t c = elim c.if-n-ge10.branch [ then-n-ge10 w ↦ number_more c.args.n w.if-n-ge10.true refl w.number.ensures (rw w.text-is at c.push.ensures) | else-n-ge10 w ↦ number_last c.args.n w.if-n-ge10.false refl (rw w.text-is at c.push.ensures) ]
+returns t c =
+    elim c.if-n-ge10.branch [
+      | then-n-ge10 w ↦
+          let put = c.push.ensures.fits (omega (arith, c.requires, decimal_longer c.args.n w.if-n-ge10.true, ap length w.text-is)) in
+          number_more c.args.n w.if-n-ge10.true refl w.number.ensures (rw w.text-is at put)
+      | else-n-ge10 w ↦
+          let put = c.push.ensures.fits (omega (arith, c.requires, ap length (decimal_last c.args.n w.if-n-ge10.false), ap length w.text-is)) in
+          number_last c.args.n w.if-n-ge10.false refl (rw w.text-is at put)
+    ]

@@ -11,4 +11,4 @@ returns-then-r-self c = region_over c.args.self.now c.args.r c.if-r-self.true
 pub returns : goal.returns
 unfolding ascii
 returns c =
-    region_line c.args.self.now c.args.r c.if-r-self.false (omega arith) (omega arith) (rw c.from.ensures at (appends_then c.put.ensures c.spaced.ensures))
+    region_line c.args.self.now c.args.r c.if-r-self.false (omega arith) (omega arith) (rw c.from.ensures at (appends_then (c.put.ensures.fits (omega arith)) c.spaced.ensures))

@@ -5,7 +5,7 @@ use Rattle.listing.proofs.places.Answer.within.Goals as goal
 use Rattle.listing.proofs.places.Answer.within.Goals.{then-in_set, else-in_set}
 
 pub returns-then-p-self : goal.returns-then-p-self
-returns-then-p-self c = within_over c.args.self.now c.args.r c.args.p c.if-p-self.true c.push.ensures c.after_region.ensures
+returns-then-p-self c = within_over c.args.self.now c.args.r c.args.p c.if-p-self.true (c.push.ensures.fits (omega arith)) c.after_region.ensures
 
 pub returns : goal.returns
 returns c =
