@@ -16,8 +16,8 @@ use Rattle.nll_spec.specs.Syntax.{Point, RegionName}
 use Rattle.nll_spec.specs.Graph.{Graph}
 use Rattle.nll_spec.specs.Constraints.{Outlives}
 use Rattle.nll_spec.specs.Regions.{no_constraint}
-use Rattle.nll_spec.specs.Output.{word_bits}
-use Rattle.nll_spec.specs.Meaning.{Sets, Walk, begin, go_on, LeastSolution}
+use Rattle.nll_spec.specs.Output.{word_bits, word_count}
+use Rattle.nll_spec.specs.Meaning.{Sets, Walk, begin, go_on, LeastSolution, sets_in}
 use Rattle.nll_spec.proofs.Tests.{and_intro, and_left, and_right, is_true}
 use Rattle.nll_spec.proofs.Members.{member_place, member_left, member_right, member_append}
 use Rattle.nll_spec.proofs.MonotoneLaws.{looser_same}
@@ -26,9 +26,9 @@ use Rattle.bit_set.proofs.BitLaws.{words_ext, has-zeros}
 use Rattle.bit_slice.specs.Some.{SomeSet}
 use Rattle.graph.proofs.SearchLaws.{no_mark}
 use Rattle.bit_set.specs.Missing.{missing}
-use Rattle.infer.specs.Ran.{Setting, bit_at, sets_of, Words, Met, Ready, AllReady, Marked, Ran, Rounds, Quiet, Given, AllNamed, any_marked}
+use Rattle.infer.specs.Ran.{Setting, bit_at, sets_at, sets_of, Words, Met, Ready, AllReady, Marked, Ran, Rounds, Quiet, Given, AllNamed, any_marked}
 use Rattle.infer.specs.declared.Setup.{Setup}
-use Rattle.bit_set.proofs.MissingLaws.{missing_lt}
+use Rattle.bit_set.proofs.MissingLaws.{missing_le, missing_lt}
 
 -- ---- Bits and sets
 
@@ -54,6 +54,10 @@ module _ (s : Setting) where
   -- the sets of words that keep every bit
   pub sets-kept : (ws ws' : List ℕ) → ((j : ℕ) → has ws j ≡ true → has ws' j ≡ true) → (r : RegionName) (q : Point) → T (sets_of s ws r q) → T (sets_of s ws' r q)
   sets-kept ws ws' kept r q h = has-sets ws' r q (sets_below ws r q h) (kept (bit_at s.width r q) (sets-has ws r q h))
+
+  -- the sets as `nll_spec` has them
+  pub sets_in_lem : (ws : List ℕ) → s.width ≡ word_count s.graph.points → sets_of s ws ≡ sets_in s.graph.points ws
+  sets_in_lem ws e = ap (λ (w : ℕ). sets_at w s.graph.points ws) e
 
 pub walk_mono : {g : Graph} (f f' : Point → Bool) {p q : Point} → ((x : Point) → T (f x) → T (f' x)) → Walk g f p q → Walk g f' p q
 walk_mono f f' {p} h (begin t) = begin (h p t)
@@ -216,6 +220,10 @@ module _ (s : Setting) where
   pub ran-less : {last ws grew ws' grew' : List ℕ} {cs : List Outlives} → Ran s last cs ws grew ws' grew' → (r : RegionName) → has grew r ≡ false → Marked grew' r → missing ws' < missing ws
   ran-less {last} {ws} {grew} {ws'} {grew'} ran r blank m =
       ⊎_elim (λ k. absurd (true≢false (sym k ∙ blank))) (λ k. missing_lt ws ws' ran.as_long ran.kept (bit_at s.width r k.0) k.2 k.3) (ran.earned r m)
+
+  -- what is run adds, and takes nothing away
+  pub ran_le : {last ws grew ws' grew' : List ℕ} {cs : List Outlives} → Ran s last cs ws grew ws' grew' → missing ws' ≤ missing ws
+  ran_le {last} {ws} {grew} {ws'} ran = missing_le ws ws' ran.as_long ran.kept
 
 -- ---- The test for marks
 
