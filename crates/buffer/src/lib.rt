@@ -12,7 +12,7 @@ pub struct Buffer<const N: usize> {
     len: usize,
 }
 
-// Clauses see the bytes that were put.
+// Clauses see the bytes that were put. The room after them is zeros, so that they give the fields back.
 impl<const N: usize> Model for Buffer<N> {
     ghost use Rattle.std.specs.Prelude.{◌≡◌, ◌++◌, ◌-◌, ◌≤◌, List, ℕ, length, take, drop, replicate};
     ghost use Rattle.std.proofs.Common.{length-take-le};
