@@ -8,7 +8,7 @@ ghost use Rattle.constraints.specs.Constraining.{constraints_of, source_constrai
 
 use env::Step;
 use env::paths::{Found, PathType, path_type};
-use env::prefixes::{shortest, steps_of};
+use env::prefixes::{kinds, shortest, steps_of};
 use record::Record;
 use relate::{Relation, require_outlives};
 use repr::{Action, Cursor, Path, Region, RegionName, Variance};
@@ -90,7 +90,7 @@ impl<'a> Pair<'a> {
             return None;
         };
         let steps = steps_of(self.input.bytes, self.q);
-        let of = shortest(taken, steps);
+        let of = shortest(&kinds(taken), steps);
         Some(Source {
             region,
             supporting: usize::from(of.supporting),

@@ -5,13 +5,13 @@ ghost use Rattle.nll_spec.specs.Types.{is_prefix, is_supporting, is_frozen};
 ghost use Rattle.nll_spec.specs.WellFormed.{path_fits};
 ghost use Rattle.repr.specs.Reading.{path_of};
 ghost use Rattle.record.specs.Layout.{Holds};
-ghost use Rattle.env.specs.Steps.{kind_in, kinds_of};
+ghost use Rattle.env.specs.Steps.{kinds_of};
 ghost use Rattle.env.specs.Prefixes.{later_of, ShortestIn, ShortestOf};
 
 use super::paths::path_type;
 use super::{Shortest, Step};
 use record::Record;
-use repr::{BorrowKind, Path};
+use repr::Path;
 
 // The steps of a path, as far as there are any.
 pub(super) fn steps(s: &[u8], p: Path) -> &[u8]
@@ -36,34 +36,40 @@ pub fn steps_of(s: &[u8], p: Path) -> u8
     steps(s, p).len() as u8
 }
 
-// The shortest prefixes with one step more, the i-th.
-fn later(r: Shortest, step: Step, i: u8) -> Shortest
-    ensures { result ≡ later_of r (kind_in step) i }
+// The kinds of the types that the steps leave, by number.
+pub fn kinds(taken: &[Step; 8]) -> [u8; 8]
+    ensures { result ≡ kinds_of taken.now }
 {
-    let Step::Ref { kind, .. } = step else {
-        return r;
-    };
-    let supporting = if kind == BorrowKind::Shared {
-        i
-    } else {
-        r.supporting
-    };
-    Shortest {
-        supporting,
-        frozen: i,
+    taken.map(|step| step.kind())
+}
+
+// The shortest prefixes with one step more, the i-th, which leaves a type of this kind.
+fn later(r: Shortest, kind: u8, i: u8) -> Shortest
+    ensures { result ≡ later_of r kind i }
+{
+    match kind {
+        0 => r,
+        2 => Shortest {
+            supporting: i,
+            frozen: i,
+        },
+        _ => Shortest {
+            supporting: r.supporting,
+            frozen: i,
+        },
     }
 }
 
-// The shortest prefixes of a path of so many steps, by the types that they leave.
-pub fn shortest(taken: &[Step; 8], steps: u8) -> Shortest
-    ensures { ShortestIn (kinds_of taken.now) steps result }
+// The shortest prefixes of a path of so many steps, by the kinds of the types that they leave.
+pub fn shortest(kinds: &[u8; 8], steps: u8) -> Shortest
+    ensures { ShortestIn kinds.now steps result }
 {
     let mut r = Shortest {
         supporting: 0,
         frozen: 0,
     };
     for i in 0..steps.min(8) {
-        r = later(r, taken[usize::from(i)], i + 1);
+        r = later(r, kinds[usize::from(i)], i + 1);
     }
     r
 }
@@ -96,5 +102,5 @@ pub fn shortest_of(input: &Record<'_>, p: Path) -> Shortest
     let mut spare = [0; 512];
     let mut taken = [Step::Owned; 8];
     path_type(input, p, &mut out, &mut spare, &mut taken);
-    shortest(&taken, steps_of(input.bytes, p))
+    shortest(&kinds(&taken), steps_of(input.bytes, p))
 }
