@@ -97,10 +97,10 @@ module _ {s : List ℕ} {n good at i : ℕ} (w : Counting s n good at i) where
         }
 
     -- an entry that does not end within the bytes
-    pub count_cut : length s < e.end → Replayed s None
+    pub count_cut : length s < e.end → Replayed s (record { entries = n; agree = None })
     count_cut k =
         let later : start_of s (i + 1) ≤ start_of s n = le_of_eq_right (start-grows s (i + 1) (n - (i + 1))) (omega arith) in
-        λ q. omega (arith, later, end_is, ap (start_of s) w.all)
+        record { entries = w.all; agree = λ q. omega (arith, later, end_is, ap (start_of s) w.all) }
       where
         le_of_eq_right : {m : ℕ} → start_of s (i + 1) ≤ start_of s m → m ≡ n → start_of s (i + 1) ≤ start_of s n
         le_of_eq_right q z = subst (λ (x : ℕ). start_of s (i + 1) ≤ start_of s x) z q
@@ -109,8 +109,8 @@ module _ {s : List ℕ} {n good at i : ℕ} (w : Counting s n good at i) where
     last : at ≡ start_of s (two s 0)
     last = let e : i ≡ two s 0 = omega (arith, w.low, w.all) in w.start ∙ ap (start_of s) e
 
-    pub count_over : (at ≡ length s → ⊥) → Replayed s None
-    count_over other = λ q. other (last ∙ q)
+    pub count_over : (at ≡ length s → ⊥) → Replayed s (record { entries = n; agree = None })
+    count_over other = record { entries = w.all; agree = λ q. other (last ∙ q) }
 
-    pub count_all : at ≡ length s → Replayed s (Some (record { entries = n; agree = good }))
-    count_all is = let e : i ≡ two s 0 = omega (arith, w.low, w.all) in (sym last ∙ is, w.all, w.agree ∙ ap (agreeing s) e)
+    pub count_all : at ≡ length s → Replayed s (record { entries = n; agree = Some good })
+    count_all is = let e : i ≡ two s 0 = omega (arith, w.low, w.all) in record { entries = w.all; agree = (sym last ∙ is, w.agree ∙ ap (agreeing s) e) }

@@ -81,7 +81,12 @@ agreeing s (suc n) = agreeing s n + bit (agrees s (entry_at s (start_of s n)))
 abbrev pub IsWhole : List ℕ → Type 0
 IsWhole s = start_of s (two s 0) ≡ length s
 
--- The count of a whole file; of any other file there is none.
-abbrev pub Replayed : List ℕ → Option Count → Type 0
-Replayed s None = IsWhole s → ⊥
-Replayed s (Some c) = IsWhole s × (c.entries ≡ two s 0) × (c.agree ≡ agreeing s (two s 0))
+-- how many entries of a whole file agree; of any other file there is no such number
+abbrev pub AgreeIn : List ℕ → Option ℕ → Type 0
+AgreeIn s None = IsWhole s → ⊥
+AgreeIn s (Some n) = IsWhole s × (n ≡ agreeing s (two s 0))
+
+-- The count of a file: how many entries it has to have, and how many of them agree.
+pub record Replayed (s : List ℕ) (c : Count) : Type 0 where
+  pub entries : c.entries ≡ two s 0
+  pub agree : AgreeIn s c.agree

@@ -15,10 +15,11 @@ use std::io::Stdout;
 use tally::{Count, replay};
 
 // Prints a file's name and how many of its entries agree, or that it is not a whole file: entries and nothing else.
-fn report(output: Stdout, name: &str, counted: Option<Count>) -> io::Result<()> {
-    let Some(Count { entries, agree }) = counted else {
+fn report(output: Stdout, name: &str, counted: Count) -> io::Result<()> {
+    let Some(agree) = counted.agree else {
         return println!(output; "{name}: not a whole file");
     };
+    let entries = counted.entries;
     println!(output; "{name} {agree} of {entries} agree")
 }
 

@@ -5,15 +5,15 @@ ghost use Rattle.replay.specs.File.{Replayed};
 use super::compare::agree;
 use super::file::{entry_at, two_at};
 
-// So many entries, of which so many agree.
+// How many entries a file says that it has, and how many of them agree, if it is those entries and nothing else.
 #[derive(Clone, Copy)]
 pub struct Count {
     pub entries: usize,
-    pub agree: usize,
+    pub agree: Option<usize>,
 }
 
-// Replays a file, if it is entries and nothing else.
-pub fn replay(s: &[u8]) -> Option<Count>
+// Replays a file.
+pub fn replay(s: &[u8]) -> Count
     requires { length s.now ≤ 1048576 }
     ensures { Replayed s.now result }
 {
@@ -23,16 +23,22 @@ pub fn replay(s: &[u8]) -> Option<Count>
     for _ in 0..entries {
         let e = entry_at(s, at);
         if e.end > s.len() {
-            return None;
+            return Count {
+                entries,
+                agree: None,
+            };
         }
         good += usize::from(agree(s, e));
         at = e.end;
     }
     if at != s.len() {
-        return None;
+        return Count {
+            entries,
+            agree: None,
+        };
     }
-    Some(Count {
+    Count {
         entries,
-        agree: good,
-    })
+        agree: Some(good),
+    }
 }
