@@ -6,7 +6,8 @@ use mathlib.Core.List.{List, [], ◌∷◌}
 use Prim.Native.Nat.{ℕ, zero, suc, ◌+◌, ◌-◌, ◌*◌, ◌/◌, ◌%◌, ◌^◌, ◌≤◌, ◌<◌}
 use native.Mathlib.Omega.{arith}
 use native.Mathlib.Decide.{ℕ_discrete, dec_lt}
-use lib.ListN.{length, get_or, set}
+use lib.ListN.{length, get_or, set, take, drop}
+use Rattle.std.proofs.lemmas.List.{get_or-take, get_or-drop, get_or-set_other}
 use lib.Dec.{eqb}
 use lib.Bits.{bit_and, bit_or, and_zero_l, and_shr, and_mod, and_le_l}
 use Rattle.nll_spec.specs.Output.{word_bits}
@@ -203,6 +204,20 @@ ran_as {E} {F} {pass} {ws} a e f =
     }
 
 -- ---- The loops
+
+-- one of four words
+pub word_at : (ws : List ℕ) {four : List ℕ} (p : ℕ) → four ≡ take 4 (drop (4 * p) ws) → (i : ℕ) → i < 4 → get_or four i 0 ≡ get_or ws (4 * p + i) 0
+word_at ws p e i l = rw e (get_or-take 4 (drop (4 * p) ws) i 0 l ∙ get_or-drop (4 * p) ws i 0)
+
+-- From number k on, the four words of point p are as they were read.
+pub record Unchanged (ws four : List ℕ) (p k : ℕ) : Type 0 where
+  pub same : (i : ℕ) → k ≤ i → i < 4 → get_or four i 0 ≡ get_or ws (4 * p + i) 0
+
+pub unchanged_yet : (ws : List ℕ) {four : List ℕ} (p : ℕ) → four ≡ take 4 (drop (4 * p) ws) → Unchanged ws four p 0
+unchanged_yet ws p e = record { same = λ i h l. word_at ws p e i l }
+
+pub unchanged_more : {ws four : List ℕ} (p q k x : ℕ) → k < 4 → Unchanged ws four p k → Unchanged (set ws (4 * q + k) x) four p (k + 1)
+unchanged_more {ws} p q k x l u = record { same = λ i h m. u.same i (omega arith) m ∙ sym (get_or-set_other ws (4 * q + k) (4 * p + i) x 0 (λ e. omega arith)) }
 
 -- the first k of the four words
 module _ (pass ws : List ℕ) (p q : ℕ) (size : 4 * q + 4 ≤ length ws) where

@@ -1,6 +1,6 @@
 #![tactic(auto)]
 // Least sets of numbers along the edges of a graph, in four words a point: number b of point p is bit b of the words from 4 * p on.
-ghost use Rattle.std.specs.Prelude.{◌≡◌, ◌+◌, ◌*◌, ◌<◌, ◌≤◌, length};
+ghost use Rattle.std.specs.Prelude.{◌≡◌, ◌+◌, ◌*◌, ◌<◌, ◌≤◌, length, take, drop};
 ghost use Rattle.nll_spec.specs.Graph.{Graph};
 ghost use Rattle.graph.specs.Tables.{Edges};
 ghost use Rattle.flow.specs.Flows.{FlowSays};
@@ -15,6 +15,19 @@ pub enum Direction {
     Backward,
 }
 
+// The four words of point p.
+fn words(table: &[u32], p: usize) -> [u32; 4]
+    requires { 4 * p + 4 ≤ length table.now }
+    ensures { result ≡ take 4 (drop (4 * p) table.now) }
+{
+    [
+        table[4 * p],
+        table[4 * p + 1],
+        table[4 * p + 2],
+        table[4 * p + 3],
+    ]
+}
+
 // A word with the bits of another one that may pass.
 fn mixed(old: u32, from: u32, pass: u32) -> u32
     ensures { Mixed old from pass result }
@@ -27,10 +40,13 @@ fn edge(sets: &mut [u32], pass: &[u32], p: usize, q: usize) -> bool
     requires { (4 * p + 4 ≤ length sets.old) × (4 * q + 4 ≤ length sets.old) × (4 * q + 4 ≤ length pass.now) }
     ensures { Ran (Lanes 4 p q) pass.now sets.old sets.new result }
 {
+    // Read before any is written, so that the four words can go in one step.
+    let from = words(sets, p);
+    let passes = words(pass, q);
     let mut changed = false;
     for k in 0..4 {
         let old = sets[4 * q + k];
-        let new = mixed(old, sets[4 * p + k], pass[4 * q + k]);
+        let new = mixed(old, from[k], passes[k]);
         sets[4 * q + k] = new;
         changed = (old != new) | changed;
     }
