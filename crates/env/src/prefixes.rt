@@ -22,7 +22,8 @@ pub(super) fn steps(s: &[u8], p: Path) -> &[u8]
     &rest[..usize::from(p.steps).min(rest.len())]
 }
 
-// Whether q is a prefix of p.
+// Whether q is a prefix of p. In line, since the search asks it for each loan.
+#[inline(always)]
 pub fn is_prefix(s: &[u8], q: Path, p: Path) -> bool
     ensures { (j : Job) → result ≡ is_prefix j (path_of s.now q) (path_of s.now p) }
 {
