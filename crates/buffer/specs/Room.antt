@@ -1,4 +1,4 @@
--- The room after the bytes is zeros. Assumes nothing.
+-- The room after the bytes is zeros: what gives a buffer its fields back, which the `impl Model` of `Buffer` cites. Assumes nothing.
 use Rattle.std.proofs.Common.{◌≡◌, sym, ap, ◌∙◌, List, ◌++◌, ℕ, ◌-◌, ◌≤◌, length, take, drop, replicate, take-append-drop, length-take-le}
 
 -- the array is the bytes and as many zeros as it has room for more

@@ -187,11 +187,14 @@ module _ (E : ℕ → ℕ → Type 0) (h : ℕ → Bool) (p : ℕ) where
 
 -- ---- Visits of the points that follow one
 
+pub visited-new : (h : ℕ → Bool) (s : ℕ) (st : State) → get_or st.seen s 0 ≡ 0 → h s ≡ true → pushed s st ≡ visited h s st
+visited-new h s st e q = rw (eq-eqb (get_or st.seen s 0) 0 e, q)
+
 -- the stack has a place for a point without a mark
-pub visited-new : (h : ℕ → Bool) (s : ℕ) (st : State) → Roomy st.seen st.depth → s < 1024 → get_or st.seen s 0 ≡ 0 → h s ≡ true → pushed_within 1024 s st ≡ visited h s st
-visited-new h s st w l e q =
+pub visited_within : (h : ℕ → Bool) (s : ℕ) (st : State) → Roomy st.seen st.depth → s < 1024 → get_or st.seen s 0 ≡ 0 → h s ≡ true → pushed_within 1024 s st ≡ visited h s st
+visited_within h s st w l e q =
     let z = zeros-mark st.seen s (rw w.sized l) e in
-    within_pushed 1024 s st l (omega (arith, w.room)) ∙ rw (eq-eqb (get_or st.seen s 0) 0 e, q)
+    within_pushed 1024 s st l (omega (arith, w.room)) ∙ visited-new h s st e q
 
 -- no visit of a point below 1024 takes the room on the stack
 pub visited_roomy : (h : ℕ → Bool) (s : ℕ) (st : State) → (h s ≡ true → s < 1024) → Roomy st.seen st.depth → Roomy (visited h s st).seen (visited h s st).depth
