@@ -21,7 +21,7 @@ impl Step {
     ghost use Rattle.env.specs.Steps.{kind_in};
 
     // The kind of the type that it leaves, by number: 1 for a Mut Ref, 2 for a Shared one, 0 for another.
-    pub fn kind(self) -> u8
+    fn kind(self) -> u8
         ensures { result ≡ kind_in self }
     {
         match self {
