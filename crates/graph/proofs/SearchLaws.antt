@@ -30,8 +30,9 @@ unfolding zeros
 zeros-replicate zero = refl
 zeros-replicate (suc n) = ap suc (zeros-replicate n)
 
-pub no_mark : (n x : ℕ) → get_or {A = ℕ} (replicate n 0) x 0 ≡ 0
-no_mark n x = elim (dec_lt x n) [ yes l ↦ get_or-replicate n x 0 0 l | no k ↦ get_or-eq_default (replicate n 0) 0 (rw length-replicate (omega (arith, k))) ]
+-- where nothing was put, each entry is the default
+pub no_mark : {A : Type 0} {v : A} (n x : ℕ) → get_or (replicate n v) x v ≡ v
+no_mark {v = v} n x = elim (dec_lt x n) [ yes l ↦ get_or-replicate n x v v l | no k ↦ get_or-eq_default (replicate n v) v (rw length-replicate (omega (arith, k))) ]
 
 pub mark-kept : (l : List ℕ) (i x : ℕ) → i < length l → Marked l x → Marked (set l i 1) x
 mark-kept l i x hl m e = go (ℕ_discrete x i)
